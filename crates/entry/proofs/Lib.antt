@@ -1,0 +1,4 @@
+pub mod ChangeLaws
+pub mod SliceLaws
+pub mod RefusalLaws
+pub mod GuardLaws

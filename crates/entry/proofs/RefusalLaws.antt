@@ -1,0 +1,45 @@
+-- A refusal is known by its number and what it carries: two that agree in both are one.
+use Prim.Native.Nat.{ℕ}
+use mathlib.Core.Path.{_≡_, refl, sym, ap₂, _∙_}
+use lib.Dec.{eqb}
+use Rattle.words.specs.If.{if_then_else_}
+use Rattle.entry.specs.declared.Refusal.{Refusal}
+use Rattle.entry.specs.declared.Refusal.the-variants.{NoRoom, AboveDecided, BelowCompacted, Stopped, BelowDecided, AboveAccepted, OutsideRun, TooManyKeys, PastLastIndex, BatchHeld, Malformed, IllFormed}
+use Rattle.entry.specs.Refusals.{numberOf, carriedOf}
+use Rattle.entry.specs.Guards.{Answer, refused, refusedBy}
+
+refusalOf : ℕ → ℕ → Refusal
+refusalOf n k =
+    if eqb n 1 then NoRoom
+    else if eqb n 2 then AboveDecided (record { 0 = k })
+    else if eqb n 3 then BelowCompacted (record { 0 = k })
+    else if eqb n 4 then Stopped (record { 0 = k })
+    else if eqb n 5 then BelowDecided (record { 0 = k })
+    else if eqb n 6 then AboveAccepted (record { 0 = k })
+    else if eqb n 7 then OutsideRun (record { 0 = k })
+    else if eqb n 8 then TooManyKeys
+    else if eqb n 9 then PastLastIndex (record { 0 = k })
+    else if eqb n 10 then BatchHeld k
+    else if eqb n 11 then Malformed
+    else IllFormed
+
+refusal-of : (r : Refusal) → refusalOf (numberOf r) (carriedOf r) ≡ r
+unfolding refusalOf
+refusal-of NoRoom = refl
+refusal-of (AboveDecided i) = refl
+refusal-of (BelowCompacted i) = refl
+refusal-of (Stopped i) = refl
+refusal-of (BelowDecided i) = refl
+refusal-of (AboveAccepted i) = refl
+refusal-of (OutsideRun i) = refl
+refusal-of TooManyKeys = refl
+refusal-of (PastLastIndex i) = refl
+refusal-of (BatchHeld n) = refl
+refusal-of Malformed = refl
+refusal-of IllFormed = refl
+
+pub refusal-known : {A : Type 0} (r q : Refusal) → refusedBy {A = A} r ≡ refusedBy q → r ≡ q
+refusal-known r q e =
+    let n : numberOf r ≡ numberOf q = cc in
+    let k : carriedOf r ≡ carriedOf q = cc in
+    sym (refusal-of r) ∙ ap₂ refusalOf n k ∙ refusal-of q

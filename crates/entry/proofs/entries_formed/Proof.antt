@@ -1,0 +1,15 @@
+-- `entry::entries_formed` meets its contract: the two tests, joined.
+use Rattle.entry.specs.Change.{sliceFormed}
+use borrow.Author.Needs.{needs}
+use Rattle.entry.proofs.entries_formed.Statement.{statement}
+use Rattle.entry.proofs.entries_formed.Tie as tie
+
+places-formed-requires : tie.Need-places-formed-requires
+places-formed-requires c κs = search needs
+
+returns : tie.Need-returns
+unfolding sliceFormed
+returns c = cc
+
+pub entries-formed-spec : {M : Type 1} → statement M
+entries-formed-spec = tie.close (tie.spec places-formed-requires returns)

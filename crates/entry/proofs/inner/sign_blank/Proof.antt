@@ -1,0 +1,38 @@
+-- `entry::inner::sign_blank` meets its contract: each callee says its own test; the arrays' lengths are known by their types.
+use mathlib.Core.Path.{_≡_}
+use lib.ListN.{length}
+use borrow.Author.Tests.{eq-eqb}
+use Rattle.entry.specs.Sign.{blank, signBlank}
+use borrow.Author.Needs.{needs}
+use Rattle.entry.proofs.inner.sign_blank.Statement.{statement}
+use Rattle.entry.proofs.inner.sign_blank.Tie as tie
+
+slice-aggregate-zero-from : tie.Need-slice-aggregate-zero-from
+slice-aggregate-zero-from c = search needs
+
+zero-from-requires : tie.Need-zero-from-requires
+zero-from-requires c κs = search needs
+
+slice-aggregate-zero-bytes-from : tie.Need-slice-aggregate-zero-bytes-from
+slice-aggregate-zero-bytes-from c = search needs
+
+zero-bytes-from-requires : tie.Need-zero-bytes-from-requires
+zero-bytes-from-requires c κs = search needs
+
+returns : tie.Need-returns
+unfolding signBlank blank
+returns c =
+    let st = c .before .before .before .before .before .before .before .before .before .before in
+    let n : length (st .args .s .nodes) ≡ 7 = search needs in
+    let m : length (st .args .s .metadata) ≡ 32 = search needs in
+    rw (eq-eqb (length (st .args .s .nodes)) 7 n, eq-eqb (length (st .args .s .metadata)) 32 m) cc
+
+pub sign-blank-spec : {M : Type 1} → statement M
+sign-blank-spec =
+    tie.close
+    (tie.spec
+    slice-aggregate-zero-from
+    zero-from-requires
+    slice-aggregate-zero-bytes-from
+    zero-bytes-from-requires
+    returns)

@@ -1,0 +1,32 @@
+-- Document 01's table of refusals: the number of each, and the number that it carries.
+use Prim.Native.Nat.{ℕ}
+use Rattle.entry.specs.declared.Refusal.{Refusal}
+use Rattle.entry.specs.declared.Refusal.the-variants.{NoRoom, AboveDecided, BelowCompacted, Stopped, BelowDecided, AboveAccepted, OutsideRun, TooManyKeys, PastLastIndex, BatchHeld, Malformed, IllFormed}
+
+abbrev pub numberOf : Refusal → ℕ
+numberOf NoRoom = 1
+numberOf (AboveDecided i) = 2
+numberOf (BelowCompacted i) = 3
+numberOf (Stopped i) = 4
+numberOf (BelowDecided i) = 5
+numberOf (AboveAccepted i) = 6
+numberOf (OutsideRun i) = 7
+numberOf TooManyKeys = 8
+numberOf (PastLastIndex i) = 9
+numberOf (BatchHeld n) = 10
+numberOf Malformed = 11
+numberOf IllFormed = 12
+
+abbrev pub carriedOf : Refusal → ℕ
+carriedOf NoRoom = 0
+carriedOf (AboveDecided i) = i .0
+carriedOf (BelowCompacted i) = i .0
+carriedOf (Stopped i) = i .0
+carriedOf (BelowDecided i) = i .0
+carriedOf (AboveAccepted i) = i .0
+carriedOf (OutsideRun i) = i .0
+carriedOf TooManyKeys = 0
+carriedOf (PastLastIndex i) = i .0
+carriedOf (BatchHeld n) = n
+carriedOf Malformed = 0
+carriedOf IllFormed = 0

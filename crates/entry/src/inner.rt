@@ -1,0 +1,65 @@
+// What the crates above need of forms and layouts: not for a user, whose calls are in lib.rt.
+use super::StopSign;
+ghost use mathlib.Core.Path.{_≡_};
+ghost use Prim.Native.Nat.{_*_, _≤_};
+ghost use lib.ListN.{length, drop};
+ghost use Rattle.words.specs.Words.{allZero};
+ghost use Rattle.entry.specs.Change.{formed, entriesOf, storedIn};
+ghost use Rattle.entry.specs.Limits.{width};
+ghost use Rattle.entry.specs.Sign.{signBlank};
+
+// Whether the first n entries of s are in form.
+pub fn places_formed(s: &[u64], n: usize) -> bool
+    requires { ⌜ n * width ≤ length (now s) ⌝ }
+    ensures { λ r. ⌜ r ≡ formed (entriesOf n (now (s .entry))) ⌝ }
+{
+    let mut ok = true;
+    let mut i = 0;
+    while i < n {
+        let at = i * super::WIDTH + 1;
+        ok = ok & super::place_formed(s[at]);
+        i += 1;
+    }
+    ok
+}
+
+// Whether s is a slice of so many words that holds n entries in form, and zeros after them.
+pub fn laid_out(s: &[u64], words: usize, n: usize) -> bool
+    ensures { λ r. ⌜ r ≡ storedIn words n (now (s .entry)) ⌝ }
+{
+    if s.len() != words {
+        return false;
+    }
+    if words / super::WIDTH < n {
+        return false;
+    }
+    let fine = places_formed(s, n);
+    let tail = words::zero_from(s, n * super::WIDTH);
+    fine & tail
+}
+
+// Whether every byte from `from` on is zero.
+pub fn zero_bytes_from(s: &[u8], from: usize) -> bool
+    ensures { λ r. ⌜ r ≡ allZero (drop from (now (s .entry))) ⌝ }
+{
+    let mut all: u8 = 0;
+    let mut i = from;
+    while i < s.len() {
+        all = all | s[i];
+        i += 1;
+    }
+    all == 0
+}
+
+// Whether a stop-sign stands for none: everything is zero.
+pub fn sign_blank(s: StopSign) -> bool
+    ensures { λ r. ⌜ r ≡ signBlank s ⌝ }
+{
+    let nodes = s.nodes;
+    let bytes = s.metadata;
+    let no_nodes = words::zero_from(&nodes, 0);
+    let no_bytes = zero_bytes_from(&bytes, 0);
+    (s.config_id == 0)
+        & ((s.node_count == 0)
+            & ((s.metadata_len == 0) & (!s.metadata_held & (no_nodes & no_bytes))))
+}

@@ -1,0 +1,190 @@
+// Entries, ballots, stop-signs and refusals: module 1 of document 01, and its table of refusals.
+ghost use mathlib.Core.Path.{_≡_};
+ghost use Prim.Native.Nat.{_*_};
+ghost use Rattle.entry.specs.Change.{saidOf, saidFormed, sliceFormed};
+ghost use Rattle.entry.specs.Sign.{signFormed};
+ghost use Rattle.entry.specs.Order.{orderOf, thenBy, ballotOrder, sameBallot};
+ghost use Rattle.entry.specs.Refusals.{numberOf, carriedOf};
+
+pub mod inner;
+
+// Words an entry: its key, then its place or REMOVED.
+pub const WIDTH: usize = 2;
+
+// Entries that a log holds, and the words of its slice.
+pub const ENTRIES: usize = 1024;
+
+pub const LOG_WORDS: usize = 2048;
+
+// Keys that a snapshot holds, and the words of its slice.
+pub const KEYS: usize = 512;
+
+pub const SNAPSHOT_WORDS: usize = 1024;
+
+pub const LAST_INDEX: u64 = 4_294_967_295;
+
+pub const LARGEST_BATCH: u64 = 64;
+
+pub const PLACES: u64 = 0x1_0000_0000_0000;
+
+pub const REMOVED: u64 = 0xffff_ffff_ffff_ffff;
+
+// The number of a change in the log.
+pub struct LogIndex(pub u64);
+
+// The number of a block on disk.
+pub struct BlockPlace(pub u64);
+
+pub struct Ballot {
+    pub config_id: u32,
+    pub n: u32,
+    pub priority: u32,
+    pub pid: u64,
+}
+
+pub enum Ordering {
+    Less,
+    Equal,
+    Greater,
+}
+
+fn order_of(a: u64, b: u64) -> Ordering
+    ensures { λ r. ⌜ r ≡ orderOf a b ⌝ }
+{
+    if a < b {
+        return Ordering::Less;
+    }
+    if b < a {
+        return Ordering::Greater;
+    }
+    Ordering::Equal
+}
+
+// The first order, or the second where the first is equal.
+fn then_by(a: Ordering, b: Ordering) -> Ordering
+    ensures { λ r. ⌜ r ≡ thenBy a b ⌝ }
+{
+    match a {
+        Ordering::Less => Ordering::Less,
+        Ordering::Equal => b,
+        Ordering::Greater => Ordering::Greater,
+    }
+}
+
+impl Ballot {
+    // n, then priority, then pid.
+    pub fn cmp(self, other: Ballot) -> Ordering
+        ensures { λ r. ⌜ r ≡ ballotOrder self other ⌝ }
+    {
+        let by_n = order_of(self.n as u64, other.n as u64);
+        let by_priority = order_of(self.priority as u64, other.priority as u64);
+        let by_pid = order_of(self.pid, other.pid);
+        then_by(by_n, then_by(by_priority, by_pid))
+    }
+
+    // All four: two ballots may be equal in order and differ in their configuration.
+    pub fn eq(self, other: Ballot) -> bool
+        ensures { λ r. ⌜ r ≡ sameBallot self other ⌝ }
+    {
+        (self.config_id == other.config_id)
+            & ((self.n == other.n) & ((self.priority == other.priority) & (self.pid == other.pid)))
+    }
+}
+
+// The next configuration: up to seven nodes and up to 32 bytes of metadata, or none. Unused elements are zero.
+pub struct StopSign {
+    pub config_id: u32,
+    pub node_count: usize,
+    pub nodes: [u64; 7],
+    pub metadata_held: bool,
+    pub metadata_len: usize,
+    pub metadata: [u8; 32],
+}
+
+// Document 01's refusals, in its order; each holds the number that it carries.
+pub enum Refusal {
+    NoRoom,
+    AboveDecided(LogIndex),
+    BelowCompacted(LogIndex),
+    Stopped(LogIndex),
+    BelowDecided(LogIndex),
+    AboveAccepted(LogIndex),
+    OutsideRun(LogIndex),
+    TooManyKeys,
+    PastLastIndex(LogIndex),
+    BatchHeld(usize),
+    Malformed,
+    IllFormed,
+}
+
+// A refusal's number in document 01.
+pub fn number(r: Refusal) -> u64
+    ensures { λ n. ⌜ n ≡ numberOf r ⌝ }
+{
+    match r {
+        Refusal::NoRoom => 1,
+        Refusal::AboveDecided(_) => 2,
+        Refusal::BelowCompacted(_) => 3,
+        Refusal::Stopped(_) => 4,
+        Refusal::BelowDecided(_) => 5,
+        Refusal::AboveAccepted(_) => 6,
+        Refusal::OutsideRun(_) => 7,
+        Refusal::TooManyKeys => 8,
+        Refusal::PastLastIndex(_) => 9,
+        Refusal::BatchHeld(_) => 10,
+        Refusal::Malformed => 11,
+        Refusal::IllFormed => 12,
+    }
+}
+
+// The number that a refusal carries.
+pub fn carried(r: Refusal) -> u64
+    ensures { λ n. ⌜ n ≡ carriedOf r ⌝ }
+{
+    match r {
+        Refusal::NoRoom => 0,
+        Refusal::AboveDecided(i) => i.0,
+        Refusal::BelowCompacted(i) => i.0,
+        Refusal::Stopped(i) => i.0,
+        Refusal::BelowDecided(i) => i.0,
+        Refusal::AboveAccepted(i) => i.0,
+        Refusal::OutsideRun(i) => i.0,
+        Refusal::TooManyKeys => 0,
+        Refusal::PastLastIndex(i) => i.0,
+        Refusal::BatchHeld(n) => n as u64,
+        Refusal::Malformed => 0,
+        Refusal::IllFormed => 0,
+    }
+}
+
+// Whether an entry's second word is in form: a place below 2^48, or removed.
+pub fn place_formed(w: u64) -> bool
+    ensures { λ r. ⌜ r ≡ saidFormed (saidOf w) ⌝ }
+{
+    (w == REMOVED) | (w < PLACES)
+}
+
+// Whether an entry slice is in form: no odd word, and every entry in form.
+pub fn entries_formed(s: &[u64]) -> bool
+    ensures { λ r. ⌜ r ≡ sliceFormed (now (s .entry)) ⌝ }
+{
+    let words = s.len();
+    let whole = words % WIDTH == 0;
+    let fine = inner::places_formed(s, words / WIDTH);
+    whole & fine
+}
+
+// Whether a stop-sign is in form: at least one node, and a length only where metadata is held.
+pub fn sign_formed(s: StopSign) -> bool
+    ensures { λ r. ⌜ r ≡ signFormed s ⌝ }
+{
+    let nodes = s.nodes;
+    let bytes = s.metadata;
+    let count = s.node_count;
+    let used = s.metadata_len;
+    let nodes_end = words::zero_from(&nodes, count);
+    let bytes_end = inner::zero_bytes_from(&bytes, used);
+    (1 <= count)
+        & ((count <= 7)
+            & ((used <= 32) & ((s.metadata_held | (used == 0)) & (nodes_end & bytes_end))))
+}

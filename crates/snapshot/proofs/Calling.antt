@@ -1,0 +1,156 @@
+-- The calls on lent words: each way out of them against its definition.
+use Prim.Native.Nat.{ℕ, suc, _+_, _*_, _/_, _<_, _≤_}
+use mathlib.Core.Path.{_≡_, refl, sym, ap₂, _∙_}
+use mathlib.Core.Bool.{Bool, true, false, _&&_, not}
+use mathlib.Core.List.{List, [], _∷_}
+use mathlib.Core.Option.{none, some}
+use native.Mathlib.Omega.{arith}
+use borrow.Author.Tests.{lt-ltb, le-ltb, eqb-true}
+use lib.Dec.{ltb, eqb}
+use lib.ListN.{length, drop, getD, replicate}
+use Rattle.words.specs.All.{allOf}
+use Rattle.words.specs.Words.{laid}
+use Rattle.words.specs.Coded.{wordsOf, entriesAt}
+use Rattle.words.proofs.Tests.{and-left, and-right}
+use Rattle.words.proofs.CodedLaws.{entries-length}
+use Rattle.entry.specs.Limits.{width, keyRoom, snapshotWords}
+use Rattle.entry.specs.Change.{Change, change, changeCode, saidOf, entriesOf, entriesIn, sliceFormed, stored, storedIn, formed}
+use Rattle.entry.specs.Guards.{guard, first, replied, refusedBy}
+use Rattle.entry.specs.declared.Refusal.{Refusal}
+use Rattle.entry.specs.declared.Refusal.the-variants.{TooManyKeys, Malformed}
+use Rattle.entry.proofs.ChangeLaws.{changeAt, entry-cons}
+use Rattle.entry.proofs.GuardLaws.{first-refuses, first-goes-on}
+use Rattle.entry.proofs.SliceLaws.{laid-of, slice-fine, stored-entries, stored-laid}
+use Rattle.snapshot.specs.Folds.{rising, foldOnto, fold, merge, find}
+use Rattle.snapshot.specs.Calls.{snapshotFormed, outcome, written, overRoom, folded, foldCall, mergeCall, placeOf, findCall}
+use Rattle.snapshot.specs.Inner.{place, here, spotOf, Holds, Shows, FoldIs, Aside, foldedOut}
+use Rattle.snapshot.specs.declared.Folded.{Folded}
+use Rattle.snapshot.specs.declared.Folded.the-variants.{Keys, Refused}
+use Rattle.snapshot.specs.declared.inner.Spot.the-variants.{At, Before}
+use Rattle.snapshot.proofs.Searching.{spot-at, spot-before, insert-over}
+use Rattle.snapshot.proofs.Finds.{find-absent, find-found}
+use Rattle.snapshot.proofs.Putting.{folded-keys, folded-refused}
+
+-- refusal 8, or the snapshot written out
+module _ (es : List Change) (out : List ℕ) where
+  pub over-refused : keyRoom < length es → outcome (refusedBy TooManyKeys) out ≡ written (first (overRoom es ∷ [])) es out
+  over-refused h = rw (first-refuses 8 0 (ltb keyRoom (length es)) [] (lt-ltb keyRoom (length es) h))
+
+  pub over-written : length es ≤ keyRoom → outcome (replied (length es)) (stored snapshotWords es) ≡ written (first (overRoom es ∷ [])) es out
+  unfolding first
+  over-written h = rw (first-goes-on 8 0 (ltb keyRoom (length es)) [] (le-ltb keyRoom (length es) h))
+
+  module _ (r : Folded) (t : List ℕ) (p : FoldIs snapshotWords es r t) where
+    pub aside-refused : (x : Refusal) → r ≡ Refused x → outcome (folded (Refused TooManyKeys)) out ≡ written (first (overRoom es ∷ [])) es out
+    aside-refused x e = over-refused (omega (arith, folded-refused snapshotWords es x (sym (p .reply) ∙ e)))
+
+    pub aside-written : (k : ℕ) → r ≡ Keys k → outcome (folded (Keys k)) t ≡ written (first (overRoom es ∷ [])) es out
+    aside-written k e =
+        let q = folded-keys snapshotWords es k (sym (p .reply) ∙ e) in
+        ap₂ (λ (n : ℕ) (ws : List ℕ). outcome (replied n) ws) (q .1) (p .words-are (q .0)) ∙ over-written (omega (arith, q .0))
+
+-- the same as what is needed of scratch words, and of what a fold in them comes to
+module _ (kept : ℕ) (base : List ℕ) (n : ℕ) (entries out : List ℕ) (a : Aside kept base n entries out) where
+  pub aside-needs : Holds (length base) kept base × Shows n entries
+  aside-needs = (rw (a .base-holds .laid .long) (a .base-holds), a .entries-show)
+
+  module _ (r : Folded) (t : List ℕ) (p : FoldIs (length base) (foldOnto (entriesOf kept base) (entriesOf n entries)) r t) where
+    scratch-is : FoldIs snapshotWords (foldOnto (entriesOf kept base) (entriesOf n entries)) r t
+    scratch-is = rw (a .base-holds .laid .long) at p
+
+    pub out-refused : (x : Refusal) → r ≡ Refused x → outcome (folded (Refused TooManyKeys)) out ≡ foldedOut kept base n entries out
+    out-refused x e = aside-refused (foldOnto (entriesOf kept base) (entriesOf n entries)) out r t scratch-is x e
+
+    pub out-written : (k : ℕ) → r ≡ Keys k → outcome (folded (Keys k)) t ≡ foldedOut kept base n entries out
+    out-written k e = aside-written (foldOnto (entriesOf kept base) (entriesOf n entries)) out r t scratch-is k e
+
+-- a snapshot in form, and the empty one
+pub snapshot-holds : (n : ℕ) (ws : List ℕ) → snapshotFormed n ws ≡ true → Holds snapshotWords n ws
+unfolding snapshotFormed
+snapshot-holds n ws e =
+    record { laid = laid-of snapshotWords n ws (and-left _ _ e); rises = and-right (storedIn snapshotWords n ws) (rising (entriesOf n ws)) e }
+
+pub snapshot-stored : (es : List Change) → length es ≤ keyRoom → formed es ≡ true → rising es ≡ true → snapshotFormed (length es) (stored snapshotWords es) ≡ true
+unfolding snapshotFormed
+snapshot-stored es h fine up =
+    rw (stored-laid snapshotWords es (omega arith) fine, stored-entries snapshotWords es fine) up
+
+pub empty-formed : snapshotFormed 0 (replicate snapshotWords 0) ≡ true
+unfolding laid wordsOf allOf rising
+empty-formed = snapshot-stored [] (omega arith) refl refl
+
+-- refusal 11, and what follows where it is not given
+module _ (ok : Bool) (es : List Change) (out : List ℕ) where
+  malformed : ok ≡ false → outcome (refusedBy Malformed) out ≡ written (first (guard 11 0 (not ok) ∷ overRoom es ∷ [])) es out
+  malformed e = rw (first-refuses 11 0 (not ok) (overRoom es ∷ []) (rw e))
+
+  in-form : ok ≡ true → written (first (overRoom es ∷ [])) es out ≡ written (first (guard 11 0 (not ok) ∷ overRoom es ∷ [])) es out
+  in-form e = rw (first-goes-on 11 0 (not ok) (overRoom es ∷ []) (rw e))
+
+module _ (entries out : List ℕ) where
+  abbrev pub foldable : Bool
+  foldable = sliceFormed entries && eqb (length out) snapshotWords
+
+  pub fold-malformed : foldable ≡ false → outcome (refusedBy Malformed) out ≡ foldCall entries out
+  unfolding foldCall
+  fold-malformed e = malformed foldable (fold (entriesIn entries)) out e
+
+  module _ (e : foldable ≡ true) where
+    pub fold-needs : Aside 0 (replicate snapshotWords 0) (length entries / width) entries out
+    fold-needs = record {
+      base-holds = snapshot-holds 0 (replicate snapshotWords 0) empty-formed;
+      entries-show = record { inside = omega arith; sound = slice-fine entries (and-left _ _ e) };
+      room = eqb-true (length out) snapshotWords (and-right (sliceFormed entries) _ e);
+    }
+
+    pub fold-stands : foldedOut 0 (replicate snapshotWords 0) (length entries / width) entries out ≡ foldCall entries out
+    unfolding foldCall fold entriesAt
+    fold-stands = in-form foldable (fold (entriesIn entries)) out e
+
+module _ (a : List ℕ) (n : ℕ) (b : List ℕ) (m : ℕ) (out : List ℕ) where
+  abbrev pub mergeable : Bool
+  mergeable = snapshotFormed n a && (snapshotFormed m b && eqb (length out) snapshotWords)
+
+  pub merge-malformed : mergeable ≡ false → outcome (refusedBy Malformed) out ≡ mergeCall a n b m out
+  unfolding mergeCall
+  merge-malformed e = malformed mergeable (merge (entriesOf n a) (entriesOf m b)) out e
+
+  module _ (e : mergeable ≡ true) where
+    pub merge-needs : Aside n a m b out
+    merge-needs =
+        let e₂ = and-right (snapshotFormed n a) _ e in
+        let h = snapshot-holds m b (and-left _ _ e₂) in
+        record {
+          base-holds = snapshot-holds n a (and-left _ _ e);
+          entries-show = record { inside = omega (arith, h .laid .fits, h .laid .long); sound = h .laid .fine };
+          room = eqb-true (length out) snapshotWords (and-right (snapshotFormed m b) _ e₂);
+        }
+
+    pub merge-stands : foldedOut n a m b out ≡ mergeCall a n b m out
+    unfolding mergeCall merge
+    merge-stands = in-form mergeable (merge (entriesOf n a) (entriesOf m b)) out e
+
+pub find-malformed : (n : ℕ) (ws : List ℕ) (k : ℕ) → snapshotFormed n ws ≡ false → refusedBy Malformed ≡ findCall ws n k
+unfolding findCall
+find-malformed n ws k e = rw (first-refuses 11 0 (not (snapshotFormed n ws)) [] (rw e))
+
+-- a search's end, as the call tells it
+module _ (n : ℕ) (ws : List ℕ) (k : ℕ) (ok : snapshotFormed n ws ≡ true) where
+  settled : findCall ws n k ≡ replied (placeOf (find k (entriesOf n ws)))
+  unfolding findCall first
+  settled = rw (first-goes-on 11 0 (not (snapshotFormed n ws)) [] (rw ok))
+
+  pub find-none : (i : ℕ) → Before i ≡ spotOf (entriesOf n ws) k → replied none ≡ findCall ws n k
+  find-none i e = sym (settled ∙ rw (find-absent k (entriesOf n ws) (spot-before (entriesOf n ws) k i (sym e) .0)))
+
+  module _ (i : ℕ) (e : At i ≡ spotOf (entriesOf n ws) k) where
+    at : (here (entriesOf n ws) k ≡ true) × (place (entriesOf n ws) k ≡ i)
+    at = spot-at (entriesOf n ws) k i (sym e)
+
+    pub find-inside : i < n
+    find-inside = omega (arith, insert-over (change k 0) (entriesOf n ws) (at .0) .inside, at .1, entries-length changeCode n ws)
+
+    pub find-word : findCall ws n k ≡ replied (placeOf (some (saidOf (getD ws (i * width + 1) 0))))
+    find-word =
+        let q : drop (place (entriesOf n ws) k) (entriesOf n ws) ≡ changeAt ws i ∷ drop (suc i) (entriesOf n ws) = rw (at .1) (entry-cons i n ws find-inside) in
+        settled ∙ rw (find-found k (entriesOf n ws) (at .0) (changeAt ws i) (drop (suc i) (entriesOf n ws)) q)

@@ -1,0 +1,47 @@
+-- A walk over the first n entries that compares neighbours and keeps a flag: at i the flag and the order of the rest are together
+-- what is asked.
+use Prim.Native.Nat.{ℕ, suc, _+_, _<_, _≤_, _*_}
+use mathlib.Core.Path.{_≡_, refl, sym, ap, _∙_}
+use mathlib.Core.Bool.{Bool, true, _&&_, and-true, and-assoc}
+use mathlib.Core.List.{List, [], _∷_}
+use native.Mathlib.Omega.{arith}
+use native.Mathlib.Numerals.{add-one}
+use lib.Dec.{ltb}
+use lib.ListN.{length, drop, length-drop, getD}
+use Rattle.words.proofs.CodedLaws.{entries-length}
+use Rattle.entry.specs.Limits.{width}
+use Rattle.entry.specs.Change.{Change, changeCode, entriesOf}
+use Rattle.entry.proofs.ChangeLaws.{changeAt, entry-cons}
+use Rattle.snapshot.specs.Folds.{climbs, rising}
+
+short : (m : List Change) → length m ≤ 1 → rising m ≡ true
+unfolding rising climbs
+short [] h = refl
+short (e ∷ []) h = refl
+short (e ∷ (f ∷ m)) h = absurd (omega arith)
+
+-- the first two in order, and then the rest
+rising-two : (e f : Change) (m : List Change) → rising (e ∷ (f ∷ m)) ≡ (ltb (e .key) (f .key) && rising (f ∷ m))
+unfolding rising climbs
+rising-two e f m = refl
+
+module _ (n : ℕ) (ws : List ℕ) (i : ℕ) (ok asked : Bool) (so : (ok && rising (drop i (entriesOf n ws))) ≡ asked) where
+  pub rising-end : n ≤ i + 1 → ok ≡ asked
+  rising-end h =
+      sym (and-true ok)
+      ∙ ap (λ (t : Bool). ok && t) (sym (short (drop i (entriesOf n ws)) (omega (arith, length-drop i (entriesOf n ws), entries-length changeCode n ws))))
+      ∙ so
+
+  pub rising-turn : i + 1 < n → (ok && ltb (getD ws (i * width) 0) (getD ws ((i + 1) * width) 0) && rising (drop (i + 1) (entriesOf n ws))) ≡ asked
+  rising-turn h =
+      let e : Change = changeAt ws i in
+      let f : Change = changeAt ws (i + 1) in
+      let m : List Change = drop (suc (i + 1)) (entriesOf n ws) in
+      let next : drop (i + 1) (entriesOf n ws) ≡ f ∷ m = entry-cons (i + 1) n ws h in
+      let both : drop i (entriesOf n ws) ≡ e ∷ (f ∷ m) =
+      entry-cons i n ws (omega arith) ∙ ap (λ (k : ℕ). e ∷ drop k (entriesOf n ws)) (sym (add-one i)) ∙ ap (λ (l : List Change). e ∷ l) next in
+      ap (λ (l : List Change). ok && ltb (e .key) (f .key) && rising l) next
+      ∙ and-assoc ok (ltb (e .key) (f .key)) (rising (f ∷ m))
+      ∙ ap (λ (t : Bool). ok && t) (sym (rising-two e f m))
+      ∙ ap (λ (l : List Change). ok && rising l) (sym both)
+      ∙ so

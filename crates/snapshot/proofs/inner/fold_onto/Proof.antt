@@ -1,0 +1,111 @@
+-- `snapshot::inner::fold_onto` meets its contract: the words hold the entries put so far.
+use borrow.Author.Needs.{needs}
+use Prim.Native.Nat.{_≤_, _-_}
+use lib.ListN.{length, take}
+use native.Mathlib.Omega.{arith}
+use denote.Ref.{now}
+use Rattle.entry.specs.Change.{entriesOf}
+use Rattle.snapshot.specs.Folds.{foldOnto}
+use Rattle.snapshot.proofs.Putting.{Sofar, sofar-start, sofar-holds, next-formed, fold-turn, fold-refused, fold-done}
+use Rattle.snapshot.proofs.inner.fold_onto.Statement.{statement}
+use Rattle.snapshot.proofs.inner.fold_onto.Tie as tie
+
+abbrev Inv-loop : tie.InvT-loop
+Inv-loop s₀ kept entries n keys₀ i₀ s keys i = (i ≤ n) × Sofar (length s₀) (foldOnto (entriesOf kept s₀) (take i (entriesOf n entries))) s keys
+
+abbrev μ-loop : tie.MeasureT-loop
+μ-loop s₀ kept entries n keys₀ i₀ s keys i = n - i
+
+loop-holds : tie.Need-loop-holds Inv-loop μ-loop
+unfolding foldOnto
+loop-holds c =
+    let a = c .before .before in
+    (omega arith, sofar-start (a .args .kept) (now (a .args .s)) (a .pre .0))
+
+mul-at : tie.Need-mul-at Inv-loop μ-loop
+mul-at c = omega arith
+
+mul-put : tie.Need-mul-put Inv-loop μ-loop
+mul-put c = omega arith
+
+shared-slice-read-put : tie.Need-shared-slice-read-put Inv-loop μ-loop
+shared-slice-read-put c = omega arith
+
+add-put : tie.Need-add-put Inv-loop μ-loop
+add-put c = omega arith
+
+mul-put-2 : tie.Need-mul-put-2 Inv-loop μ-loop
+mul-put-2 c = omega arith
+
+shared-slice-read-put-2 : tie.Need-shared-slice-read-put-2 Inv-loop μ-loop
+shared-slice-read-put-2 c = omega arith
+
+put-requires : tie.Need-put-requires Inv-loop μ-loop
+put-requires c κs =
+    let l = c .before .before .before .before in
+    let a = l .before .before .before in
+    (sofar-holds _ _ (l .loop .s) (l .loop .keys) (l .loop .inv .1), next-formed (length (now (a .args .s))) _ (a .args .n) (now (a .args .entries)) (a .pre .1) (l .loop .i) (l .loop .s) (l .loop .keys) (l .loop .inv .1) (c .before .before .before .loop-test .taken))
+
+enum-known-r : tie.Need-enum-known-r Inv-loop μ-loop
+enum-known-r c = search needs
+
+enum-told : tie.Need-enum-told Inv-loop μ-loop
+enum-told c = search needs
+
+same-length : tie.Need-same-length Inv-loop μ-loop
+same-length c = search needs
+
+returns : tie.Need-returns Inv-loop μ-loop
+returns c =
+    let q = c .before .before .before .before in
+    let t = q .before .before .before .before in
+    let l = t .before in
+    let a = l .before .before .before in
+    fold-refused (length (now (a .args .s))) (entriesOf (a .args .kept) (now (a .args .s))) (a .args .n) (now (a .args .entries)) (a .pre .1) (l .loop .i) (l .loop .s) (l .loop .keys) (l .loop .inv .1) (t .loop-test .taken) (q .put .result) (q .put .last .0) (q .put .ensures) _ (c .enum-told .given .1)
+
+add-i : tie.Need-add-i Inv-loop μ-loop
+add-i c = omega arith
+
+loop-less : tie.Need-loop-less Inv-loop μ-loop
+loop-less c = omega arith
+
+loop-again : tie.Need-loop-again Inv-loop μ-loop
+loop-again c =
+    let q = c .before .before .before .before .before in
+    let t = q .before .before .before .before in
+    let l = t .before in
+    let a = l .before .before .before in
+    (omega arith, fold-turn (length (now (a .args .s))) (entriesOf (a .args .kept) (now (a .args .s))) (a .args .n) (now (a .args .entries)) (a .pre .1) (l .loop .i) (l .loop .s) (l .loop .keys) (l .loop .inv .1) (t .loop-test .taken) (q .put .result) (q .put .last .0) (q .put .ensures) _ (c .before .r .given .1))
+
+same-length-2 : tie.Need-same-length-2 Inv-loop μ-loop
+same-length-2 c = search needs
+
+returns-2 : tie.Need-returns-2 Inv-loop μ-loop
+returns-2 c =
+    let l = c .before in
+    let a = l .before .before .before in
+    fold-done (length (now (a .args .s))) (entriesOf (a .args .kept) (now (a .args .s))) (a .args .n) (now (a .args .entries)) (a .pre .1) (l .loop .i) (l .loop .s) (l .loop .keys) (l .loop .inv .1) (c .loop-test .left)
+
+pub fold-onto-spec : {M : Type 1} → statement M
+fold-onto-spec =
+    tie.close
+    (tie.spec
+    Inv-loop
+    μ-loop
+    loop-holds
+    mul-at
+    mul-put
+    shared-slice-read-put
+    add-put
+    mul-put-2
+    shared-slice-read-put-2
+    put-requires
+    enum-known-r
+    enum-told
+    same-length
+    returns
+    add-i
+    loop-less
+    loop-again
+    same-length-2
+    returns-2)

@@ -1,0 +1,73 @@
+-- `snapshot::inner::search` meets its contract: the answer for all entries is the answer for those that are left.
+use Prim.Native.Nat.{_≤_, _-_}
+use native.Mathlib.Omega.{arith}
+use denote.Ref.{now}
+use Rattle.entry.specs.Change.{entriesOf}
+use Rattle.snapshot.proofs.Searching.{Passed, passed-none, search-end, search-more, search-at, search-before}
+use Rattle.snapshot.proofs.inner.search.Statement.{statement}
+use Rattle.snapshot.proofs.inner.search.Tie as tie
+
+abbrev Inv-loop : tie.InvT-loop
+Inv-loop s n key i₀ i = (i ≤ n) × Passed (entriesOf n s) key i
+
+abbrev μ-loop : tie.MeasureT-loop
+μ-loop s n key i₀ i = n - i
+
+loop-holds : tie.Need-loop-holds Inv-loop μ-loop
+loop-holds c = (omega arith, passed-none _ _)
+
+mul-at : tie.Need-mul-at Inv-loop μ-loop
+mul-at c = omega arith
+
+mul-k : tie.Need-mul-k Inv-loop μ-loop
+mul-k c = omega arith
+
+shared-slice-read-k : tie.Need-shared-slice-read-k Inv-loop μ-loop
+shared-slice-read-k c = omega arith
+
+add-i : tie.Need-add-i Inv-loop μ-loop
+add-i c = omega arith
+
+loop-less : tie.Need-loop-less Inv-loop μ-loop
+loop-less c = omega arith
+
+loop-again : tie.Need-loop-again Inv-loop μ-loop
+loop-again c =
+    let l = c .before .before .before in
+    let a = l .before .args in
+    (omega arith, search-more (a .n) (now (a .s)) (a .key) (l .loop .i) (l .loop .inv .1) (omega arith) (c .if2 .left))
+
+returns : tie.Need-returns Inv-loop μ-loop
+returns c =
+    let l = c .before in
+    let a = l .before .args in
+    search-end (a .n) (now (a .s)) (a .key) (l .loop .i) (l .loop .inv .1) (c .if1 .taken) (l .loop .inv .0)
+
+returns-2 : tie.Need-returns-2 Inv-loop μ-loop
+returns-2 c =
+    let l = c .before .before .before .before in
+    let a = l .before .args in
+    search-at (a .n) (now (a .s)) (a .key) (l .loop .i) (l .loop .inv .1) (omega arith) (c .before .if2 .taken) (c .if3 .taken)
+
+returns-3 : tie.Need-returns-3 Inv-loop μ-loop
+returns-3 c =
+    let l = c .before .before .before .before in
+    let a = l .before .args in
+    search-before (a .n) (now (a .s)) (a .key) (l .loop .i) (l .loop .inv .1) (omega arith) (c .before .if2 .taken) (c .if3 .left)
+
+pub search-spec : {M : Type 1} → statement M
+search-spec =
+    tie.close
+    (tie.spec
+    Inv-loop
+    μ-loop
+    loop-holds
+    mul-at
+    mul-k
+    shared-slice-read-k
+    add-i
+    loop-less
+    loop-again
+    returns
+    returns-2
+    returns-3)

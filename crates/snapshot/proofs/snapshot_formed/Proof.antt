@@ -1,0 +1,35 @@
+-- `snapshot::snapshot_formed` meets its contract: each return takes the tests as far as it came.
+use mathlib.Core.Path.{_≡_, sym, _∙_}
+use mathlib.Core.Bool.{true}
+use native.Mathlib.Omega.{arith}
+use borrow.Author.Tests.{not-true, not-false}
+use denote.Ref.{now}
+use Rattle.entry.specs.Limits.{snapshotWords}
+use Rattle.entry.specs.Change.{storedIn}
+use Rattle.entry.proofs.SliceLaws.{laid-of}
+use Rattle.snapshot.specs.Calls.{snapshotFormed}
+use borrow.Author.Needs.{needs}
+use Rattle.snapshot.proofs.snapshot_formed.Statement.{statement}
+use Rattle.snapshot.proofs.snapshot_formed.Tie as tie
+
+laid-out-requires : tie.Need-laid-out-requires
+laid-out-requires c κs = search needs
+
+returns : tie.Need-returns
+unfolding snapshotFormed
+returns c = rw (sym (c .before .laid-out .ensures) ∙ not-true _ (c .if1 .taken))
+
+keys-ascend-requires : tie.Need-keys-ascend-requires
+keys-ascend-requires c κs =
+    let st = c .before .before .before in
+    let ok : storedIn snapshotWords (st .args .keys) (now (st .args .s)) ≡ true = sym (c .before .laid-out .ensures) ∙ not-false _ (c .if1 .left) in
+    let l = laid-of snapshotWords (st .args .keys) (now (st .args .s)) ok in
+    omega (arith, l .fits, l .long)
+
+returns-2 : tie.Need-returns-2
+unfolding snapshotFormed
+returns-2 c = rw (sym (c .before .before .laid-out .ensures) ∙ not-false _ (c .before .if1 .left)) (c .keys-ascend .ensures)
+
+pub snapshot-formed-spec : {M : Type 1} → statement M
+snapshot-formed-spec =
+    tie.close (tie.spec laid-out-requires returns keys-ascend-requires returns-2)

@@ -1,0 +1,65 @@
+-- The calls of module 2 on lent words. "Fold, merge: 11, 8. Find: 11." "No refusal changes anything lent"; "a written snapshot fills
+-- its whole slice".
+use Prim.Native.Nat.{ℕ}
+use mathlib.Core.Bool.{Bool, _&&_, not}
+use mathlib.Core.List.{List, [], _∷_}
+use mathlib.Core.Option.{Option, none, some}
+use lib.Dec.{ltb, eqb}
+use lib.ListN.{length}
+use Rattle.entry.specs.Limits.{keyRoom, snapshotWords}
+use Rattle.entry.specs.Change.{Said, place, removed, Change, entriesOf, entriesIn, sliceFormed, stored, storedIn}
+use Rattle.entry.specs.Guards.{Guard, guard, Verdict, passes, refuses, first, Answer, refused, replied, refusedBy, settle}
+use Rattle.snapshot.specs.Folds.{fold, merge, rising, find}
+use Rattle.snapshot.specs.declared.Folded.{Folded}
+use Rattle.snapshot.specs.declared.Folded.the-variants.{Keys, Refused}
+use Rattle.snapshot.specs.declared.Found.{Found}
+use Rattle.snapshot.specs.declared.Found.the-variants.{Place, Absent, Refused as FindRefused}
+
+-- a lent snapshot in form: its slice's length, its places and zeros, and the order of its n keys
+unfoldable pub snapshotFormed : ℕ → List ℕ → Bool
+snapshotFormed n ws = storedIn snapshotWords n ws && rising (entriesOf n ws)
+
+-- what a fold or a merge comes to: how many keys, or a refusal; and the output slice after it
+pub record Outcome : Type 0 where
+  pub answer : Answer ℕ
+  pub output : List ℕ
+
+abbrev pub outcome : Answer ℕ → List ℕ → Outcome
+outcome a out = record { answer = a; output = out }
+
+abbrev pub written : Verdict → List Change → List ℕ → Outcome
+written passes s out = outcome (replied (length s)) (stored snapshotWords s)
+written (refuses n k) s out = outcome (refused n k) out
+
+-- "the fold has over 512 keys"
+abbrev pub overRoom : List Change → Guard
+overRoom s = guard 8 0 (ltb keyRoom (length s))
+
+unfoldable pub foldCall : List ℕ → List ℕ → Outcome
+foldCall entries out =
+    let s : List Change = fold (entriesIn entries) in
+    written (first (guard 11 0 (not (sliceFormed entries && eqb (length out) snapshotWords)) ∷ overRoom s ∷ [])) s out
+
+unfoldable pub mergeCall : List ℕ → ℕ → List ℕ → ℕ → List ℕ → Outcome
+mergeCall a n b m out =
+    let s : List Change = merge (entriesOf n a) (entriesOf m b) in
+    written (first (guard 11 0 (not (snapshotFormed n a && (snapshotFormed m b && eqb (length out) snapshotWords))) ∷ overRoom s ∷ [])) s out
+
+-- "its place or absence": a removed key is absent
+abbrev pub placeOf : Option Said → Option ℕ
+placeOf none = none
+placeOf (some (place p)) = some p
+placeOf (some removed) = none
+
+unfoldable pub findCall : List ℕ → ℕ → ℕ → Answer (Option ℕ)
+findCall ws n k = settle (first (guard 11 0 (not (snapshotFormed n ws)) ∷ [])) (placeOf (find k (entriesOf n ws)))
+
+-- what the replies say
+abbrev pub folded : Folded → Answer ℕ
+folded (Keys n) = replied n
+folded (Refused r) = refusedBy r
+
+abbrev pub found : Found → Answer (Option ℕ)
+found (Place p) = replied (some (p .0))
+found Absent = replied none
+found (FindRefused r) = refusedBy r

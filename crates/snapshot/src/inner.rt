@@ -1,0 +1,130 @@
+// What the crates above need of snapshots: not for a user, whose calls are in lib.rt. What a function needs of its arguments it
+// requires: its callers have tested it.
+use super::Folded;
+use entry::Refusal;
+ghost use mathlib.Core.Path.{_≡_};
+ghost use mathlib.Core.Bool.{true};
+ghost use Prim.Native.Nat.{_*_, _≤_};
+ghost use lib.ListN.{length};
+ghost use Rattle.entry.specs.Limits.{width};
+ghost use Rattle.entry.specs.Change.{change, saidOf, saidFormed, entriesOf};
+ghost use Rattle.snapshot.specs.Folds.{rising, insert, foldOnto};
+ghost use Rattle.snapshot.specs.Calls.{outcome, folded};
+ghost use Rattle.snapshot.specs.Inner.{spotOf, Holds, Shows, FoldIs, Aside, foldedOut};
+
+// Whether the keys of the first n entries ascend strictly.
+pub fn keys_ascend(s: &[u64], n: usize) -> bool
+    requires { ⌜ n * width ≤ length (now s) ⌝ }
+    ensures { λ r. ⌜ r ≡ rising (entriesOf n (now (s .entry))) ⌝ }
+{
+    let mut ok = true;
+    let mut i = 0;
+    while i + 1 < n {
+        let at = i * entry::WIDTH;
+        let next = (i + 1) * entry::WIDTH;
+        ok = ok & (s[at] < s[next]);
+        i += 1;
+    }
+    ok
+}
+
+// Where a key stands, or before which entry it would.
+pub enum Spot {
+    At(usize),
+    Before(usize),
+}
+
+// A search that stops at the first key not below the one asked for. It asks for ascending keys, though a walk from the front does
+// not need them: what it finds is the key's place only among such.
+pub fn search(s: &[u64], n: usize, key: u64) -> Spot
+    requires { ⌜ Holds (length (now s)) n (now s) ⌝ }
+    ensures { λ r. ⌜ r ≡ spotOf (entriesOf n (now (s .entry))) key ⌝ }
+{
+    let mut i = 0;
+    loop {
+        if n <= i {
+            break Spot::Before(i);
+        }
+        let at = i * entry::WIDTH;
+        let k = s[at];
+        if key <= k {
+            if k == key {
+                break Spot::At(i);
+            }
+            break Spot::Before(i);
+        }
+        i += 1;
+    }
+}
+
+// Puts one entry at its place; where there is no room the words are of no use.
+fn put(s: &mut [u64], n: usize, key: u64, word: u64) -> Folded
+    requires { ⌜ Holds (length (now s)) n (now s) × (saidFormed (saidOf word) ≡ true) ⌝ }
+    ensures { λ r. ⌜ FoldIs (length (now (s .entry))) (insert (change key word) (entriesOf n (now (s .entry)))) r (now (s .exit)) ⌝ }
+{
+    let used = n * entry::WIDTH;
+    let pair = [key, word];
+    let spot = search(s, n, key);
+    match spot {
+        Spot::At(i) => {
+            words::splice(s, used, i * entry::WIDTH, entry::WIDTH, &pair);
+            Folded::Keys(n)
+        }
+        Spot::Before(i) => {
+            if s.len() - used < entry::WIDTH {
+                return Folded::Refused(Refusal::TooManyKeys);
+            }
+            words::splice(s, used, i * entry::WIDTH, 0, &pair);
+            Folded::Keys(n + 1)
+        }
+    }
+}
+
+// Puts the first n entries onto the `kept` ones of s, the first first. Where they do not all fit the words are of no use.
+pub fn fold_onto(s: &mut [u64], kept: usize, entries: &[u64], n: usize) -> Folded
+    requires { ⌜ Holds (length (now s)) kept (now s) × Shows n (now entries) ⌝ }
+    ensures { λ r. ⌜ FoldIs (length (now (s .entry))) (foldOnto (entriesOf kept (now (s .entry))) (entriesOf n (now (entries .entry)))) r (now (s .exit)) ⌝ }
+{
+    let mut keys = kept;
+    let mut i = 0;
+    while i < n {
+        let at = i * entry::WIDTH;
+        let r = put(s, keys, entries[at], entries[at + 1]);
+        let Folded::Keys(k) = r else {
+            return Folded::Refused(Refusal::TooManyKeys);
+        };
+        keys = k;
+        i += 1;
+    }
+    Folded::Keys(keys)
+}
+
+// Folds the first n entries onto the snapshot in scratch and writes the result over the whole of out. The fold is made aside, so
+// that one with too many keys writes nothing there.
+pub fn fold_out(
+    scratch: &mut [u64],
+    kept: usize,
+    entries: &[u64],
+    n: usize,
+    out: &mut [u64],
+) -> Folded
+    requires { ⌜ Aside kept (now scratch) n (now entries) (now out) ⌝ }
+    ensures { λ r. ⌜ outcome (folded r) (now (out .exit)) ≡ foldedOut kept (now (scratch .entry)) n (now (entries .entry)) (now (out .entry)) ⌝ }
+{
+    let r = fold_onto(scratch, kept, entries, n);
+    let Folded::Keys(keys) = r else {
+        return Folded::Refused(Refusal::TooManyKeys);
+    };
+    words::copy_words(scratch, out);
+    Folded::Keys(keys)
+}
+
+// The same onto a snapshot that stays as it is.
+pub fn fold_aside(base: &[u64], kept: usize, entries: &[u64], n: usize, out: &mut [u64]) -> Folded
+    requires { ⌜ Aside kept (now base) n (now entries) (now out) ⌝ }
+    ensures { λ r. ⌜ outcome (folded r) (now (out .exit)) ≡ foldedOut kept (now (base .entry)) n (now (entries .entry)) (now (out .entry)) ⌝ }
+{
+    let mut scratch = [0u64; entry::SNAPSHOT_WORDS];
+    words::copy_words(base, &mut scratch);
+    fold_out(&mut scratch, kept, entries, n, out)
+}

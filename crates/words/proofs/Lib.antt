@@ -1,0 +1,4 @@
+pub mod Tests
+pub mod Alls
+pub mod Laws
+pub mod CodedLaws

@@ -1,0 +1,33 @@
+-- Tests that compute, and what they tell.
+use Prim.Native.Nat.{ℕ, _<_}
+use mathlib.Core.Path.{_≡_, refl}
+use mathlib.Core.Bool.{Bool, true, false, _&&_, and-eq-true-iff}
+use native.Mathlib.Omega.{arith}
+use lib.Dec.{ltb, eqb}
+use borrow.Author.Tests.{ltb-true, ltb-false, eqb-true, eqb-false}
+
+-- the three ways in which two numbers stand
+pub data Stand (a b : ℕ) : Type 0 where
+  below : a < b → Stand a b
+  same : a ≡ b → Stand a b
+  above : b < a → Stand a b
+
+pub stand : (a b : ℕ) → Stand a b
+stand a b = first (ltb a b) refl
+  where
+    second : (t : Bool) → ltb a b ≡ false → eqb a b ≡ t → Stand a b
+    second true n e = same (eqb-true a b e)
+    second false n e = above (omega (arith, ltb-false a b n, eqb-false a b e))
+
+    first : (t : Bool) → ltb a b ≡ t → Stand a b
+    first true e = below (ltb-true a b e)
+    first false e = second (eqb a b) e refl
+
+pub and-left : (a b : Bool) → (a && b) ≡ true → a ≡ true
+and-left a b e = and-eq-true-iff a b .0 e .0
+
+pub and-right : (a b : Bool) → (a && b) ≡ true → b ≡ true
+and-right a b e = and-eq-true-iff a b .0 e .1
+
+pub both-true : (a b : Bool) → a ≡ true → b ≡ true → (a && b) ≡ true
+both-true a b p q = rw (p, q)

@@ -1,0 +1,80 @@
+-- `words::copy_in` meets its contract: after i turns the first i words of src stand from `at` on.
+use mathlib.Core.Path.{_≡_, ap, _∙_}
+use mathlib.Core.List.{List}
+use Prim.Native.Nat.{ℕ, _+_, _≤_, _-_}
+use native.Mathlib.Omega.{arith}
+use lib.ListN.{length, getD, set, length-set}
+use lib.Seq.{paste, paste-zero}
+use Rattle.words.proofs.Laws.{paste-more}
+use Rattle.words.proofs.copy_in.Statement.{statement}
+use Rattle.words.proofs.copy_in.Tie as tie
+
+abbrev Inv-loop : tie.InvT-loop
+Inv-loop s₀ at src i₀ s i = (i ≤ length src) × ((s ≡ paste s₀ at src i) × (length s ≡ length s₀))
+
+abbrev μ-loop : tie.MeasureT-loop
+μ-loop s₀ at src i₀ s i = length src - i
+
+loop-holds : tie.Need-loop-holds Inv-loop μ-loop
+loop-holds c = (omega arith, (paste-zero (c .args .s .now) (c .args .at) (c .args .src .now), omega arith))
+
+mul-s : tie.Need-mul-s Inv-loop μ-loop
+mul-s c = omega arith
+
+shared-slice-read-s : tie.Need-shared-slice-read-s Inv-loop μ-loop
+shared-slice-read-s c = omega arith
+
+add-s : tie.Need-add-s Inv-loop μ-loop
+add-s c = omega arith
+
+mul-s-2 : tie.Need-mul-s-2 Inv-loop μ-loop
+mul-s-2 c = omega arith
+
+slice-write-s : tie.Need-slice-write-s Inv-loop μ-loop
+slice-write-s c = omega arith
+
+add-i : tie.Need-add-i Inv-loop μ-loop
+add-i c = omega arith
+
+loop-less : tie.Need-loop-less Inv-loop μ-loop
+loop-less c = omega arith
+
+loop-again : tie.Need-loop-again Inv-loop μ-loop
+loop-again c =
+    let s = c .before .before in
+    let a = s .before .args in (
+      omega arith,
+      (
+        ap (λ (l : List ℕ). set l (a .at + s .loop .i) (getD (a .src .now) (s .loop .i) 0)) (s .loop .inv .1 .0)
+            ∙ paste-more (a .s .now) (a .at) (a .src .now) (s .loop .i) (omega arith) (omega arith),
+        simp length-set (omega arith),
+      ),
+    )
+
+same-length : tie.Need-same-length Inv-loop μ-loop
+same-length c = omega arith
+
+returns : tie.Need-returns Inv-loop μ-loop
+returns c =
+    let s = c .before in
+    let a = s .before .args in
+    let e : s .loop .i ≡ length (a .src .now) = omega arith in
+    s .loop .inv .1 .0 ∙ ap (λ (n : ℕ). paste (a .s .now) (a .at) (a .src .now) n) e
+
+pub copy-in-spec : {M : Type 1} → statement M
+copy-in-spec =
+    tie.close
+    (tie.spec
+    Inv-loop
+    μ-loop
+    loop-holds
+    mul-s
+    shared-slice-read-s
+    add-s
+    mul-s-2
+    slice-write-s
+    add-i
+    loop-less
+    loop-again
+    same-length
+    returns)

@@ -1,0 +1,22 @@
+-- `words::copy_words` meets its contract: all of src, pasted over as many words.
+use mathlib.Core.Path.{_∙_}
+use borrow.Author.Needs.{needs}
+use denote.Ref.{now}
+use Rattle.words.proofs.Laws.{paste-all}
+use Rattle.words.proofs.copy_words.Statement.{statement}
+use Rattle.words.proofs.copy_words.Tie as tie
+
+copy-in-requires : tie.Need-copy-in-requires
+copy-in-requires c κs = search needs
+
+same-length : tie.Need-same-length
+same-length c = search needs
+
+returns : tie.Need-returns
+returns c =
+    let k = c .before .before in
+    let st = k .before .before .before .before in
+    k .copy-in .ensures ∙ paste-all (now (st .args .dst)) (now (st .args .src)) (st .pre)
+
+pub copy-words-spec : {M : Type 1} → statement M
+copy-words-spec = tie.close (tie.spec copy-in-requires same-length returns)

@@ -1,0 +1,81 @@
+-- `words::move_up` meets its contract: with i words left to move, those from the i-th on stand at their places.
+use mathlib.Core.Path.{_≡_}
+use Prim.Native.Nat.{_+_, _≤_, _-_}
+use native.Mathlib.Omega.{arith}
+use lib.ListN.{length, drop, length-set}
+use lib.Seq.{paste}
+use Rattle.words.proofs.Laws.{up-none, up-turn, up-done}
+use Rattle.words.proofs.move_up.Statement.{statement}
+use Rattle.words.proofs.move_up.Tie as tie
+
+abbrev Inv-loop : tie.InvT-loop
+Inv-loop s₀ from to n i₀ s i = (i ≤ n) × ((s ≡ paste s₀ (to + i) (drop (from + i) s₀) (n - i)) × (length s ≡ length s₀))
+
+abbrev μ-loop : tie.MeasureT-loop
+μ-loop s₀ from to n i₀ s i = i
+
+loop-holds : tie.Need-loop-holds Inv-loop μ-loop
+loop-holds c = (omega arith, (up-none (c .args .s .now) (c .args .from) (c .args .to) (c .args .n), omega arith))
+
+sub-i : tie.Need-sub-i Inv-loop μ-loop
+sub-i c = omega arith
+
+add-s : tie.Need-add-s Inv-loop μ-loop
+add-s c = omega arith
+
+mul-s : tie.Need-mul-s Inv-loop μ-loop
+mul-s c = omega arith
+
+slice-read-s : tie.Need-slice-read-s Inv-loop μ-loop
+slice-read-s c = omega arith
+
+add-s-2 : tie.Need-add-s-2 Inv-loop μ-loop
+add-s-2 c = omega arith
+
+mul-s-2 : tie.Need-mul-s-2 Inv-loop μ-loop
+mul-s-2 c = omega arith
+
+slice-write-s : tie.Need-slice-write-s Inv-loop μ-loop
+slice-write-s c = omega arith
+
+loop-less : tie.Need-loop-less Inv-loop μ-loop
+loop-less c = omega arith
+
+loop-again : tie.Need-loop-again Inv-loop μ-loop
+loop-again c =
+    let s = c .before .before in
+    let a = s .before .args in (
+      omega arith,
+      (
+        up-turn (a .s .now) (s .loop .s) (a .from) (a .to) (a .n) (s .loop .i) (omega arith) (omega arith) (omega arith) (omega arith) (s .loop .inv .1 .0),
+        simp length-set (omega arith),
+      ),
+    )
+
+same-length : tie.Need-same-length Inv-loop μ-loop
+same-length c = omega arith
+
+returns : tie.Need-returns Inv-loop μ-loop
+returns c =
+    let s = c .before in
+    let a = s .before .args in
+    up-done (a .s .now) (s .loop .s) (a .from) (a .to) (a .n) (s .loop .i) (omega arith) (s .loop .inv .1 .0)
+
+pub move-up-spec : {M : Type 1} → statement M
+move-up-spec =
+    tie.close
+    (tie.spec
+    Inv-loop
+    μ-loop
+    loop-holds
+    sub-i
+    add-s
+    mul-s
+    slice-read-s
+    add-s-2
+    mul-s-2
+    slice-write-s
+    loop-less
+    loop-again
+    same-length
+    returns)

@@ -1,0 +1,56 @@
+-- `words::zero_from` meets its contract: the words passed and those that are left are together what is asked.
+use Prim.Native.Nat.{_-_}
+use mathlib.Core.Path.{_≡_, refl}
+use mathlib.Core.Bool.{_&&_}
+use native.Mathlib.Omega.{arith}
+use lib.Dec.{eqb}
+use lib.ListN.{length, drop}
+use Rattle.words.specs.Words.{allZero}
+use Rattle.words.proofs.Alls.{zero-turn, all-end}
+use Rattle.words.proofs.zero_from.Statement.{statement}
+use Rattle.words.proofs.zero_from.Tie as tie
+
+abbrev Inv-loop : tie.InvT-loop
+Inv-loop s from all₀ i₀ all i = (eqb all 0 && allZero (drop i s)) ≡ allZero (drop from s)
+
+abbrev μ-loop : tie.MeasureT-loop
+μ-loop s from all₀ i₀ all i = length s - i
+
+loop-holds : tie.Need-loop-holds Inv-loop μ-loop
+loop-holds c = refl
+
+mul-all : tie.Need-mul-all Inv-loop μ-loop
+mul-all c = omega arith
+
+shared-slice-read-all : tie.Need-shared-slice-read-all Inv-loop μ-loop
+shared-slice-read-all c = omega arith
+
+add-i : tie.Need-add-i Inv-loop μ-loop
+add-i c = omega arith
+
+loop-less : tie.Need-loop-less Inv-loop μ-loop
+loop-less c = omega arith
+
+loop-again : tie.Need-loop-again Inv-loop μ-loop
+loop-again c =
+    let l = c .before .before in
+    zero-turn (l .before .args .s .now) (l .loop .i) (l .loop .all) _ (c .before .loop-test .taken) (l .loop .inv)
+
+returns : tie.Need-returns Inv-loop μ-loop
+returns c =
+    let l = c .before in
+    all-end _ (l .before .args .s .now) (l .loop .i) _ _ (l .loop .inv) (c .loop-test .left)
+
+pub zero-from-spec : {M : Type 1} → statement M
+zero-from-spec =
+    tie.close
+    (tie.spec
+    Inv-loop
+    μ-loop
+    loop-holds
+    mul-all
+    shared-slice-read-all
+    add-i
+    loop-less
+    loop-again
+    returns)

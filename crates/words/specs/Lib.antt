@@ -1,0 +1,4 @@
+pub mod If
+pub mod All
+pub mod Words
+pub mod Coded

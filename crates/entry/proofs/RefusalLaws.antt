@@ -6,7 +6,7 @@ use Rattle.words.specs.If.{if_then_else_}
 use Rattle.entry.specs.declared.Refusal.{Refusal}
 use Rattle.entry.specs.declared.Refusal.the-variants.{NoRoom, AboveDecided, BelowCompacted, Stopped, BelowDecided, AboveAccepted, OutsideRun, TooManyKeys, PastLastIndex, BatchHeld, Malformed, IllFormed}
 use Rattle.entry.specs.Refusals.{numberOf, carriedOf}
-use Rattle.entry.specs.Guards.{Answer, refused, refusedBy}
+use Rattle.entry.specs.Guards.{refusedBy}
 
 refusalOf : ℕ → ℕ → Refusal
 refusalOf n k =

@@ -1,15 +1,13 @@
 -- Slices that hold entries in form and zeros after them: what the test tells of one, and that entries laid out pass it.
 use Prim.Native.Nat.{ℕ, _+_, _-_, _*_, _/_, _%_, _≤_}
-use mathlib.Core.Path.{_≡_, refl, sym, ap, _∙_}
-use mathlib.Core.Bool.{Bool, true, _&&_}
+use mathlib.Core.Path.{_≡_, sym, ap, _∙_}
+use mathlib.Core.Bool.{true}
 use mathlib.Core.List.{List, _++_}
 use native.Mathlib.Omega.{arith}
 use borrow.Author.Tests.{leb-true, eqb-true, le-leb, eq-eqb}
 use lib.Dec.{leb, eqb}
 use lib.ListN.{length, take, drop, replicate, length-append, length-drop, length-take, take-append-drop}
-use lib.Seq.{take-at, drop-at}
-use Rattle.words.specs.All.{allOf}
-use Rattle.words.specs.Words.{laid, allZero}
+use Rattle.words.specs.Words.{laid}
 use Rattle.words.specs.Coded.{wordsOf}
 use Rattle.words.proofs.Tests.{and-left, and-right, both-true}
 use Rattle.words.proofs.Alls.{all-join, zeros-are, zeros-pass}

@@ -1,6 +1,5 @@
 // Entries, ballots, stop-signs and refusals: module 1 of document 01, and its table of refusals.
 ghost use mathlib.Core.Path.{_≡_};
-ghost use Prim.Native.Nat.{_*_};
 ghost use Rattle.entry.specs.Change.{saidOf, saidFormed, sliceFormed};
 ghost use Rattle.entry.specs.Sign.{signFormed};
 ghost use Rattle.entry.specs.Order.{orderOf, thenBy, ballotOrder, sameBallot};

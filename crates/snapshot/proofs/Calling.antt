@@ -21,8 +21,8 @@ use Rattle.entry.specs.declared.Refusal.the-variants.{TooManyKeys, Malformed}
 use Rattle.entry.proofs.ChangeLaws.{changeAt, entry-cons}
 use Rattle.entry.proofs.GuardLaws.{first-refuses, first-goes-on}
 use Rattle.entry.proofs.SliceLaws.{laid-of, slice-fine, stored-entries, stored-laid}
-use Rattle.snapshot.specs.Folds.{rising, foldOnto, fold, merge, find}
-use Rattle.snapshot.specs.Calls.{snapshotFormed, outcome, written, overRoom, folded, foldCall, mergeCall, placeOf, findCall}
+use Rattle.snapshot.specs.Folds.{rising, foldOnto, fold, merge, find, placeOf}
+use Rattle.snapshot.specs.Calls.{snapshotFormed, outcome, written, overRoom, folded, foldCall, mergeCall, findCall}
 use Rattle.snapshot.specs.Inner.{place, here, spotOf, Holds, Shows, FoldIs, Aside, foldedOut}
 use Rattle.snapshot.specs.declared.Folded.{Folded}
 use Rattle.snapshot.specs.declared.Folded.the-variants.{Keys, Refused}

@@ -106,7 +106,7 @@ find-onto k s [] = refl
 find-onto k s (c ∷ r) = find-onto k (insert c s) r ∙ go (eqb (c .key) k) refl (lastOf k r)
   where
     go : (t : Bool) → eqb (c .key) k ≡ t → (o : Option Said)
-        → orElse o (find k (insert c s)) ≡ orElse (elim o [ some x ↦ some x | none ↦ if t then some (c .said) else none ]) (find k s)
+        → orElse o (find k (insert c s)) ≡ orElse (orElse o (if t then some (c .said) else none)) (find k s)
     go t q (some x) = refl
     go true q none = let e : c .key ≡ k = eqb-true (c .key) k q in rw (← e, find-insert-same c s)
     go false q none = find-insert-other k c s (eqb-false (c .key) k q)

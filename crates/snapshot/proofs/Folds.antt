@@ -87,6 +87,10 @@ climbs-insert k c (d ∷ s) h e = by (λ g. climbs-insert (d .key) c s g (climbs
     by ih (same x) = rw (insert-same c d s x) (climbs-cons k c s h (climbs-down (c .key) (d .key) s (omega arith) (climbs-tail k d s e)))
     by ih (above x) = rw (insert-above c d s x) (climbs-cons k d (insert c s) (climbs-head k d s e) (ih x))
 
+pub rising-climbs : (d : Change) (s : List Change) → rising (d ∷ s) ≡ true → climbs (d .key) s ≡ true
+unfolding rising
+rising-climbs d s e = e
+
 pub rising-insert : (c : Change) (s : List Change) → rising s ≡ true → rising (insert c s) ≡ true
 unfolding rising
 rising-insert c [] e = rw insert-nil (climbs-nil (c .key))

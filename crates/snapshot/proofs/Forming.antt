@@ -1,11 +1,12 @@
 -- Entries in form stay so when they are folded.
-use mathlib.Core.Path.{_≡_}
+use mathlib.Core.Path.{_≡_, refl}
 use mathlib.Core.Bool.{true}
 use mathlib.Core.List.{List, [], _∷_}
+use Rattle.words.specs.All.{allOf}
 use Rattle.words.proofs.Tests.{Stand, below, same, above, stand}
 use Rattle.words.proofs.Alls.{all-head, all-tail, all-cons}
 use Rattle.entry.specs.Change.{Change, changeFormed, formed}
-use Rattle.snapshot.specs.Folds.{insert, foldOnto}
+use Rattle.snapshot.specs.Folds.{insert, foldOnto, fold, merge}
 use Rattle.snapshot.proofs.Folds.{insert-nil, insert-below, insert-same, insert-above}
 
 pub formed-insert : (c : Change) (r : List Change) → changeFormed c ≡ true → formed r ≡ true → formed (insert c r) ≡ true
@@ -21,3 +22,11 @@ pub formed-onto : (s r : List Change) → formed s ≡ true → formed r ≡ tru
 unfolding foldOnto
 formed-onto s [] a b = a
 formed-onto s (c ∷ r) a b = formed-onto (insert c s) r (formed-insert c s (all-head changeFormed c r b) a) (all-tail changeFormed c r b)
+
+pub formed-fold : (r : List Change) → formed r ≡ true → formed (fold r) ≡ true
+unfolding fold allOf
+formed-fold r b = formed-onto [] r refl b
+
+pub formed-merge : (a b : List Change) → formed a ≡ true → formed b ≡ true → formed (merge a b) ≡ true
+unfolding merge
+formed-merge a b p q = formed-onto a b p q

@@ -4,4 +4,8 @@ pub mod Rising
 pub mod Searching
 pub mod Finds
 pub mod Putting
+pub mod Room
+pub mod Algebra
 pub mod Calling
+pub mod OnWords
+pub mod Unique

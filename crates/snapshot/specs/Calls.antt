@@ -7,9 +7,9 @@ use mathlib.Core.Option.{Option, none, some}
 use lib.Dec.{ltb, eqb}
 use lib.ListN.{length}
 use Rattle.entry.specs.Limits.{keyRoom, snapshotWords}
-use Rattle.entry.specs.Change.{Said, place, removed, Change, entriesOf, entriesIn, sliceFormed, stored, storedIn}
+use Rattle.entry.specs.Change.{Change, entriesOf, entriesIn, sliceFormed, stored, storedIn}
 use Rattle.entry.specs.Guards.{Guard, guard, Verdict, passes, refuses, first, Answer, refused, replied, refusedBy, settle}
-use Rattle.snapshot.specs.Folds.{fold, merge, rising, find}
+use Rattle.snapshot.specs.Folds.{fold, merge, rising, find, placeOf}
 use Rattle.snapshot.specs.declared.Folded.{Folded}
 use Rattle.snapshot.specs.declared.Folded.the-variants.{Keys, Refused}
 use Rattle.snapshot.specs.declared.Found.{Found}
@@ -45,12 +45,6 @@ mergeCall a n b m out =
     let s : List Change = merge (entriesOf n a) (entriesOf m b) in
     written (first (guard 11 0 (not (snapshotFormed n a && (snapshotFormed m b && eqb (length out) snapshotWords))) ∷ overRoom s ∷ [])) s out
 
--- "its place or absence": a removed key is absent
-abbrev pub placeOf : Option Said → Option ℕ
-placeOf none = none
-placeOf (some (place p)) = some p
-placeOf (some removed) = none
-
 unfoldable pub findCall : List ℕ → ℕ → ℕ → Answer (Option ℕ)
 findCall ws n k = settle (first (guard 11 0 (not (snapshotFormed n ws)) ∷ [])) (placeOf (find k (entriesOf n ws)))
 
@@ -63,3 +57,7 @@ abbrev pub found : Found → Answer (Option ℕ)
 found (Place p) = replied (some (p .0))
 found Absent = replied none
 found (FindRefused r) = refusedBy r
+
+-- one call after another, on the snapshot that the first wrote; where the first is refused, so is the whole
+abbrev pub afterwards : Outcome → List ℕ → (List ℕ → ℕ → Outcome) → Outcome
+afterwards o out next = elim (o .answer) [ refused n k ↦ outcome (refused n k) out | replied n ↦ next (o .output) n ]

@@ -2,11 +2,11 @@
 use Prim.Native.Nat.{ℕ}
 use mathlib.Core.Bool.{Bool, true, _&&_}
 use mathlib.Core.List.{List, [], _∷_}
-use mathlib.Core.Option.{Option, none, some}
+use mathlib.Core.Option.{Option, none, some, orElse}
 use lib.Dec.{ltb, leb, eqb}
 use lib.ListN.{length}
 use Rattle.words.specs.If.{if_then_else_}
-use Rattle.entry.specs.Change.{Said, Change}
+use Rattle.entry.specs.Change.{Said, place, removed, Change}
 
 -- a change put at its key: in the place of an equal one, else before the first larger one
 unfoldable pub insert : Change → List Change → List Change
@@ -45,10 +45,16 @@ find k (d ∷ s) =
     else if eqb (d .key) k then some (d .said)
     else none
 
+-- "its place or absence": a removed key is absent
+abbrev pub placeOf : Option Said → Option ℕ
+placeOf none = none
+placeOf (some (place p)) = some p
+placeOf (some removed) = none
+
 -- what the last entry of a run for a key says, none if it has none
 unfoldable pub lastOf : ℕ → List Change → Option Said
 lastOf k [] = none
-lastOf k (c ∷ r) = elim (lastOf k r) [ some x ↦ some x | none ↦ if eqb (c .key) k then some (c .said) else none ]
+lastOf k (c ∷ r) = orElse (lastOf k r) (if eqb (c .key) k then some (c .said) else none)
 
 -- a snapshot in so much room, none where it has more keys: refusal 8 for any capacity
 unfoldable pub within : ℕ → List Change → Option (List Change)

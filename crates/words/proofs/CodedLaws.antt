@@ -5,8 +5,8 @@ use Prim.Native.Nat.{ℕ, zero, suc, _+_, _-_, _*_, _≤_, _<_}
 use native.Mathlib.Nat.{add-mul, zero-mul, suc-mul, zero-add, suc-add}
 use native.Mathlib.Omega.{arith}
 use mathlib.Core.Bool.{true}
-use lib.ListN.{length, getD, take, drop, replicate, drop-of-length-le, length-append, length-drop}
-use lib.Seq.{take-append-add, drop-append-add, take-at, drop-at, take-add, drop-drop, take-nil, drop-nil, length-take-le, drop-cons, take-length, drop-length, take-append-seam, drop-append-seam, take-append-le, drop-append-le}
+use lib.ListN.{length, take, drop, replicate, length-append, length-drop}
+use lib.Seq.{take-append-add, drop-append-add, take-at, drop-at, take-add, drop-drop, take-nil, drop-nil, length-take-le, take-length, drop-length, take-append-seam, drop-append-seam, take-append-le, drop-append-le}
 use Rattle.words.specs.All.{allOf}
 use Rattle.words.specs.Words.{laid, spliced}
 use Rattle.words.specs.Coded.{Code, Lawful, wordsOf, entriesAt, laidOut}

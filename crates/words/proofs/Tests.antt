@@ -1,10 +1,10 @@
 -- Tests that compute, and what they tell.
-use Prim.Native.Nat.{ℕ, _<_}
+use Prim.Native.Nat.{ℕ, _<_, _≤_}
 use mathlib.Core.Path.{_≡_, refl}
 use mathlib.Core.Bool.{Bool, true, false, _&&_, and-eq-true-iff}
 use native.Mathlib.Omega.{arith}
-use lib.Dec.{ltb, eqb}
-use borrow.Author.Tests.{ltb-true, ltb-false, eqb-true, eqb-false}
+use lib.Dec.{ltb, leb, eqb}
+use borrow.Author.Tests.{ltb-true, ltb-false, leb-true, leb-false, eqb-true, eqb-false}
 
 -- the three ways in which two numbers stand
 pub data Stand (a b : ℕ) : Type 0 where
@@ -22,6 +22,18 @@ stand a b = first (ltb a b) refl
     first : (t : Bool) → ltb a b ≡ t → Stand a b
     first true e = below (ltb-true a b e)
     first false e = second (eqb a b) e refl
+
+-- whether one number reaches another
+pub data Reach (a b : ℕ) : Type 0 where
+  reached : a ≤ b → Reach a b
+  short : b < a → Reach a b
+
+pub reach : (a b : ℕ) → Reach a b
+reach a b = go (leb a b) refl
+  where
+    go : (t : Bool) → leb a b ≡ t → Reach a b
+    go true e = reached (leb-true a b e)
+    go false e = short (leb-false a b e)
 
 pub and-left : (a b : Bool) → (a && b) ≡ true → a ≡ true
 and-left a b e = and-eq-true-iff a b .0 e .0

@@ -2,7 +2,7 @@
 // its own from `at` on; `laid` and `spliced` are definitions of specs/Words.antt. What a function needs of its arguments it
 // requires: its callers have tested it.
 ghost use mathlib.Core.Path.{_≡_};
-ghost use mathlib.Core.List.{_++_, []};
+ghost use mathlib.Core.List.{[]};
 ghost use Prim.Native.Nat.{_+_, _-_, _≤_};
 ghost use lib.ListN.{length, take, drop, replicate};
 ghost use lib.Seq.{paste};

@@ -10,7 +10,8 @@ use Rattle.entry.specs.Limits.{width}
 use Rattle.entry.specs.Change.{saidOf}
 use Rattle.entry.specs.Guards.{replied}
 use mathlib.Core.Option.{some}
-use Rattle.snapshot.specs.Calls.{snapshotFormed, placeOf, findCall}
+use Rattle.snapshot.specs.Folds.{placeOf}
+use Rattle.snapshot.specs.Calls.{snapshotFormed, findCall}
 use Rattle.snapshot.proofs.Calling.{snapshot-holds, find-malformed, find-none, find-inside, find-word}
 use borrow.Author.Needs.{needs}
 use Rattle.snapshot.proofs.find.Statement.{statement}

@@ -1,6 +1,4 @@
 -- `snapshot::inner::fold_aside` meets its contract: the scratch words are the snapshot's.
-use mathlib.Core.Path.{_∙_}
-use denote.Ref.{now}
 use borrow.Author.Needs.{needs}
 use Rattle.snapshot.proofs.inner.fold_aside.Statement.{statement}
 use Rattle.snapshot.proofs.inner.fold_aside.Tie as tie

@@ -1,9 +1,11 @@
--- The first refusal of a list, one test at a time.
+-- The first refusal of a list: one test at a time, and what is known once all tests pass, found by a refusal's number.
 use Prim.Native.Nat.{ℕ}
-use mathlib.Core.Path.{_≡_}
+use mathlib.Core.Path.{_≡_, refl}
 use mathlib.Core.Bool.{Bool, true, false}
-use mathlib.Core.List.{List, _∷_}
-use Rattle.entry.specs.Guards.{Guard, guard, refuses, first}
+use mathlib.Core.List.{List, [], _∷_, _++_}
+use native.Mathlib.Omega.{arith}
+use lib.Dec.{eqb}
+use Rattle.entry.specs.Guards.{Guard, guard, passes, refuses, first}
 
 module _ (n k : ℕ) (t : Bool) (gs : List Guard) where
   pub first-refuses : t ≡ true → first (guard n k t ∷ gs) ≡ refuses n k
@@ -13,3 +15,47 @@ module _ (n k : ℕ) (t : Bool) (gs : List Guard) where
   pub first-goes-on : t ≡ false → first (guard n k t ∷ gs) ≡ first gs
   unfolding first
   first-goes-on e = rw e
+
+-- no refusal applies
+abbrev pub Passed : List Guard → Type 0
+Passed [] = Unit {0}
+Passed (g ∷ gs) = (g .applies ≡ false) × Passed gs
+
+pub passed : (gs : List Guard) → first gs ≡ passes → Passed gs
+unfolding first
+passed [] e = tt
+passed (g ∷ gs) e = go (λ h. passed gs h) (g .applies) refl
+  where
+    no-pass : refuses (g .number) (g .carried) ≡ passes → ⊥
+    no-pass z = let y : _≡_ {A = ℕ} 0 1 = cc in omega arith
+
+    go : (first gs ≡ passes → Passed gs) → (t : Bool) → g .applies ≡ t → (g .applies ≡ false) × Passed gs
+    go ih true q = absurd (no-pass (rw q at e))
+    go ih false q = (q, ih (rw q at e))
+
+pub passed-right : (gs hs : List Guard) → Passed (gs ++ hs) → Passed hs
+passed-right [] hs p = p
+passed-right (g ∷ gs) hs p = passed-right gs hs (p .1)
+
+-- the same by a refusal's number: `clr 6` says that refusal 6 does not apply, wherever it first stands in the list
+abbrev pub choose : Bool → Type 0 → Type 0 → Type 0
+choose true A B = A
+choose false A B = B
+
+abbrev pub FactOf : ℕ → List Guard → Type 0
+FactOf n [] = Unit {0}
+FactOf n (g ∷ gs) = choose (eqb n (g .number)) (g .applies ≡ false) (FactOf n gs)
+
+abbrev pub Clear : List Guard → Type 0
+Clear gs = (n : ℕ) → FactOf n gs
+
+fact : (n : ℕ) (gs : List Guard) → Passed gs → FactOf n gs
+fact n [] p = tt
+fact n (g ∷ gs) p = go (eqb n (g .number)) (fact n gs (p .1))
+  where
+    go : (t : Bool) → FactOf n gs → choose t (g .applies ≡ false) (FactOf n gs)
+    go true r = p .0
+    go false r = r
+
+pub clear : (gs : List Guard) → Passed gs → Clear gs
+clear gs p n = fact n gs p

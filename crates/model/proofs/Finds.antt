@@ -1,0 +1,31 @@
+-- A lookup finds what the fold of the history's decided part says.
+use Prim.Native.Nat.{ℕ, _-_, _≤_}
+use mathlib.Core.Path.{_≡_, sym, ap, _∙_}
+use mathlib.Core.List.{List}
+use lib.ListN.{take}
+use Rattle.entry.specs.Limits.{largestBatch}
+use Rattle.entry.specs.Change.{Change}
+use Rattle.snapshot.specs.Folds.{fold, merge, find, placeOf}
+use Rattle.snapshot.proofs.Finds.{find-onto}
+use Rattle.model.specs.Numbers.{logDecided}
+use Rattle.model.specs.Log.{Log, numbersOf, orEmpty, foldedTo}
+use Rattle.model.specs.Lookup.{lookupReply}
+use Rattle.model.specs.History.{Event, told, AllTruthful, fresh}
+use Rattle.model.proofs.Forms.{ranges, formed-of}
+use Rattle.model.proofs.Traces.{folded-is, faithful}
+
+-- the newest word among the decided entries, else the snapshot's, is what is found in their fold
+lookup-folded : (k : ℕ) (s : Log) → lookupReply k s ≡ placeOf (find k (foldedTo (logDecided (numbersOf s)) (s .run)))
+unfolding lookupReply foldedTo merge
+lookup-folded k s =
+    ap placeOf (sym (find-onto k (orEmpty (s .run .held)) (take (logDecided (numbersOf s) - s .run .compacted) (s .run .retained))))
+
+module _ (n : ℕ) (sized : n ≤ largestBatch) (es : List Event) (honest : AllTruthful es (fresh n)) where
+  pub lookup-finds : (k : ℕ) → lookupReply k (told es (fresh n) .log)
+      ≡ placeOf (find k (fold (take (logDecided (numbersOf (told es (fresh n) .log))) (told es (fresh n) .history))))
+  lookup-finds k =
+      let f = faithful n sized es honest in
+      let s : Log = told es (fresh n) .log in
+      lookup-folded k s
+      ∙ ap (λ (l : List Change). placeOf (find k l))
+      (folded-is (s .run) (told es (fresh n) .history) (f .agrees) (logDecided (numbersOf s)) (ranges (numbersOf s) (formed-of s (f .formed) .numbers) .low))

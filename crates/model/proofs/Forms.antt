@@ -1,0 +1,168 @@
+-- A well-formed state, as facts with names instead of tests, both ways.
+use Prim.Native.Nat.{ℕ, _+_, _-_, _≤_, min}
+use mathlib.Core.Path.{_≡_, refl}
+use mathlib.Core.Bool.{Bool, true, false, _&&_, _||_, not}
+use mathlib.Core.List.{List}
+use mathlib.Core.Option.{Option, none, some}
+use native.Mathlib.Omega.{arith}
+use borrow.Author.Tests.{ltb-true, leb-true, eqb-true, eqb-false, le-leb, lt-ltb, eq-eqb}
+use lib.Dec.{ltb, leb, eqb}
+use lib.ListN.{length, take}
+use Rattle.words.specs.If.{if_then_else_}
+use Rattle.words.specs.All.{allOf}
+use Rattle.words.proofs.Tests.{and-left, and-right, both-true}
+use Rattle.words.proofs.Alls.{all-take}
+use Rattle.entry.specs.Limits.{entryRoom, keyRoom, lastIndex, largestBatch}
+use Rattle.entry.specs.Change.{Change, changeFormed, formed}
+use Rattle.entry.specs.Sign.{signFormed}
+use Rattle.snapshot.specs.Folds.{merge, rising}
+use Rattle.snapshot.proofs.Algebra.{merge-rises}
+use Rattle.snapshot.proofs.Forming.{formed-merge}
+use Rattle.model.specs.Numbers.{Numbers, endOf, acceptedOf, stopDecided, logDecided, numbersFormed}
+use Rattle.model.specs.Log.{Log, ifGiven, numbersOf, orEmpty, foldedTo, shotFormed, wellFormed}
+
+-- log-decided is the lesser of decided and the end
+pub log-min : (n : Numbers) → n .decided ≤ acceptedOf n → logDecided n ≡ min (n .decided) (endOf n)
+unfolding logDecided stopDecided acceptedOf
+log-min n h = go (n .stop) h
+  where
+    two : (t : Bool) → eqb (n .decided) (endOf n + 1) ≡ t → n .decided ≤ endOf n + 1 → (if t then n .decided - 1 else n .decided) ≡ min (n .decided) (endOf n)
+    two true e k = omega (arith, eqb-true (n .decided) (endOf n + 1) e)
+    two false e k = omega (arith, eqb-false (n .decided) (endOf n + 1) e)
+
+    go : (t : Bool) → n .decided ≤ endOf n + (if t then 1 else 0)
+        → (if t && eqb (n .decided) (endOf n + (if t then 1 else 0)) then n .decided - 1 else n .decided) ≡ min (n .decided) (endOf n)
+    go true k = two (eqb (n .decided) (endOf n + 1)) refl k
+    go false k = omega arith
+
+-- ---- numbers
+
+pub record Sound (n : Numbers) : Type 0 where
+  pub low : n .compacted ≤ n .decided
+  pub high : n .decided ≤ acceptedOf n
+  pub inside : acceptedOf n + n .batched ≤ lastIndex
+  pub small : n .batched ≤ n .size - 1
+  pub quiet : n .stop ≡ true → n .batched ≡ 0
+  pub sized : n .size ≤ largestBatch
+  pub room : n .retained + n .batched ≤ entryRoom
+
+small-of : (b n : ℕ) → (eqb b 0 || ltb b n) ≡ true → b ≤ n - 1
+small-of b n e = go (eqb b 0) refl
+  where
+    go : (t : Bool) → eqb b 0 ≡ t → b ≤ n - 1
+    go true q = omega (arith, eqb-true b 0 q)
+    go false q = omega (arith, ltb-true b n (rw q at e))
+
+of-small : (b n : ℕ) → b ≤ n - 1 → (eqb b 0 || ltb b n) ≡ true
+of-small b n h = go (eqb b 0) refl
+  where
+    go : (t : Bool) → eqb b 0 ≡ t → (t || ltb b n) ≡ true
+    go true q = refl
+    go false q = lt-ltb b n (omega (arith, eqb-false b 0 q))
+
+quiet-of : (t : Bool) (b : ℕ) → (not t || eqb b 0) ≡ true → t ≡ true → b ≡ 0
+quiet-of true b e q = eqb-true b 0 e
+quiet-of false b e q = let z : _≡_ {A = ℕ} 0 1 = cc in omega arith
+
+of-quiet : (t : Bool) (b : ℕ) → (t ≡ true → b ≡ 0) → (not t || eqb b 0) ≡ true
+of-quiet true b h = eq-eqb b 0 (h refl)
+of-quiet false b h = refl
+
+pub sound-of : (n : Numbers) → numbersFormed n ≡ true → Sound n
+unfolding numbersFormed
+sound-of n e =
+    let e₁ = and-right (leb (n .compacted) (logDecided n)) _ e in
+    let e₂ = and-right (leb (logDecided n) (endOf n)) _ e₁ in
+    let e₃ = and-right (leb (n .decided) (acceptedOf n)) _ e₂ in
+    let e₄ = and-right (leb (acceptedOf n + n .batched) lastIndex) _ e₃ in
+    let e₅ = and-right (eqb (n .batched) 0 || ltb (n .batched) (n .size)) _ e₄ in
+    let e₆ = and-right (not (n .stop) || eqb (n .batched) 0) _ e₅ in
+    let high : n .decided ≤ acceptedOf n = leb-true (n .decided) (acceptedOf n) (and-left _ _ e₂) in
+    record {
+      low = omega (arith, leb-true (n .compacted) (logDecided n) (and-left _ _ e), log-min n high);
+      high = high;
+      inside = leb-true (acceptedOf n + n .batched) lastIndex (and-left _ _ e₃);
+      small = small-of (n .batched) (n .size) (and-left _ _ e₄);
+      quiet = quiet-of (n .stop) (n .batched) (and-left _ _ e₅);
+      sized = leb-true (n .size) largestBatch (and-left _ _ e₆);
+      room = leb-true (n .retained + n .batched) entryRoom (and-right (leb (n .size) largestBatch) _ e₆);
+    }
+
+pub of-sound : (n : Numbers) → Sound n → numbersFormed n ≡ true
+unfolding numbersFormed endOf acceptedOf
+of-sound n f =
+    let l : logDecided n ≡ min (n .decided) (endOf n) = log-min n (f .high) in
+    both-true (leb (n .compacted) (logDecided n)) _ (le-leb (n .compacted) (logDecided n) (omega (arith, f .low)))
+    (both-true (leb (logDecided n) (endOf n)) _ (le-leb (logDecided n) (endOf n) (omega arith))
+    (both-true (leb (n .decided) (acceptedOf n)) _ (le-leb (n .decided) (acceptedOf n) (f .high))
+    (both-true (leb (acceptedOf n + n .batched) lastIndex) _ (le-leb (acceptedOf n + n .batched) lastIndex (f .inside))
+    (both-true (eqb (n .batched) 0 || ltb (n .batched) (n .size)) _ (of-small (n .batched) (n .size) (f .small))
+    (both-true (not (n .stop) || eqb (n .batched) 0) _ (of-quiet (n .stop) (n .batched) (f .quiet))
+    (both-true (leb (n .size) largestBatch) _ (le-leb (n .size) largestBatch (f .sized)) (le-leb (n .retained + n .batched) entryRoom (f .room))))))))
+
+-- where log-decided lies
+pub record Ranges (n : Numbers) : Type 0 where
+  pub low : n .compacted ≤ logDecided n
+  pub high : logDecided n ≤ endOf n
+
+pub ranges : (n : Numbers) → Sound n → Ranges n
+unfolding endOf
+ranges n f =
+    let l : logDecided n ≡ min (n .decided) (endOf n) = log-min n (f .high) in
+    record { low = omega (arith, f .low); high = omega arith }
+
+-- ---- states
+
+pub record Formed (s : Log) : Type 0 where
+  pub numbers : Sound (numbersOf s)
+  pub entries : formed (s .run .retained) ≡ true
+  pub batch : formed (s .tail .batched) ≡ true
+  pub shot : ifGiven shotFormed (s .run .held) ≡ true
+  pub stop : ifGiven signFormed (s .tail .sign) ≡ true
+
+pub formed-of : (s : Log) → wellFormed s ≡ true → Formed s
+unfolding wellFormed
+formed-of s e =
+    let e₁ = and-right (numbersFormed (numbersOf s)) _ e in
+    let e₂ = and-right (formed (s .run .retained)) _ e₁ in
+    let e₃ = and-right (formed (s .tail .batched)) _ e₂ in
+    record {
+      numbers = sound-of (numbersOf s) (and-left _ _ e);
+      entries = and-left _ _ e₁;
+      batch = and-left _ _ e₂;
+      shot = and-left _ _ e₃;
+      stop = and-right (ifGiven shotFormed (s .run .held)) _ e₃;
+    }
+
+pub of-formed : (s : Log) → Formed s → wellFormed s ≡ true
+unfolding wellFormed
+of-formed s f =
+    both-true (numbersFormed (numbersOf s)) _ (of-sound (numbersOf s) (f .numbers))
+    (both-true (formed (s .run .retained)) _ (f .entries)
+    (both-true (formed (s .tail .batched)) _ (f .batch) (both-true (ifGiven shotFormed (s .run .held)) _ (f .shot) (f .stop))))
+
+-- ---- snapshots: the one held, and those made from it
+
+pub record Shot (t : List Change) : Type 0 where
+  pub rises : rising t ≡ true
+  pub fine : formed t ≡ true
+
+pub shot-held : (h : Option (List Change)) → ifGiven shotFormed h ≡ true → Shot (orEmpty h)
+unfolding shotFormed rising allOf
+shot-held none e = record { rises = refl; fine = refl }
+shot-held (some t) e =
+    let q = and-right (rising t) (leb (length t) keyRoom && formed t) e in
+    record { rises = and-left (rising t) (leb (length t) keyRoom && formed t) e; fine = and-right (leb (length t) keyRoom) (formed t) q }
+
+pub shot-merge : (t r : List Change) → Shot t → formed r ≡ true → Shot (merge t r)
+shot-merge t r a b = record { rises = merge-rises t r (a .rises); fine = formed-merge t r (a .fine) b }
+
+pub of-shot : (t : List Change) → Shot t → length t ≤ keyRoom → shotFormed t ≡ true
+unfolding shotFormed
+of-shot t a h = both-true (rising t) _ (a .rises) (both-true (leb (length t) keyRoom) (formed t) (le-leb (length t) keyRoom h) (a .fine))
+
+pub shot-folded : (i : ℕ) (s : Log) → Formed s → Shot (foldedTo i (s .run))
+unfolding foldedTo
+shot-folded i s f =
+    shot-merge (orEmpty (s .run .held)) (take (i - s .run .compacted) (s .run .retained)) (shot-held (s .run .held) (f .shot))
+    (all-take changeFormed (i - s .run .compacted) (s .run .retained) (f .entries))

@@ -1,0 +1,105 @@
+-- The history of a log as document 01 defines it, and a run of calls with what their syncs stand for.
+use Prim.Native.Nat.{ℕ, _-_}
+use mathlib.Core.Path.{_≡_}
+use mathlib.Core.List.{List, [], _∷_, _++_}
+use mathlib.Core.Option.{none, some}
+use lib.ListN.{length, take}
+use Rattle.words.specs.If.{if_then_else_}
+use Rattle.entry.specs.Change.{Change}
+use Rattle.entry.specs.Guards.{Verdict, passes, refuses, first}
+use Rattle.snapshot.specs.Folds.{fold}
+use Rattle.model.specs.Numbers.{logDecided}
+use Rattle.model.specs.Log.{Log, numbersOf, freshLog}
+use Rattle.model.specs.Append.{fills, batchWith}
+use Rattle.model.specs.Diff.{plain, complete, delta}
+use Rattle.model.specs.Sync.{Part}
+use Rattle.model.specs.Calls.{Call, query, append, appendNow, flush, flushEntries, appendStop, setStop, setPromise, decide, trim, snapshot, sync, reload, write, guards, stateAfter}
+
+-- "A plain sync keeps the first sync_idx and joins the suffix. A complete sync stands for a list of sync_idx entries, a delta for
+-- sync_idx less log-decided (as held before the call) of them, following our first log-decided; then the suffix." x is that list
+unfoldable pub syncedHistory : Part → List Change → Log → List Change → List Change
+syncedHistory p x s h =
+    elim (p .snapshot) [
+      | plain ↦ take (p .idx) h ++ p .suffix
+      | complete c ↦ x ++ p .suffix
+      | delta d ↦ (take (logDecided (numbersOf s)) h ++ x) ++ p .suffix
+    ]
+
+-- "appended entries join when flushed, unbatched ones at once"
+unfoldable pub grown : Call → List Change → Log → List Change → List Change
+grown (query q) x s h = h
+grown (append es) x s h = if fills es s then h ++ batchWith es s else h
+grown (appendNow es) x s h = h ++ es
+grown flush x s h = h ++ s .tail .batched
+grown flushEntries x s h = h ++ s .tail .batched
+grown (appendStop g) x s h = h ++ s .tail .batched
+grown (setStop g) x s h = h
+grown (setPromise b) x s h = h
+grown (decide i) x s h = h
+grown (trim i) x s h = h
+grown (snapshot i) x s h = h
+grown (sync b d none) x s h = h
+grown (sync b d (some p)) x s h = syncedHistory p x s h
+grown reload x s h = h
+grown (write l ops) x s h = h
+
+-- "each accepted sync's snapshot is the fold of the entries it stands for", and they are as many as document 01 says
+unfoldable pub Stands : Part → List Change → Log → Type 0
+Stands p x s =
+    elim (p .snapshot) [
+      | plain ↦ Unit {0}
+      | complete c ↦ (length x ≡ p .idx) × (c ≡ fold x)
+      | delta d ↦ (length x ≡ p .idx - logDecided (numbersOf s)) × (d ≡ fold x)
+    ]
+
+-- "none a trim, an operation list or a reload"
+unfoldable pub Truthful : Call → List Change → Log → Type 0
+Truthful (query q) x s = Unit {0}
+Truthful (append es) x s = Unit {0}
+Truthful (appendNow es) x s = Unit {0}
+Truthful flush x s = Unit {0}
+Truthful flushEntries x s = Unit {0}
+Truthful (appendStop g) x s = Unit {0}
+Truthful (setStop g) x s = Unit {0}
+Truthful (setPromise b) x s = Unit {0}
+Truthful (decide i) x s = Unit {0}
+Truthful (trim i) x s = ⊥
+Truthful (snapshot i) x s = Unit {0}
+Truthful (sync b d none) x s = Unit {0}
+Truthful (sync b d (some p)) x s = Stands p x s
+Truthful reload x s = ⊥
+Truthful (write l ops) x s = ⊥
+
+-- a call, and the list that its sync's snapshot stands for (of no account elsewhere)
+pub record Event : Type 0 where
+  pub call : Call
+  pub behind : List Change
+
+pub record Told : Type 0 where
+  pub log : Log
+  pub history : List Change
+
+abbrev pub historyAfter : Verdict → List Change → List Change → List Change
+historyAfter passes new h = new
+historyAfter (refuses n k) new h = h
+
+unfoldable pub next : Event → Told → Told
+next e t = record {
+  log = stateAfter (e .call) (t .log);
+  history = historyAfter (first (guards (e .call) (t .log))) (grown (e .call) (e .behind) (t .log) (t .history)) (t .history);
+}
+
+-- "each call is given the state … that the one before left"
+unfoldable pub told : List Event → Told → Told
+told [] t = t
+told (e ∷ es) t = told es (next e t)
+
+-- every call that stands is truthful; refused ones may be any
+unfoldable pub AllTruthful : List Event → Told → Type 0
+AllTruthful [] t = Unit {0}
+AllTruthful (e ∷ es) t =
+    (first (guards (e .call) (t .log)) ≡ passes → Truthful (e .call) (e .behind) (t .log)) × AllTruthful es (next e t)
+
+-- "History: it starts empty"
+unfoldable pub fresh : ℕ → Told
+fresh n = record { log = freshLog n; history = [] }

@@ -1,0 +1,13 @@
+pub mod Numbers
+pub mod Log
+pub mod Append
+pub mod Backend
+pub mod Read
+pub mod Compact
+pub mod Diff
+pub mod Sync
+pub mod Lookup
+pub mod Calls
+pub mod Orders
+pub mod History
+pub mod Cases

@@ -1,0 +1,5 @@
+pub mod Small
+pub mod Fields
+pub mod Stands
+pub mod Runs
+pub mod Changes

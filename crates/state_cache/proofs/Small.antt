@@ -1,0 +1,49 @@
+-- The bounds within which the sums of the numbers fit: well-formed numbers keep them.
+use Prim.Native.Nat.{ℕ, _+_, _≤_}
+use mathlib.Core.Path.{_≡_, refl, sym, _∙_}
+use mathlib.Core.Bool.{Bool, true, false, true≢false}
+use native.Mathlib.Omega.{arith}
+use borrow.Author.Tests.{leb-true, le-leb}
+use lib.Dec.{leb}
+use Rattle.words.specs.If.{if_then_else_}
+use Rattle.words.proofs.Tests.{and-left, and-right, both-true}
+use Rattle.entry.specs.Limits.{entryRoom, lastIndex}
+use Rattle.model.specs.Numbers.{Numbers, endOf, acceptedOf, numbersFormed}
+use Rattle.model.proofs.Forms.{Sound, sound-of}
+use Rattle.state_cache.specs.State.{oneIf, sizesFormed, Small}
+
+pub one-le : (b : Bool) → oneIf b ≤ 1
+one-le true = omega arith
+one-le false = omega arith
+
+pub accepted-le : (n : Numbers) → acceptedOf n ≤ endOf n + 1
+unfolding acceptedOf
+accepted-le n = omega (arith, one-le (n .stop))
+
+pub end-le : (n : Numbers) → endOf n ≤ acceptedOf n
+unfolding acceptedOf
+end-le n = omega arith
+
+pub small-of : (n : Numbers) → sizesFormed n ≡ true → Small n
+unfolding sizesFormed
+small-of n e =
+    let e₂ = and-right (leb (n .retained) entryRoom) _ e in
+    record {
+      few = leb-true (n .retained) entryRoom (and-left _ _ e);
+      waiting = leb-true (n .batched) entryRoom (and-left _ _ e₂);
+      low = leb-true (n .compacted) lastIndex (and-right (leb (n .batched) entryRoom) _ e₂);
+    }
+
+pub sound-small : (n : Numbers) → Sound n → Small n
+unfolding acceptedOf endOf
+sound-small n f = record { few = omega (arith, f .room); waiting = omega (arith, f .room); low = omega (arith, f .low, f .high, f .inside) }
+
+pub sizes-fail : (n : Numbers) → sizesFormed n ≡ false → numbersFormed n ≡ false
+unfolding sizesFormed
+sizes-fail n e = go (numbersFormed n) refl
+  where
+    go : (t : Bool) → numbersFormed n ≡ t → t ≡ false
+    go true q =
+        let s = sound-small n (sound-of n q) in
+        absurd (true≢false (sym (both-true (leb (n .retained) entryRoom) _ (le-leb (n .retained) entryRoom (s .few)) (both-true (leb (n .batched) entryRoom) _ (le-leb (n .batched) entryRoom (s .waiting)) (le-leb (n .compacted) lastIndex (s .low)))) ∙ e))
+    go false q = refl

@@ -1,0 +1,52 @@
+-- `state_cache::fresh` meets its contract: refusal 11, or zeros over both slices.
+use mathlib.Core.Path.{_≡_, ap, _∙_}
+use borrow.Author.Tests.{not-true, not-false}
+use denote.Ref.{now}
+use Rattle.state_cache.proofs.Changes.{fresh-refused, fresh-stands}
+use borrow.Author.Needs.{needs}
+use Rattle.state_cache.proofs.fresh.Statement.{statement}
+use Rattle.state_cache.proofs.fresh.Tie as tie
+
+fresh-index-requires : tie.Need-fresh-index-requires
+fresh-index-requires c κs = search needs
+
+returns : tie.Need-returns
+returns c =
+    let st = c .before .before .before .before in
+    rw (c .fresh-index .ensures) (fresh-refused (st .args .batch-size) (now (st .args .log)) (now (st .args .snapshot)) (not-true _ (c .before .if1 .taken)))
+
+clear-requires : tie.Need-clear-requires
+clear-requires c κs = search needs
+
+clear-requires-2 : tie.Need-clear-requires-2
+clear-requires-2 c κs = search needs
+
+fresh-index-requires-2 : tie.Need-fresh-index-requires-2
+fresh-index-requires-2 c κs = search needs
+
+same-length : tie.Need-same-length
+same-length c = search needs
+
+same-length-2 : tie.Need-same-length-2
+same-length-2 c = search needs
+
+returns-2 : tie.Need-returns-2
+returns-2 c =
+    let k2 = c .before .before .before in
+    let k1 = k2 .before .before .before .before in
+    let e = k1 .before .before in
+    let st = e .before .before .before in
+    rw (c .fresh-index2 .ensures) (fresh-stands (st .args .batch-size) (now (st .args .log)) (now (st .args .snapshot)) (not-false _ (e .if1 .left)) (k1 .clear .last .0) (k2 .clear2 .last .0) (k1 .clear .ensures) (k2 .clear2 .ensures))
+
+pub fresh-spec : {M : Type 1} → statement M
+fresh-spec =
+    tie.close
+    (tie.spec
+    fresh-index-requires
+    returns
+    clear-requires
+    clear-requires-2
+    fresh-index-requires-2
+    same-length
+    same-length-2
+    returns-2)

@@ -1,0 +1,24 @@
+-- `state_cache::inner::accepted` meets its contract: a sum.
+use native.Mathlib.Omega.{arith}
+use Rattle.model.specs.Numbers.{endOf, acceptedOf}
+use Rattle.state_cache.proofs.Small.{one-le}
+use borrow.Author.Needs.{needs}
+use Rattle.state_cache.proofs.inner.accepted.Statement.{statement}
+use Rattle.state_cache.proofs.inner.accepted.Tie as tie
+
+end-requires : tie.Need-end-requires
+end-requires c κs = search needs
+
+one-if-requires : tie.Need-one-if-requires
+one-if-requires c κs = search needs
+
+add-result : tie.Need-add-result
+unfolding endOf
+add-result c = omega (arith, one-le (c .before .before .args .index .«stop_held»), c .before .end .ensures)
+
+returns : tie.Need-returns
+unfolding acceptedOf
+returns c = cc
+
+pub accepted-spec : {M : Type 1} → statement M
+accepted-spec = tie.close (tie.spec end-requires one-if-requires add-result returns)

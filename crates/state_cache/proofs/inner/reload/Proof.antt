@@ -1,0 +1,54 @@
+-- `state_cache::inner::reload` meets its contract: the batch's words are cut off, and its count is zero.
+use native.Mathlib.Omega.{arith}
+use denote.Ref.{now}
+use Rattle.state_cache.specs.State.{raw}
+use Rattle.state_cache.proofs.Small.{sound-small}
+use Rattle.state_cache.proofs.Changes.{reload-runs}
+use borrow.Author.Needs.{needs}
+use Rattle.state_cache.proofs.inner.reload.Statement.{statement}
+use Rattle.state_cache.proofs.inner.reload.Tie as tie
+
+add-used : tie.Need-add-used
+add-used c = search needs
+
+mul-used : tie.Need-mul-used
+mul-used c = search needs
+
+mul-cut-out : tie.Need-mul-cut-out
+mul-cut-out c = search needs
+
+mul-cut-out-2 : tie.Need-mul-cut-out-2
+mul-cut-out-2 c = search needs
+
+cut-out-requires : tie.Need-cut-out-requires
+cut-out-requires c κs =
+    let st = c .before .before .before .before .before .before in
+    (omega (arith, st .pre .numbers .room), (omega (arith, st .pre .log .fits, st .pre .log .long), st .pre .log .zeros))
+
+accepted-requires : tie.Need-accepted-requires
+accepted-requires c κs =
+    let st = c .before .before .before .before .before .before .before .before .before in
+    let s = sound-small _ (st .pre .numbers) in
+    record { few = s .few; waiting = omega arith; low = s .low }
+
+same-length : tie.Need-same-length
+same-length c = search needs
+
+returns : tie.Need-returns
+returns c =
+    let k = c .before .before .before in
+    let st = k .before .before .before .before .before .before .before in
+    reload-runs (raw (st .args .index) (now (st .args .log)) (now (st .args .snapshot))) (st .pre .okay) (k .cut-out .last .0) (k .cut-out .ensures) (c .accepted .result) (c .accepted .ensures)
+
+pub reload-spec : {M : Type 1} → statement M
+reload-spec =
+    tie.close
+    (tie.spec
+    add-used
+    mul-used
+    mul-cut-out
+    mul-cut-out-2
+    cut-out-requires
+    accepted-requires
+    same-length
+    returns)

@@ -1,0 +1,18 @@
+-- `state_cache::inner::stop_formed` meets its contract: each callee says its own test.
+use Rattle.state_cache.specs.State.{signHeld}
+use borrow.Author.Needs.{needs}
+use Rattle.state_cache.proofs.inner.stop_formed.Statement.{statement}
+use Rattle.state_cache.proofs.inner.stop_formed.Tie as tie
+
+sign-formed-requires : tie.Need-sign-formed-requires
+sign-formed-requires c κs = search needs
+
+sign-blank-requires : tie.Need-sign-blank-requires
+sign-blank-requires c κs = search needs
+
+returns : tie.Need-returns
+unfolding signHeld
+returns c = cc
+
+pub stop-formed-spec : {M : Type 1} → statement M
+stop-formed-spec = tie.close (tie.spec sign-formed-requires sign-blank-requires returns)

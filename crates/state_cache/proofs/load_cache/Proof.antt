@@ -1,0 +1,40 @@
+-- `state_cache::load_cache` meets its contract: refusal 12, or the batch dropped.
+use mathlib.Core.Path.{_≡_, sym, _∙_}
+use mathlib.Core.Bool.{true}
+use borrow.Author.Tests.{not-true, not-false}
+use denote.Ref.{now}
+use Rattle.model.specs.Calls.{reload}
+use Rattle.state_cache.specs.State.{raw}
+use Rattle.state_cache.proofs.Stands.{ready-of}
+use Rattle.state_cache.proofs.Runs.{ill-formed}
+use borrow.Author.Needs.{needs}
+use Rattle.state_cache.proofs.load_cache.Statement.{statement}
+use Rattle.state_cache.proofs.load_cache.Tie as tie
+
+well-formed-requires : tie.Need-well-formed-requires
+well-formed-requires c κs = search needs
+
+same-length : tie.Need-same-length
+same-length c = search needs
+
+returns : tie.Need-returns
+returns c =
+    let st = c .before .before .before .before .before in
+    ill-formed reload true (raw (st .args .index) (now (st .args .log)) (now (st .args .snapshot))) (sym (c .before .well-formed .ensures) ∙ not-true _ (c .if1 .taken))
+
+reload-requires : tie.Need-reload-requires
+reload-requires c κs =
+    let e = c .before in
+    let st = e .before .before .before .before .before in
+    ready-of (raw (st .args .index) (now (st .args .log)) (now (st .args .snapshot))) (sym (e .before .well-formed .ensures) ∙ not-false _ (e .if1 .left))
+
+same-length-2 : tie.Need-same-length-2
+same-length-2 c = search needs
+
+returns-2 : tie.Need-returns-2
+returns-2 c = search needs
+
+pub load-cache-spec : {M : Type 1} → statement M
+load-cache-spec =
+    tie.close
+    (tie.spec well-formed-requires same-length returns reload-requires same-length-2 returns-2)

@@ -1,0 +1,53 @@
+-- `state_cache::well_formed` meets its contract: the sizes first, so that the sums of the rest fit.
+use mathlib.Core.Path.{_≡_, sym, _∙_}
+use native.Mathlib.Omega.{arith}
+use borrow.Author.Tests.{not-true, not-false}
+use Rattle.state_cache.specs.State.{numbersIn, formed, Small}
+use Rattle.state_cache.proofs.Small.{small-of, sizes-fail}
+use borrow.Author.Needs.{needs}
+use Rattle.state_cache.proofs.well_formed.Statement.{statement}
+use Rattle.state_cache.proofs.well_formed.Tie as tie
+
+small : (e : tie.Else1) → Small (numbersIn (e .before .before .before .before .args .index))
+small e = small-of _ (sym (e .before .sizes-formed .ensures) ∙ not-false _ (e .if1 .left))
+
+sizes-formed-requires : tie.Need-sizes-formed-requires
+sizes-formed-requires c κs = search needs
+
+returns : tie.Need-returns
+unfolding formed
+returns c = rw (sizes-fail _ (sym (c .before .sizes-formed .ensures) ∙ not-true _ (c .if1 .taken)))
+
+numbers-formed-requires : tie.Need-numbers-formed-requires
+numbers-formed-requires c κs = small c
+
+stop-formed-requires : tie.Need-stop-formed-requires
+stop-formed-requires c κs = search needs
+
+add-laid-out : tie.Need-add-laid-out
+add-laid-out c =
+    let s = small (c .before .before .before) in
+    omega (arith, s .few, s .waiting)
+
+laid-out-requires : tie.Need-laid-out-requires
+laid-out-requires c κs = search needs
+
+shot-formed-requires : tie.Need-shot-formed-requires
+shot-formed-requires c κs = search needs
+
+returns-2 : tie.Need-returns-2
+unfolding formed
+returns-2 c = cc
+
+pub well-formed-spec : {M : Type 1} → statement M
+well-formed-spec =
+    tie.close
+    (tie.spec
+    sizes-formed-requires
+    returns
+    numbers-formed-requires
+    stop-formed-requires
+    add-laid-out
+    laid-out-requires
+    shot-formed-requires
+    returns-2)

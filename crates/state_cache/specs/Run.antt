@@ -1,0 +1,48 @@
+-- What a call comes to: of any state and any request, its answer and the state after it. Every exported call is an equation with `run`.
+use Prim.Native.Nat.{ℕ}
+use mathlib.Core.Bool.{Bool, _&&_, not}
+use mathlib.Core.List.{List, [], _∷_}
+use lib.Dec.{leb, eqb}
+use lib.ListN.{length}
+use Rattle.words.specs.If.{if_then_else_}
+use Rattle.entry.specs.Limits.{largestBatch, logWords, snapshotWords}
+use Rattle.entry.specs.Guards.{Answer, refused, replied, refusedBy}
+use Rattle.model.specs.Log.{freshLog}
+use Rattle.model.specs.Calls.{Call, Reply, answerTo, stateAfter}
+use Rattle.state_cache.specs.State.{Raw, raw, formed, logOf, indexOf, rawOf}
+use Rattle.state_cache.specs.declared.Settled.{Settled}
+use Rattle.state_cache.specs.declared.Settled.the-variants.{Done, Refused}
+use Rattle.state_cache.specs.declared.Accepted.{Accepted}
+use Rattle.state_cache.specs.declared.Accepted.the-variants.{At, Refused as AcceptedRefused}
+
+pub record Outcome (A : Type 0) : Type 0 where
+  pub answer : Answer A
+  pub after : Raw
+
+abbrev pub outcome : {A : Type 0} → Answer A → Raw → Outcome A
+outcome a r = record { answer = a; after = r }
+
+-- 12 first; then 11 where the lent words are not whole entries, or a slice beside them has another length than it should (`whole`
+-- is then false); then the model
+unfoldable pub run : (c : Call) → Bool → Raw → Outcome (Reply c)
+run c whole r =
+    if formed r
+    then (if whole then outcome (answerTo c (logOf r)) (rawOf (stateAfter c (logOf r))) else outcome (refused 11 0) r)
+    else outcome (refused 12 0) r
+
+-- what the code's answers say
+abbrev pub settled : Settled → Answer (Unit {0})
+settled Done = replied tt
+settled (Refused r) = refusedBy r
+
+abbrev pub accepted : Accepted → Answer ℕ
+accepted (At i) = replied (i .0)
+accepted (AcceptedRefused r) = refusedBy r
+
+-- a fresh log: 11 for a batch size above 64 or a slice of wrong length; there is no record yet, and the one beside a refusal is that
+-- of a log with batch size 0
+unfoldable pub freshCall : ℕ → List ℕ → List ℕ → Outcome (Unit {0})
+freshCall n log snapshot =
+    if leb n largestBatch && (eqb (length log) logWords && eqb (length snapshot) snapshotWords)
+    then outcome (replied tt) (rawOf (freshLog n))
+    else outcome (refused 11 0) (raw (indexOf (freshLog 0)) log snapshot)

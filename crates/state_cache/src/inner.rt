@@ -1,0 +1,160 @@
+// The numbers of an index record, for the crates above: not for a user, whose calls are in lib.rt. What a function needs of the
+// record it requires: its callers have tested it.
+use super::Accepted;
+use super::AcceptedAt;
+use super::IndexRecord;
+use entry::Ballot;
+use entry::LogIndex;
+use entry::StopSign;
+ghost use mathlib.Core.Path.{_≡_};
+ghost use mathlib.Core.Bool.{true};
+ghost use Rattle.model.specs.Log.{freshLog};
+ghost use Rattle.model.specs.Calls.{reload};
+ghost use Rattle.model.specs.Numbers.{endOf, acceptedOf, stopDecided, logDecided, numbersFormed};
+ghost use Rattle.state_cache.specs.State.{raw, numbersIn, oneIf, Small, sizesFormed, signHeld, shotHeld, indexOf, Ready};
+ghost use Rattle.state_cache.specs.Run.{outcome, run, accepted as acceptedIs};
+
+fn one_if(b: bool) -> u64
+    ensures { λ x. ⌜ x ≡ oneIf b ⌝ }
+{
+    if b { 1 } else { 0 }
+}
+
+// The index after the last retained entry.
+pub fn end(index: IndexRecord) -> u64
+    requires { ⌜ Small (numbersIn index) ⌝ }
+    ensures { λ x. ⌜ x ≡ endOf (numbersIn index) ⌝ }
+{
+    index.compacted.0 + index.retained as u64
+}
+
+// The end, and one more where a stop-sign is held.
+pub fn accepted(index: IndexRecord) -> u64
+    requires { ⌜ Small (numbersIn index) ⌝ }
+    ensures { λ x. ⌜ x ≡ acceptedOf (numbersIn index) ⌝ }
+{
+    end(index) + one_if(index.stop_held)
+}
+
+// Whether the stop-sign is held and decided.
+pub fn stop_decided(index: IndexRecord) -> bool
+    requires { ⌜ Small (numbersIn index) ⌝ }
+    ensures { λ x. ⌜ x ≡ stopDecided (numbersIn index) ⌝ }
+{
+    let last = accepted(index);
+    index.stop_held & (index.decided.0 == last)
+}
+
+// The decided index without the stop-sign.
+pub fn log_decided(index: IndexRecord) -> u64
+    requires { ⌜ Small (numbersIn index) ⌝ }
+    ensures { λ x. ⌜ x ≡ logDecided (numbersIn index) ⌝ }
+{
+    let decided = index.decided.0;
+    if stop_decided(index) {
+        if decided == 0 {
+            return 0;
+        }
+        return decided - 1;
+    }
+    decided
+}
+
+// The bounds within which the sums of the other tests fit.
+pub fn sizes_formed(index: IndexRecord) -> bool
+    ensures { λ x. ⌜ x ≡ sizesFormed (numbersIn index) ⌝ }
+{
+    (index.retained <= entry::ENTRIES)
+        & ((index.batched <= entry::ENTRIES) & (index.compacted.0 <= entry::LAST_INDEX))
+}
+
+// The tests that look at numbers alone.
+pub fn numbers_formed(index: IndexRecord) -> bool
+    requires { ⌜ Small (numbersIn index) ⌝ }
+    ensures { λ x. ⌜ x ≡ numbersFormed (numbersIn index) ⌝ }
+{
+    let low = log_decided(index);
+    let last = end(index);
+    let all = accepted(index);
+    let waiting = index.batched as u64;
+    (index.compacted.0 <= low)
+        & ((low <= last)
+            & ((index.decided.0 <= all)
+                & ((all + waiting <= entry::LAST_INDEX)
+                    & (((waiting == 0) | (waiting < index.batch_size))
+                        & ((!index.stop_held | (waiting == 0))
+                            & ((index.batch_size <= entry::LARGEST_BATCH)
+                                & (index.retained + index.batched <= entry::ENTRIES)))))))
+}
+
+// The stop-sign is in form where one is held, and blank else.
+pub fn stop_formed(index: IndexRecord) -> bool
+    ensures { λ x. ⌜ x ≡ signHeld index ⌝ }
+{
+    let stop = index.stop;
+    let formed = entry::sign_formed(stop);
+    let blank = entry::inner::sign_blank(stop);
+    (index.stop_held & formed) | (!index.stop_held & blank)
+}
+
+// The snapshot is in form, and has no key where none is held.
+pub fn shot_formed(index: IndexRecord, snapshot: &[u64]) -> bool
+    ensures { λ x. ⌜ x ≡ shotHeld index (now (snapshot .entry)) ⌝ }
+{
+    let fine = snapshot::snapshot_formed(snapshot, index.keys);
+    fine & (index.snapshot_held | (index.keys == 0))
+}
+
+// The record of a fresh log.
+pub fn fresh_index(batch_size: u64) -> IndexRecord
+    ensures { λ r. ⌜ r ≡ indexOf (freshLog «batch_size») ⌝ }
+{
+    let none = Ballot {
+        config_id: 0,
+        n: 0,
+        priority: 0,
+        pid: 0,
+    };
+    let stop = StopSign {
+        config_id: 0,
+        node_count: 0,
+        nodes: [0; 7],
+        metadata_held: false,
+        metadata_len: 0,
+        metadata: [0; 32],
+    };
+    IndexRecord {
+        batch_size,
+        retained: 0,
+        batched: 0,
+        compacted: LogIndex(0),
+        decided: LogIndex(0),
+        promise: none,
+        accepted_round: none,
+        snapshot_held: false,
+        keys: 0,
+        stop_held: false,
+        stop,
+    }
+}
+
+// Drops the batch of a well-formed log.
+pub fn reload(index: IndexRecord, log: &mut [u64], snapshot: &[u64]) -> AcceptedAt
+    requires { ⌜ Ready (raw index (now log) (now snapshot)) ⌝ }
+    ensures { λ r. ⌜ outcome (acceptedIs (r .answer)) (raw (r .index) (now (log .exit)) (now (snapshot .entry))) ≡ run reload true (raw index (now (log .entry)) (now (snapshot .entry))) ⌝ }
+{
+    let used = (index.retained + index.batched) * entry::WIDTH;
+    words::cut_out(
+        log,
+        used,
+        index.retained * entry::WIDTH,
+        index.batched * entry::WIDTH,
+    );
+    let mut next = index;
+    next.batched = 0;
+    let last = accepted(next);
+    AcceptedAt {
+        answer: Accepted::At(LogIndex(last)),
+        index: next,
+    }
+}

@@ -1,11 +1,11 @@
 -- The first refusal of a list: one test at a time, and what is known once all tests pass, found by a refusal's number.
 use Prim.Native.Nat.{ℕ}
-use mathlib.Core.Path.{_≡_, refl}
+use mathlib.Core.Path.{_≡_, refl, _∙_}
 use mathlib.Core.Bool.{Bool, true, false}
 use mathlib.Core.List.{List, [], _∷_, _++_}
 use native.Mathlib.Omega.{arith}
 use lib.Dec.{eqb}
-use Rattle.entry.specs.Guards.{Guard, guard, passes, refuses, first}
+use Rattle.entry.specs.Guards.{Guard, guard, Verdict, passes, refuses, first}
 
 module _ (n k : ℕ) (t : Bool) (gs : List Guard) where
   pub first-refuses : t ≡ true → first (guard n k t ∷ gs) ≡ refuses n k
@@ -59,3 +59,15 @@ fact n (g ∷ gs) p = go (eqb n (g .number)) (fact n gs (p .1))
 
 pub clear : (gs : List Guard) → Passed gs → Clear gs
 clear gs p n = fact n gs p
+
+-- a verdict found test by test, as the code takes them
+pub data Finds : List Guard → Verdict → Type 0 where
+  clear-all : Finds [] passes
+  passing : {g : Guard} {gs : List Guard} {v : Verdict} → g .applies ≡ false → Finds gs v → Finds (g ∷ gs) v
+  stopping : {g : Guard} {gs : List Guard} {m : ℕ} → g .applies ≡ true → m ≡ g .carried → Finds (g ∷ gs) (refuses (g .number) m)
+
+pub found : {gs : List Guard} {v : Verdict} → Finds gs v → v ≡ first gs
+unfolding first
+found clear-all = refl
+found (passing e f) = found f ∙ rw e
+found (stopping e q) = rw (e, q)

@@ -21,7 +21,7 @@ use Rattle.entry.specs.Guards.{first, refused, replied}
 use Rattle.entry.proofs.ChangeLaws.{changeOk}
 use Rattle.entry.proofs.SliceLaws.{stored-length, stored-entries}
 use Rattle.model.specs.Numbers.{acceptedOf}
-use Rattle.model.specs.Log.{Log, numbersOf, wellFormed, freshLog}
+use Rattle.model.specs.Log.{Log, wellFormed, freshLog}
 use Rattle.model.specs.Append.{reloaded}
 use Rattle.model.specs.Calls.{reload, malformed, further, effect, replyOf}
 use Rattle.model.proofs.Forms.{formed-of}

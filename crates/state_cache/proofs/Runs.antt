@@ -1,10 +1,9 @@
 -- How a call goes through `run`: the ways out in their order, each written once for all calls.
 use Prim.Native.Nat.{ℕ}
-use mathlib.Core.Path.{_≡_, refl, sym, ap, _∙_}
-use mathlib.Core.Bool.{Bool, true, false, _&&_, not}
-use mathlib.Core.List.{List, _∷_}
-use borrow.Author.Tests.{not-true, not-false}
-use Rattle.entry.specs.Guards.{guard, Verdict, passes, refuses, first, Answer, refused, replied, settle}
+use mathlib.Core.Path.{_≡_, sym, ap, _∙_}
+use mathlib.Core.Bool.{Bool, true, false, not}
+use mathlib.Core.List.{_∷_}
+use Rattle.entry.specs.Guards.{guard, Verdict, passes, refuses, first, refused, replied, settle}
 use Rattle.entry.proofs.GuardLaws.{first-refuses, first-goes-on}
 use Rattle.model.specs.Log.{Log, wellFormed}
 use Rattle.model.specs.Calls.{Call, Reply, malformed, further, guards, effect, replyOf, after, answerTo, stateAfter}

@@ -1,11 +1,10 @@
 -- The bounds within which the sums of the numbers fit: well-formed numbers keep them.
-use Prim.Native.Nat.{ℕ, _+_, _≤_}
+use Prim.Native.Nat.{_+_, _≤_}
 use mathlib.Core.Path.{_≡_, refl, sym, _∙_}
 use mathlib.Core.Bool.{Bool, true, false, true≢false}
 use native.Mathlib.Omega.{arith}
 use borrow.Author.Tests.{leb-true, le-leb}
 use lib.Dec.{leb}
-use Rattle.words.specs.If.{if_then_else_}
 use Rattle.words.proofs.Tests.{and-left, and-right, both-true}
 use Rattle.entry.specs.Limits.{entryRoom, lastIndex}
 use Rattle.model.specs.Numbers.{Numbers, endOf, acceptedOf, numbersFormed}

@@ -16,7 +16,7 @@ use Rattle.words.proofs.Tests.{and-left, and-right, both-true}
 use Rattle.words.proofs.Alls.{all-join, all-left, all-right, zeros-are}
 use Rattle.words.proofs.CodedLaws.{entries-length, entries-add, entries-first, entries-second}
 use Rattle.entry.specs.Limits.{width, keyRoom, logWords, snapshotWords, mostNodes, mostMetadata}
-use Rattle.entry.specs.Change.{Change, changeCode, changeFormed, formed as entriesFormed, entriesOf, stored, storedIn, Laid}
+use Rattle.entry.specs.Change.{Change, changeCode, changeFormed, formed as entriesFormed, entriesOf, stored, storedIn}
 use Rattle.entry.specs.Sign.{signFormed, signBlank, blank, noSign}
 use Rattle.entry.specs.declared.Ballot.{Ballot}
 use Rattle.entry.specs.declared.StopSign.{StopSign}
@@ -24,13 +24,11 @@ use Rattle.entry.proofs.ChangeLaws.{changeOk}
 use Rattle.entry.proofs.SliceLaws.{laid-of, laid-stored, stored-laid, stored-entries}
 use Rattle.snapshot.specs.Folds.{rising}
 use Rattle.snapshot.specs.Calls.{snapshotFormed}
-use Rattle.snapshot.specs.Inner.{Holds}
 use Rattle.snapshot.proofs.Calling.{snapshot-holds, snapshot-stored}
 use Rattle.model.specs.Numbers.{Numbers, numbersFormed}
 use Rattle.model.specs.Log.{Run, Tail, Marks, Log, given, ifGiven, numbersOf, orEmpty, shotFormed, wellFormed}
-use Rattle.model.proofs.Forms.{Sound, sound-of, Formed, formed-of, of-formed}
-use Rattle.state_cache.specs.declared.IndexRecord.{IndexRecord}
-use Rattle.state_cache.specs.State.{Raw, raw, numbersIn, signHeld, shotHeld, formed, logOf, signOr, indexOf, rawOf, Ready}
+use Rattle.model.proofs.Forms.{sound-of, Formed, formed-of, of-formed}
+use Rattle.state_cache.specs.State.{Raw, numbersIn, signHeld, shotHeld, formed, logOf, signOr, indexOf, rawOf, Ready}
 
 -- ---- a record's numbers and words against a log's parts
 

@@ -1,7 +1,7 @@
 -- What a call comes to: of any state and any request, its answer and the state after it. Every exported call is an equation with `run`.
 use Prim.Native.Nat.{ℕ}
-use mathlib.Core.Bool.{Bool, _&&_, not}
-use mathlib.Core.List.{List, [], _∷_}
+use mathlib.Core.Bool.{Bool, _&&_}
+use mathlib.Core.List.{List}
 use lib.Dec.{leb, eqb}
 use lib.ListN.{length}
 use Rattle.words.specs.If.{if_then_else_}

@@ -1,5 +1,4 @@
 -- `state_cache::fresh` meets its contract: refusal 11, or zeros over both slices.
-use mathlib.Core.Path.{_≡_, ap, _∙_}
 use borrow.Author.Tests.{not-true, not-false}
 use denote.Ref.{now}
 use Rattle.state_cache.proofs.Changes.{fresh-refused, fresh-stands}

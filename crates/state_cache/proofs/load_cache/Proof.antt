@@ -1,5 +1,5 @@
 -- `state_cache::load_cache` meets its contract: refusal 12, or the batch dropped.
-use mathlib.Core.Path.{_≡_, sym, _∙_}
+use mathlib.Core.Path.{sym, _∙_}
 use mathlib.Core.Bool.{true}
 use borrow.Author.Tests.{not-true, not-false}
 use denote.Ref.{now}

@@ -1,5 +1,5 @@
 -- `state_cache::well_formed` meets its contract: the sizes first, so that the sums of the rest fit.
-use mathlib.Core.Path.{_≡_, sym, _∙_}
+use mathlib.Core.Path.{sym, _∙_}
 use native.Mathlib.Omega.{arith}
 use borrow.Author.Tests.{not-true, not-false}
 use Rattle.state_cache.specs.State.{numbersIn, formed, Small}

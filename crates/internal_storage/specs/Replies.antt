@@ -1,0 +1,61 @@
+-- What the code's answers say in document 01's words, and what a batch comes to.
+use Prim.Native.Nat.{ℕ, _+_}
+use mathlib.Core.Option.{Option, none, some}
+use lib.Dec.{leb}
+use Rattle.words.specs.If.{if_then_else_}
+use Rattle.entry.specs.Guards.{Verdict, passes, refuses, Answer, refused, replied, refusedBy}
+use Rattle.entry.specs.Refusals.{numberOf, carriedOf}
+use Rattle.model.specs.Numbers.{acceptedOf}
+use Rattle.model.specs.Append.{Flushed}
+use Rattle.state_cache.specs.State.{numbersIn}
+use Rattle.state_cache.specs.declared.IndexRecord.{IndexRecord}
+use Rattle.state_cache.proofs.Fields.{withEntries}
+use Rattle.internal_storage.specs.declared.Check.{Check}
+use Rattle.internal_storage.specs.declared.Check.the-variants.{Passed, Refused}
+use Rattle.internal_storage.specs.declared.Appended.{Appended}
+use Rattle.internal_storage.specs.declared.Appended.the-variants.{Held, Flushed as AppendFlushed, Refused as AppendRefused}
+use Rattle.internal_storage.specs.declared.AppendedAt.{AppendedAt}
+use Rattle.internal_storage.specs.declared.AcceptedIdx.{AcceptedIdx}
+use Rattle.internal_storage.specs.declared.AcceptedIdx.the-variants.{Held as IdxHeld, At as IdxAt, Refused as IdxRefused}
+
+abbrev pub verdictOf : Check → Verdict
+verdictOf Passed = passes
+verdictOf (Refused r) = refuses (numberOf r) (carriedOf r)
+
+abbrev pub appended : Appended → Answer (Option Flushed)
+appended Held = replied none
+appended (AppendFlushed i n) = replied (some (record { accepted = i .0; count = n }))
+appended (AppendRefused r) = refusedBy r
+
+abbrev pub acceptedIdx : AcceptedIdx → Answer (Option ℕ)
+acceptedIdx IdxHeld = replied none
+acceptedIdx (IdxAt i) = replied (some (i .0))
+acceptedIdx (IdxRefused r) = refusedBy r
+
+-- the accepted index alone
+abbrev pub indexOnly : Answer (Option Flushed) → Answer (Option ℕ)
+indexOnly (refused n k) = refused n k
+indexOnly (replied none) = replied none
+indexOnly (replied (some f)) = replied (some (f .accepted))
+
+-- what a call that moves no word comes to: its answer and the record after it, by the first refusal that applies
+pub record Indexed (A : Type 0) : Type 0 where
+  pub answer : Answer A
+  pub index : IndexRecord
+
+abbrev pub indexed : {A : Type 0} → Answer A → IndexRecord → Indexed A
+indexed a x = record { answer = a; index = x }
+
+abbrev pub byNumbers : {A : Type 0} → Verdict → A → IndexRecord → IndexRecord → Indexed A
+byNumbers passes y next x = indexed (replied y) next
+byNumbers (refuses n k) y next x = indexed (refused n k) x
+
+-- the record and the answer once n entries have joined the batch
+unfoldable pub batchedWith : ℕ → IndexRecord → AppendedAt
+batchedWith n x =
+    if leb (x .«batch_size») (x .batched + n)
+    then record {
+      answer = AppendFlushed (record { 0 = acceptedOf (numbersIn (withEntries (x .retained + (x .batched + n)) 0 x)) }) (x .batched + n);
+      index = withEntries (x .retained + (x .batched + n)) 0 x;
+    }
+    else record { answer = Held; index = withEntries (x .retained) (x .batched + n) x }

@@ -59,8 +59,11 @@ abbrev pub entriesIn : List ℕ → List Change
 entriesIn ws = entriesOf (length ws / width) ws
 
 -- an entry slice in form: no odd word, and every entry in form
+abbrev pub wholeIn : List ℕ → Bool
+wholeIn ws = eqb (length ws % width) 0
+
 unfoldable pub sliceFormed : List ℕ → Bool
-sliceFormed ws = eqb (length ws % width) 0 && formed (entriesIn ws)
+sliceFormed ws = wholeIn ws && formed (entriesIn ws)
 
 -- a slice of n words that holds some entries; "unused words are zero"
 abbrev pub stored : ℕ → List Change → List ℕ

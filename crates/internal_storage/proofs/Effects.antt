@@ -1,20 +1,46 @@
 -- What each call of the model does to a lent state that stands for its log: the record and the words after it.
-use Prim.Native.Nat.{ℕ}
-use mathlib.Core.Path.{_≡_, refl, sym, ap, _∙_}
-use mathlib.Core.Bool.{true, false}
-use mathlib.Core.List.{List, []}
-use Rattle.entry.specs.Guards.{Guard, Verdict, passes, refuses, first, Answer, replied}
+use Prim.Native.Nat.{ℕ, _+_, _*_, _≤_}
+use mathlib.Core.Path.{_≡_, refl, sym, ap, ap₂, _∙_}
+use mathlib.Core.Bool.{Bool, true, false}
+use mathlib.Core.List.{List, [], _++_, append-assoc, append-nil}
+use mathlib.Core.Option.{Option, none, some}
+use native.Mathlib.Omega.{arith}
+use borrow.Author.Tests.{ltb-false}
+use lib.Dec.{leb}
+use lib.ListN.{length, take, length-append}
+use lib.Seq.{take-all}
+use Rattle.words.specs.If.{if_then_else_}
+use Rattle.words.specs.Words.{laid, spliced}
+use Rattle.words.specs.Coded.{wordsOf}
+use Rattle.words.proofs.CodedLaws.{spliced-append, spliced-before, words-entries, entries-length}
+use Rattle.entry.specs.Limits.{width, entryRoom, logWords}
+use Rattle.entry.specs.Change.{Change, changeCode, formed as entriesFormed, entriesOf, stored}
+use Rattle.entry.specs.Sign.{noSign}
+use Rattle.entry.specs.Guards.{Guard, Verdict, passes, refuses, first, Answer, refused, replied}
 use Rattle.entry.specs.declared.Ballot.{Ballot}
-use Rattle.model.specs.Numbers.{Numbers}
-use Rattle.model.specs.Log.{Log, numbersOf}
-use Rattle.model.specs.Calls.{Call, Reply, setPromise, decide, malformed, further, effect, replyOf}
-use Rattle.state_cache.specs.State.{Raw, raw, numbersIn, formed, logOf}
+use Rattle.entry.specs.declared.StopSign.{StopSign}
+use Rattle.entry.proofs.ChangeLaws.{changeOk}
+use Rattle.entry.proofs.GuardLaws.{passed}
+use Rattle.model.specs.Numbers.{Numbers, acceptedOf}
+use Rattle.model.specs.Log.{Log, numbersOf, given, waiting, withTail}
+use Rattle.model.specs.Append.{Flushed, appendGuards, joined, batchWith, fills, appended, appendedNow, flushed, stopAppended, stopSet, appendReply}
+use Rattle.model.specs.Calls.{Call, Reply, append, appendNow, setPromise, decide, malformed, further, effect, replyOf}
+use Rattle.state_cache.specs.State.{Raw, raw, numbersIn, formed, logOf, signOr}
 use Rattle.state_cache.specs.Run.{outcome, run}
 use Rattle.state_cache.specs.declared.IndexRecord.{IndexRecord}
-use Rattle.state_cache.proofs.Fields.{withDecided, withPromise}
-use Rattle.state_cache.proofs.Stands.{Stands, stands-of, numbers-are}
+use Rattle.state_cache.proofs.Fields.{withEntries, withStop, withDecided, withPromise}
+use Rattle.state_cache.proofs.Stands.{Stands, stands-of, numbers-are, log-formed}
 use Rattle.state_cache.proofs.Runs.{call-refused, call-stands}
-use Rattle.internal_storage.specs.Replies.{Indexed, indexed, byNumbers}
+use Rattle.state_cache.proofs.Changes.{held-length, log-spliced}
+use Rattle.internal_storage.specs.Replies.{appended as appendedIs, Indexed, indexed, byNumbers, flushedAt, heldAt, batchedWith}
+
+given-by : {A : Type 0} (b : Bool) (x : A) → given (if b then some x else none) ≡ b
+given-by true x = refl
+given-by false x = refl
+
+sign-by : (b : Bool) (g : StopSign) → (b ≡ false → g ≡ noSign) → signOr (if b then some g else none) ≡ g
+sign-by true g e = refl
+sign-by false g e = sym (e refl)
 
 module _ (r : Raw) (ok : formed r ≡ true) where
   abbrev s : Log
@@ -70,3 +96,181 @@ module _ (r : Raw) (ok : formed r ≡ true) where
     log = st .log;
     snapshot = st .snapshot;
   }
+
+  -- ---- the batch joins the run: no word moves
+
+  pub flushed-stands : Stands (flushed s) (raw (withEntries (r .index .retained + r .index .batched) 0 (r .index)) (r .log) (r .snapshot))
+  unfolding flushed
+  flushed-stands = record {
+    run = record {
+      start = st .run .start;
+      count = omega (arith, length-append (s .run .retained) (s .tail .batched), st .run .count, st .tail .count);
+      shot = st .run .shot;
+      shot-keys = st .run .shot-keys;
+    };
+    tail = record { count = refl; sized = st .tail .sized; stopped = st .tail .stopped; sign = st .tail .sign };
+    marks = st .marks;
+    log = ap (stored logWords) (append-nil (s .run .retained ++ s .tail .batched)) ∙ st .log;
+    snapshot = st .snapshot;
+  }
+
+  pub stop-stands : (g : StopSign)
+      → Stands (stopAppended g s) (raw (withStop true g (withEntries (r .index .retained + r .index .batched) 0 (r .index))) (r .log) (r .snapshot))
+  unfolding stopAppended
+  stop-stands g =
+      let f = flushed-stands in
+      record {
+        run = f .run;
+        tail = record { count = f .tail .count; sized = f .tail .sized; stopped = refl; sign = refl };
+        marks = f .marks;
+        log = f .log;
+        snapshot = f .snapshot;
+      }
+
+  pub stop-set-stands : (held : Bool) (g : StopSign) → (held ≡ false → g ≡ noSign)
+      → Stands (stopSet (if held then some g else none) s) (raw (withStop held g (r .index)) (r .log) (r .snapshot))
+  unfolding stopSet
+  stop-set-stands held g e = record {
+    run = st .run;
+    tail = record { count = st .tail .count; sized = st .tail .sized; stopped = given-by held g; sign = sign-by held g e };
+    marks = st .marks;
+    log = st .log;
+    snapshot = st .snapshot;
+  }
+
+  -- ---- entries put into the log's words
+
+  module _ (n : ℕ) (entries words : List ℕ) (whole : length entries ≡ n * width) where
+    abbrev es : List Change
+    es = entriesOf n entries
+
+    coded : entries ≡ wordsOf changeCode es
+    coded = sym (words-entries changeCode changeOk n entries (omega arith) ∙ take-all (n * width) entries (omega arith))
+
+    many : length es ≡ n
+    many = entries-length changeCode n entries
+
+    -- after the batch
+    module _ (put : words ≡ laid (length (r .log)) (spliced ((r .index .retained + r .index .batched) * width) 0 entries (take ((r .index .retained + r .index .batched) * width) (r .log)))) where
+      words-are : stored logWords (s .run .retained ++ batchWith es s) ≡ words
+      words-are =
+          ap (stored logWords) (sym (append-assoc (s .run .retained) (s .tail .batched) es) ∙ sym (spliced-append (s .run .retained ++ s .tail .batched) es))
+          ∙ rw (held-length s r st (log-formed r ok)) (sym (put ∙ log-spliced s r st (log-formed r ok) (r .index .retained + r .index .batched) 0 entries es coded))
+
+      batch-count : length (batchWith es s) ≡ r .index .batched + n
+      batch-count = omega (arith, length-append (s .tail .batched) es, many, st .tail .count)
+
+      flushed-all : Stands (joined (batchWith es s) [] s) (raw (withEntries (r .index .retained + (r .index .batched + n)) 0 (r .index)) words (r .snapshot))
+      flushed-all = record {
+        run = record {
+          start = st .run .start;
+          count = omega (arith, length-append (s .run .retained) (batchWith es s), st .run .count, batch-count);
+          shot = st .run .shot;
+          shot-keys = st .run .shot-keys;
+        };
+        tail = record { count = refl; sized = st .tail .sized; stopped = st .tail .stopped; sign = st .tail .sign };
+        marks = st .marks;
+        log = ap (stored logWords) (append-nil (s .run .retained ++ batchWith es s)) ∙ words-are;
+        snapshot = st .snapshot;
+      }
+
+      held-all : Stands (withTail (waiting (batchWith es s) (s .tail)) s) (raw (withEntries (r .index .retained) (r .index .batched + n) (r .index)) words (r .snapshot))
+      held-all = record {
+        run = st .run;
+        tail = record { count = batch-count; sized = st .tail .sized; stopped = st .tail .stopped; sign = st .tail .sign };
+        marks = st .marks;
+        log = words-are;
+        snapshot = st .snapshot;
+      }
+
+      fills-is : fills es s ≡ leb (r .index .«batch_size») (r .index .batched + n)
+      unfolding fills
+      fills-is = rw (batch-count, st .tail .sized)
+
+      flush-effect : fills es s ≡ true → Stands (effect (append es) s) (raw (flushedAt n (r .index) .index) words (r .snapshot))
+      unfolding effect appended
+      flush-effect e = rw e flushed-all
+
+      hold-effect : fills es s ≡ false → Stands (effect (append es) s) (raw (heldAt n (r .index) .index) words (r .snapshot))
+      unfolding effect appended
+      hold-effect e = rw e held-all
+
+      abbrev flush-says : Option Flushed
+      flush-says = some (record { accepted = acceptedOf (numbersIn (flushedAt n (r .index) .index)); count = r .index .batched + n })
+
+      flush-reply : fills es s ≡ true → flush-says ≡ replyOf (append es) s
+      unfolding replyOf appendReply appended
+      flush-reply e =
+          rw e
+          (ap₂ (λ (a k : ℕ). some (record { accepted = a; count = k }))
+          (ap acceptedOf (sym (numbers-are (joined (batchWith es s) [] s) (raw (flushedAt n (r .index) .index) words (r .snapshot)) flushed-all)))
+          (sym batch-count))
+
+      hold-reply : fills es s ≡ false → none ≡ replyOf (append es) s
+      unfolding replyOf appendReply
+      hold-reply e = rw e
+
+      module _ (fine : entriesFormed es ≡ true) (pass : passes ≡ first (appendGuards n (numbersIn (r .index)))) where
+        bad : malformed (append es) ≡ false
+        unfolding malformed
+        bad = rw fine
+
+        stands : passes ≡ first (further (append es) s)
+        unfolding further
+        stands = rw (many, numbers) pass
+
+        pub append-run : outcome (appendedIs (batchedWith n (r .index) .answer)) (raw (batchedWith n (r .index) .index) words (r .snapshot)) ≡ run (append es) true r
+        unfolding batchedWith
+        append-run = go (leb (r .index .«batch_size») (r .index .batched + n)) fills-is
+          where
+            go : (t : Bool) → fills es s ≡ t
+                → outcome (appendedIs ((if t then flushedAt n (r .index) else heldAt n (r .index)) .answer)) (raw ((if t then flushedAt n (r .index) else heldAt n (r .index)) .index) words (r .snapshot)) ≡ run (append es) true r
+            go true e = call-stands (append es) r ok bad stands flush-says (raw (flushedAt n (r .index) .index) words (r .snapshot)) (flush-reply e) (flush-effect e)
+            go false e = call-stands (append es) r ok bad stands none (raw (heldAt n (r .index) .index) words (r .snapshot)) (hold-reply e) (hold-effect e)
+
+    -- before the batch
+    module _ (put : words ≡ laid (length (r .log)) (spliced (r .index .retained * width) 0 entries (take ((r .index .retained + r .index .batched) * width) (r .log)))) where
+      now-stands : Stands (appendedNow es s) (raw (withEntries (r .index .retained + n) (r .index .batched) (r .index)) words (r .snapshot))
+      unfolding appendedNow
+      now-stands = record {
+        run = record {
+          start = st .run .start;
+          count = omega (arith, length-append (s .run .retained) es, st .run .count, many);
+          shot = st .run .shot;
+          shot-keys = st .run .shot-keys;
+        };
+        tail = st .tail;
+        marks = st .marks;
+        log =
+            ap (stored logWords) (append-assoc (s .run .retained) es (s .tail .batched) ∙ sym (spliced-before (s .run .retained) (s .tail .batched) es))
+            ∙ rw (st .run .count) (sym (put ∙ log-spliced s r st (log-formed r ok) (r .index .retained) 0 entries es coded));
+        snapshot = st .snapshot;
+      }
+
+      pub now-run : entriesFormed es ≡ true → passes ≡ first (appendGuards n (numbersIn (r .index))) → (y : ℕ)
+          → y ≡ acceptedOf (numbersIn (withEntries (r .index .retained + n) (r .index .batched) (r .index)))
+          → outcome (replied y) (raw (withEntries (r .index .retained + n) (r .index .batched) (r .index)) words (r .snapshot)) ≡ run (appendNow es) true r
+      unfolding malformed further effect replyOf
+      now-run fine pass y e =
+          call-stands (appendNow es) r ok (rw fine) (rw (many, numbers) pass) y
+          (raw (withEntries (r .index .retained + n) (r .index .batched) (r .index)) words (r .snapshot))
+          (e ∙ ap acceptedOf (sym (numbers-are (appendedNow es s) (raw (withEntries (r .index .retained + n) (r .index .batched) (r .index)) words (r .snapshot)) now-stands)))
+          now-stands
+
+-- the refusals of an append
+module _ (r : Raw) (ok : formed r ≡ true) (n : ℕ) (entries : List ℕ) (fine : entriesFormed (entriesOf n entries) ≡ true) (k m : ℕ)
+    (e : refuses k m ≡ first (appendGuards n (numbersIn (r .index)))) where
+  pub append-refused : outcome (refused k m) r ≡ run (append (entriesOf n entries)) true r
+  unfolding malformed further
+  append-refused =
+      call-refused (append (entriesOf n entries)) r ok (rw fine) k m (rw (entries-length changeCode n entries, numbers r ok) e)
+
+  pub now-refused : outcome (refused k m) r ≡ run (appendNow (entriesOf n entries)) true r
+  unfolding malformed further
+  now-refused =
+      call-refused (appendNow (entriesOf n entries)) r ok (rw fine) k m (rw (entries-length changeCode n entries, numbers r ok) e)
+
+-- an append that no refusal stops has room
+pub append-room : (k : ℕ) (n : Numbers) → passes ≡ first (appendGuards k n) → n .retained + n .batched + k ≤ entryRoom
+unfolding appendGuards
+append-room k n e = ltb-false entryRoom (n .retained + n .batched + k) (passed (appendGuards k n) (sym e) .1 .1 .0)

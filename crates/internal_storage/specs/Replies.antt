@@ -1,13 +1,19 @@
 -- What the code's answers say in document 01's words, and what a batch comes to.
-use Prim.Native.Nat.{ℕ, _+_}
+use Prim.Native.Nat.{ℕ, _+_, _*_}
+use mathlib.Core.Path.{_≡_}
+use mathlib.Core.Bool.{true}
+use mathlib.Core.List.{List}
 use mathlib.Core.Option.{Option, none, some}
 use lib.Dec.{leb}
+use lib.ListN.{length}
 use Rattle.words.specs.If.{if_then_else_}
+use Rattle.entry.specs.Limits.{width}
+use Rattle.entry.specs.Change.{formed, entriesOf}
 use Rattle.entry.specs.Guards.{Verdict, passes, refuses, Answer, refused, replied, refusedBy}
 use Rattle.entry.specs.Refusals.{numberOf, carriedOf}
 use Rattle.model.specs.Numbers.{acceptedOf}
 use Rattle.model.specs.Append.{Flushed}
-use Rattle.state_cache.specs.State.{numbersIn}
+use Rattle.state_cache.specs.State.{Raw, numbersIn, Ready}
 use Rattle.state_cache.specs.declared.IndexRecord.{IndexRecord}
 use Rattle.state_cache.proofs.Fields.{withEntries}
 use Rattle.internal_storage.specs.declared.Check.{Check}
@@ -50,12 +56,20 @@ abbrev pub byNumbers : {A : Type 0} → Verdict → A → IndexRecord → IndexR
 byNumbers passes y next x = indexed (replied y) next
 byNumbers (refuses n k) y next x = indexed (refused n k) x
 
--- the record and the answer once n entries have joined the batch
+-- the record and the answer once n entries have joined the batch: flushed, all of it, or held
+abbrev pub flushedAt : ℕ → IndexRecord → AppendedAt
+flushedAt n x =
+    let next : IndexRecord = withEntries (x .retained + (x .batched + n)) 0 x in
+    record { answer = AppendFlushed (record { 0 = acceptedOf (numbersIn next) }) (x .batched + n); index = next }
+
+abbrev pub heldAt : ℕ → IndexRecord → AppendedAt
+heldAt n x = record { answer = Held; index = withEntries (x .retained) (x .batched + n) x }
+
 unfoldable pub batchedWith : ℕ → IndexRecord → AppendedAt
-batchedWith n x =
-    if leb (x .«batch_size») (x .batched + n)
-    then record {
-      answer = AppendFlushed (record { 0 = acceptedOf (numbersIn (withEntries (x .retained + (x .batched + n)) 0 x)) }) (x .batched + n);
-      index = withEntries (x .retained + (x .batched + n)) 0 x;
-    }
-    else record { answer = Held; index = withEntries (x .retained) (x .batched + n) x }
+batchedWith n x = if leb (x .«batch_size») (x .batched + n) then flushedAt n x else heldAt n x
+
+-- what an append needs, once its words are known to be n entries in form
+pub record Appends (r : Raw) (n : ℕ) (entries : List ℕ) : Type 0 where
+  pub ready : Ready r
+  pub whole : length entries ≡ n * width
+  pub fine : formed (entriesOf n entries) ≡ true

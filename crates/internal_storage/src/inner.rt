@@ -4,15 +4,21 @@ use super::AppendedAt;
 use super::Check;
 use entry::LogIndex;
 use entry::Refusal;
+use state_cache::Accepted;
+use state_cache::AcceptedAt;
 use state_cache::IndexRecord;
 ghost use mathlib.Core.Path.{_≡_};
 ghost use Prim.Native.Nat.{_+_, _≤_};
 ghost use Rattle.entry.specs.Guards.{first};
 ghost use Rattle.entry.specs.Limits.{entryRoom};
+ghost use mathlib.Core.Bool.{true};
+ghost use Rattle.entry.specs.Change.{entriesOf};
 ghost use Rattle.model.specs.Append.{appendGuards};
+ghost use Rattle.model.specs.Calls.{append, appendNow};
 ghost use Rattle.model.proofs.Forms.{Sound};
-ghost use Rattle.state_cache.specs.State.{numbersIn};
-ghost use Rattle.internal_storage.specs.Replies.{verdictOf, batchedWith};
+ghost use Rattle.state_cache.specs.State.{raw, numbersIn};
+ghost use Rattle.state_cache.specs.Run.{outcome, run, accepted};
+ghost use Rattle.internal_storage.specs.Replies.{verdictOf, appended, batchedWith, Appends};
 
 // Refusals 4, 9 and 1, of n entries more.
 pub fn check_append(index: IndexRecord, n: usize) -> Check
@@ -54,6 +60,58 @@ pub fn batch_with(index: IndexRecord, n: usize) -> AppendedAt
     next.batched = waiting;
     AppendedAt {
         answer: Appended::Held,
+        index: next,
+    }
+}
+
+// Appends n entries in form to a well-formed log, with batching, where no refusal applies.
+pub fn append_at(
+    index: IndexRecord,
+    log: &mut [u64],
+    snapshot: &[u64],
+    entries: &[u64],
+    n: usize,
+) -> AppendedAt
+    requires { ⌜ Appends (raw index (now log) (now snapshot)) n (now entries) ⌝ }
+    ensures { λ r. ⌜ outcome (appended (r .answer)) (raw (r .index) (now (log .exit)) (now (snapshot .entry))) ≡ run (append (entriesOf n (now (entries .entry)))) true (raw index (now (log .entry)) (now (snapshot .entry))) ⌝ }
+{
+    let check = check_append(index, n);
+    if let Check::Refused(refusal) = check {
+        return AppendedAt {
+            answer: Appended::Refused(refusal),
+            index,
+        };
+    }
+    let used = (index.retained + index.batched) * entry::WIDTH;
+    words::splice(log, used, used, 0, entries);
+    batch_with(index, n)
+}
+
+// The same without batching: the entries go before the batch.
+pub fn append_now_at(
+    index: IndexRecord,
+    log: &mut [u64],
+    snapshot: &[u64],
+    entries: &[u64],
+    n: usize,
+) -> AcceptedAt
+    requires { ⌜ Appends (raw index (now log) (now snapshot)) n (now entries) ⌝ }
+    ensures { λ r. ⌜ outcome (accepted (r .answer)) (raw (r .index) (now (log .exit)) (now (snapshot .entry))) ≡ run (appendNow (entriesOf n (now (entries .entry)))) true (raw index (now (log .entry)) (now (snapshot .entry))) ⌝ }
+{
+    let check = check_append(index, n);
+    if let Check::Refused(refusal) = check {
+        return AcceptedAt {
+            answer: Accepted::Refused(refusal),
+            index,
+        };
+    }
+    let used = (index.retained + index.batched) * entry::WIDTH;
+    words::splice(log, used, index.retained * entry::WIDTH, 0, entries);
+    let mut next = index;
+    next.retained = index.retained + n;
+    let last = state_cache::inner::accepted(next);
+    AcceptedAt {
+        answer: Accepted::At(LogIndex(last)),
         index: next,
     }
 }

@@ -4,6 +4,7 @@ use entry::LogIndex;
 use entry::Refusal;
 use state_cache::IndexRecord;
 
+pub mod append;
 pub mod decide;
 pub mod inner;
 

@@ -1,0 +1,34 @@
+-- Entry slices as arguments of a call: refusal 11, or whole entries in form.
+use Prim.Native.Nat.{ℕ, _/_}
+use mathlib.Core.Path.{_≡_, refl, sym, ap, _∙_}
+use mathlib.Core.Bool.{Bool, true, false, not}
+use mathlib.Core.List.{List}
+use native.Mathlib.Omega.{arith}
+use lib.ListN.{length}
+use Rattle.words.proofs.Tests.{and-left}
+use Rattle.entry.specs.Limits.{width}
+use Rattle.entry.specs.Change.{formed as entriesFormed, entriesIn, wholeIn, sliceFormed}
+use Rattle.entry.specs.Guards.{refused}
+use Rattle.entry.proofs.SliceLaws.{slice-whole, slice-fine}
+use Rattle.model.specs.Calls.{Call, malformed}
+use Rattle.state_cache.specs.State.{Raw, formed}
+use Rattle.state_cache.specs.Run.{outcome, run}
+use Rattle.state_cache.proofs.Stands.{ready-of}
+use Rattle.state_cache.proofs.Runs.{not-whole, bad-call}
+use Rattle.internal_storage.specs.Replies.{Appends}
+
+pub slice-refused : (c : Call) (ws : List ℕ) (r : Raw) → malformed c ≡ not (entriesFormed (entriesIn ws)) → formed r ≡ true → sliceFormed ws ≡ false
+    → outcome (refused 11 0) r ≡ run c (wholeIn ws) r
+unfolding sliceFormed
+slice-refused c ws r m ok e = go (wholeIn ws) refl
+  where
+    go : (t : Bool) → wholeIn ws ≡ t → outcome (refused 11 0) r ≡ run c t r
+    go true q = bad-call c r ok (m ∙ ap not (rw q at e))
+    go false q = not-whole c false r ok refl
+
+pub slice-run : (c : Call) (ws : List ℕ) (r : Raw) → sliceFormed ws ≡ true → run c true r ≡ run c (wholeIn ws) r
+unfolding sliceFormed
+slice-run c ws r e = ap (λ (t : Bool). run c t r) (sym (and-left (wholeIn ws) _ e))
+
+pub slice-appends : (ws : List ℕ) (r : Raw) → formed r ≡ true → sliceFormed ws ≡ true → Appends r (length ws / width) ws
+slice-appends ws r ok e = record { ready = ready-of r ok; whole = omega (arith, slice-whole ws e); fine = slice-fine ws e }

@@ -1,0 +1,61 @@
+// Appends, in the Rust's four forms.
+use super::AcceptedIdx;
+use super::AcceptedIdxAt;
+use super::Appended;
+use super::AppendedAt;
+use entry::Refusal;
+use state_cache::Accepted;
+use state_cache::AcceptedAt;
+use state_cache::IndexRecord;
+ghost use mathlib.Core.Path.{_≡_};
+ghost use Rattle.entry.specs.Change.{entriesIn, wholeIn};
+ghost use Rattle.model.specs.Calls.{append, appendNow};
+ghost use Rattle.state_cache.specs.State.{raw};
+ghost use Rattle.state_cache.specs.Run.{outcome, run, accepted};
+ghost use Rattle.internal_storage.specs.Replies.{appended};
+
+pub fn append_entries_with_batching(
+    index: IndexRecord,
+    log: &mut [u64],
+    snapshot: &[u64],
+    entries: &[u64],
+) -> AppendedAt
+    ensures { λ r. ⌜ outcome (appended (r .answer)) (raw (r .index) (now (log .exit)) (now (snapshot .entry))) ≡ run (append (entriesIn (now (entries .entry)))) (wholeIn (now (entries .entry))) (raw index (now (log .entry)) (now (snapshot .entry))) ⌝ }
+{
+    if !state_cache::well_formed(index, log, snapshot) {
+        return AppendedAt {
+            answer: Appended::Refused(Refusal::IllFormed),
+            index,
+        };
+    }
+    if !entry::entries_formed(entries) {
+        return AppendedAt {
+            answer: Appended::Refused(Refusal::Malformed),
+            index,
+        };
+    }
+    super::inner::append_at(index, log, snapshot, entries, entries.len() / entry::WIDTH)
+}
+
+pub fn append_entries_without_batching(
+    index: IndexRecord,
+    log: &mut [u64],
+    snapshot: &[u64],
+    entries: &[u64],
+) -> AcceptedAt
+    ensures { λ r. ⌜ outcome (accepted (r .answer)) (raw (r .index) (now (log .exit)) (now (snapshot .entry))) ≡ run (appendNow (entriesIn (now (entries .entry)))) (wholeIn (now (entries .entry))) (raw index (now (log .entry)) (now (snapshot .entry))) ⌝ }
+{
+    if !state_cache::well_formed(index, log, snapshot) {
+        return AcceptedAt {
+            answer: Accepted::Refused(Refusal::IllFormed),
+            index,
+        };
+    }
+    if !entry::entries_formed(entries) {
+        return AcceptedAt {
+            answer: Accepted::Refused(Refusal::Malformed),
+            index,
+        };
+    }
+    super::inner::append_now_at(index, log, snapshot, entries, entries.len() / entry::WIDTH)
+}

@@ -1,0 +1,64 @@
+-- `text::gap` meets its contract: what is left of the slice still has its first space `i` bytes on.
+use Prim.Native.Nat.{_≤_, _+_, _-_}
+use mathlib.Core.Path.{_≡_, sym}
+use native.Mathlib.Omega.{arith}
+use lib.ListN.{length, drop}
+use lib.Seq.{length-take-le}
+use denote.Ref.{now}
+use Rattle.text.specs.Parse.{gapOf}
+use Rattle.text.proofs.ParseLaws.{gap-step, gap-here, gap-end}
+use Rattle.text.proofs.gap.Statement.{statement}
+use Rattle.text.proofs.gap.Tie as tie
+
+abbrev Inv-loop : tie.InvT-loop
+Inv-loop s i₀ i = (i ≤ length s) × (i + gapOf (drop i s) ≡ gapOf s)
+
+abbrev μ-loop : tie.MeasureT-loop
+μ-loop s i₀ i = length s - i
+
+loop-holds : tie.Need-loop-holds Inv-loop μ-loop
+loop-holds c = omega arith
+
+shared-slice-read-if1 : tie.Need-shared-slice-read-if1 Inv-loop μ-loop
+shared-slice-read-if1 c = omega arith
+
+returns : tie.Need-returns Inv-loop μ-loop
+returns c =
+    let l = c .before .before .before in
+    let s = now (l .before .args .s) in
+    let e = gap-here s (l .loop .i) (c .before .before .loop-test .taken) (c .if1 .taken) in
+    let h : l .loop .i ≤ length s = omega arith in
+    ((h, sym (length-take-le _ _ h)), omega arith)
+
+add-i : tie.Need-add-i Inv-loop μ-loop
+add-i c = omega arith
+
+loop-less : tie.Need-loop-less Inv-loop μ-loop
+loop-less c = omega arith
+
+loop-again : tie.Need-loop-again Inv-loop μ-loop
+loop-again c =
+    let l = c .before .before .before in
+    omega (arith, gap-step (now (l .before .args .s)) (l .loop .i) (c .before .before .loop-test .taken) (c .if1 .left))
+
+returns-2 : tie.Need-returns-2 Inv-loop μ-loop
+returns-2 c =
+    let l = c .before in
+    let s = now (l .before .args .s) in
+    let e = gap-end s (l .loop .i) (c .loop-test .left) in
+    let h : l .loop .i ≤ length s = omega arith in
+    ((h, sym (length-take-le _ _ h)), omega arith)
+
+pub gap-spec : {M : Type 1} → statement M
+gap-spec =
+    tie.close
+    (tie.spec
+    Inv-loop
+    μ-loop
+    loop-holds
+    shared-slice-read-if1
+    returns
+    add-i
+    loop-less
+    loop-again
+    returns-2)

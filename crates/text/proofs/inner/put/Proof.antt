@@ -1,0 +1,74 @@
+-- `text::inner::put` meets its contract: the first i bytes of `src` stand in `out` from `at` on.
+use Prim.Native.Nat.{_≤_, _-_}
+use mathlib.Core.Path.{_≡_, refl}
+use native.Mathlib.Omega.{arith}
+use native.Mathlib.Numerals.{add-one}
+use lib.ListN.{length, length-set}
+use lib.Seq.{paste, paste-zero, paste-suc, take-paste, take-all}
+use denote.Ref.{now}
+use Rattle.text.proofs.inner.put.Statement.{statement}
+use Rattle.text.proofs.inner.put.Tie as tie
+
+abbrev Inv-loop : tie.InvT-loop
+Inv-loop out₀ at src i₀ out i = (i ≤ length src) × (length out ≡ length out₀) × (out ≡ paste out₀ at src i)
+
+abbrev μ-loop : tie.MeasureT-loop
+μ-loop out₀ at src i₀ out i = length src - i
+
+loop-holds : tie.Need-loop-holds Inv-loop μ-loop
+loop-holds c = (omega arith, refl, paste-zero (now (c .args .out)) (c .args .at) (now (c .args .src)))
+
+shared-slice-read-out : tie.Need-shared-slice-read-out Inv-loop μ-loop
+shared-slice-read-out c = omega arith
+
+add-out : tie.Need-add-out Inv-loop μ-loop
+add-out c = omega arith
+
+slice-write-out : tie.Need-slice-write-out Inv-loop μ-loop
+slice-write-out c = omega arith
+
+add-i : tie.Need-add-i Inv-loop μ-loop
+add-i c = omega arith
+
+loop-less : tie.Need-loop-less Inv-loop μ-loop
+loop-less c = omega arith
+
+loop-again : tie.Need-loop-again Inv-loop μ-loop
+loop-again c =
+    let a = c .before .before .before .args in
+    let l = c .before .before .loop in (
+      omega arith,
+      simp length-set (omega arith),
+      rw (add-one (l .i), l .inv .2) (paste-suc (now (a .out)) (a .at) (now (a .src)) (l .i) 0 (omega arith) (omega arith)),
+    )
+
+add-result : tie.Need-add-result Inv-loop μ-loop
+add-result c = omega arith
+
+same-length : tie.Need-same-length Inv-loop μ-loop
+same-length c = omega arith
+
+returns : tie.Need-returns Inv-loop μ-loop
+returns c =
+    let a = c .before .before .args in
+    let l = c .before .loop in (
+      omega arith,
+      rw (l .inv .2, take-paste (now (a .out)) (a .at) (now (a .src)) (l .i) (omega arith) (omega arith), take-all (l .i) (now (a .src)) (omega arith)),
+    )
+
+pub put-spec : {M : Type 1} → statement M
+put-spec =
+    tie.close
+    (tie.spec
+    Inv-loop
+    μ-loop
+    loop-holds
+    shared-slice-read-out
+    add-out
+    slice-write-out
+    add-i
+    loop-less
+    loop-again
+    add-result
+    same-length
+    returns)

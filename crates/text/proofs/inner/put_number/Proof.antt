@@ -1,0 +1,46 @@
+-- `text::inner::put_number` meets its contract: `io::decimal` writes the fewest digits.
+use native.Mathlib.Omega.{arith}
+use Rattle.text.proofs.AnswerLaws.{decimal-is, decimal-most}
+use borrow.Author.Needs.{needs}
+use Rattle.text.proofs.inner.put_number.Statement.{statement}
+use Rattle.text.proofs.inner.put_number.Tie as tie
+
+decimal-requires : tie.Need-decimal-requires
+decimal-requires c κs = search needs
+
+array-share-prefix-text : tie.Need-array-share-prefix-text
+array-share-prefix-text c = search needs
+
+slice-aggregate-put : tie.Need-slice-aggregate-put
+slice-aggregate-put c = search needs
+
+put-requires : tie.Need-put-requires
+put-requires c κs =
+    let d = c .before .before .decimal .ensures in
+    let a = c .before .before .before .before .before in
+    omega (arith, d .0 .1, decimal-most (a .args .n) (c .before .before .decimal .result) (a .fits .n .fits) (d .1 .0), a .pre)
+
+same-length : tie.Need-same-length
+same-length c = search needs
+
+returns : tie.Need-returns
+returns c =
+    let p = c .before .before .put .ensures in
+    let q = c .before .before .before .before .before in
+    let a = q .before .before .before in
+    let d = q .decimal .ensures in
+    let k = q .decimal .result in (
+      omega (arith, p .0, d .0 .1, decimal-most (a .args .n) k (a .fits .n .fits) (d .1 .0)),
+      rw (← decimal-is (a .args .n) k (a .fits .n .fits) (d .1 .0), ← d .1 .1) (p .1),
+    )
+
+pub put-number-spec : {M : Type 1} → statement M
+put-number-spec =
+    tie.close
+    (tie.spec
+    decimal-requires
+    array-share-prefix-text
+    slice-aggregate-put
+    put-requires
+    same-length
+    returns)

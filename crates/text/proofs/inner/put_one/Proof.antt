@@ -1,0 +1,32 @@
+-- `text::inner::put_one` meets its contract: three pieces, one after the other.
+use lib.ListN.{take}
+use denote.Ref.{now}
+use Rattle.text.specs.Answers.{decimalOf}
+use Rattle.text.proofs.AnswerLaws.{glue}
+use borrow.Author.Needs.{needs}
+use Rattle.text.proofs.inner.put_one.Statement.{statement}
+use Rattle.text.proofs.inner.put_one.Tie as tie
+
+put-requires : tie.Need-put-requires
+put-requires c κs = search needs
+
+put-number-requires : tie.Need-put-number-requires
+put-number-requires c κs = search needs
+
+put-requires-2 : tie.Need-put-requires-2
+put-requires-2 c κs = search needs
+
+same-length : tie.Need-same-length
+same-length c = search needs
+
+returns : tie.Need-returns
+returns c =
+    let q = c .before .before in
+    let n = q .before .before .before .before in
+    let p = n .before .before .before .before in
+    let a = p .before .before .before .before .before .args in
+    (search needs, glue (take (a .at) (now (a .out))) (now (a .label)) (decimalOf (a .n)) (now (a .tail)) (q .put2 .ensures .1) (n .put-number .ensures .1) (p .put .ensures .1))
+
+pub put-one-spec : {M : Type 1} → statement M
+put-one-spec =
+    tie.close (tie.spec put-requires put-number-requires put-requires-2 same-length returns)

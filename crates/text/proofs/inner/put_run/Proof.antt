@@ -1,0 +1,96 @@
+-- `text::inner::put_run` meets its contract: the lines that are put and those of the entries that are left make the whole.
+use Prim.Native.Nat.{ℕ, _≤_, _+_, _-_, _*_}
+use mathlib.Core.Path.{_≡_, refl, ap}
+use mathlib.Core.List.{_++_, append-nil}
+use native.Mathlib.Omega.{arith}
+use lib.Dec.{ltb}
+use lib.ListN.{length, take, drop}
+use denote.Ref.{now}
+use Rattle.entry.specs.Change.{entriesOf}
+use Rattle.entry.proofs.ChangeLaws.{changeAt}
+use Rattle.text.specs.Answers.{entryLine, entryLines}
+use Rattle.text.proofs.AnswerLaws.{lines-next, lines-end, turn}
+use Rattle.text.proofs.inner.put_run.Statement.{statement}
+use Rattle.text.proofs.inner.put_run.Tie as tie
+
+abbrev Inv-loop : tie.InvT-loop
+Inv-loop out₀ at entries n decided o₀ i₀ out o i = (i ≤ n) × (o ≤ at + 64 * i) × (length out ≡ length out₀) × (take o out ++ entryLines (decided - i) (drop i (entriesOf n entries)) ≡ take at out₀ ++ entryLines decided (entriesOf n entries))
+
+abbrev μ-loop : tie.MeasureT-loop
+μ-loop out₀ at entries n decided o₀ i₀ out o i = n - i
+
+loop-holds : tie.Need-loop-holds Inv-loop μ-loop
+loop-holds c =
+    let a = c .before .before .args in
+    let e : a .decided - 0 ≡ a .decided = omega arith in
+    (omega arith, omega arith, refl, ap (λ (k : ℕ). take (a .at) (now (a .out)) ++ entryLines k (entriesOf (a .n) (now (a .entries)))) e)
+
+mul-from : tie.Need-mul-from Inv-loop μ-loop
+mul-from c = omega arith
+
+mul-put-entry : tie.Need-mul-put-entry Inv-loop μ-loop
+mul-put-entry c = omega arith
+
+shared-slice-read-put-entry : tie.Need-shared-slice-read-put-entry Inv-loop μ-loop
+shared-slice-read-put-entry c = omega arith
+
+add-put-entry : tie.Need-add-put-entry Inv-loop μ-loop
+add-put-entry c = omega arith
+
+mul-put-entry-2 : tie.Need-mul-put-entry-2 Inv-loop μ-loop
+mul-put-entry-2 c = omega arith
+
+shared-slice-read-put-entry-2 : tie.Need-shared-slice-read-put-entry-2 Inv-loop μ-loop
+shared-slice-read-put-entry-2 c = omega arith
+
+put-entry-requires : tie.Need-put-entry-requires Inv-loop μ-loop
+put-entry-requires c κs = omega arith
+
+add-i : tie.Need-add-i Inv-loop μ-loop
+add-i c = omega arith
+
+loop-less : tie.Need-loop-less Inv-loop μ-loop
+loop-less c = omega arith
+
+loop-again : tie.Need-loop-again Inv-loop μ-loop
+loop-again c =
+    let p = c .before .before in
+    let l = p .before .before .before .before .before in
+    let a = l .before .before .before .args in
+    let ws = now (a .entries) in
+    let es = entriesOf (a .n) ws in
+    let i = l .loop .i in (
+      omega arith,
+      omega arith,
+      omega arith,
+      turn (take (l .loop .o) (l .loop .out)) (entryLine (ltb i (a .decided)) (changeAt ws i)) (entryLines (a .decided - i) (drop i es)) (entryLines (a .decided - (i + 1)) (drop (i + 1) es)) (take (a .at) (now (a .out)) ++ entryLines (a .decided) es) (p .put-entry .ensures .1) (lines-next (a .decided) (a .n) ws i (omega arith)) (l .loop .inv .3),
+    )
+
+same-length : tie.Need-same-length Inv-loop μ-loop
+same-length c = omega arith
+
+returns : tie.Need-returns Inv-loop μ-loop
+returns c =
+    let l = c .before in
+    let a = l .before .before .before .args in
+    (omega arith, rw (lines-end (a .decided) (a .n) (now (a .entries)) (l .loop .i) (omega arith), append-nil) at (l .loop .inv .3))
+
+pub put-run-spec : {M : Type 1} → statement M
+put-run-spec =
+    tie.close
+    (tie.spec
+    Inv-loop
+    μ-loop
+    loop-holds
+    mul-from
+    mul-put-entry
+    shared-slice-read-put-entry
+    add-put-entry
+    mul-put-entry-2
+    shared-slice-read-put-entry-2
+    put-entry-requires
+    add-i
+    loop-less
+    loop-again
+    same-length
+    returns)

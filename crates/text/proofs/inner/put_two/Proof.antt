@@ -1,0 +1,46 @@
+-- `text::inner::put_two` meets its contract.
+use lib.ListN.{take}
+use denote.Ref.{now}
+use Rattle.text.specs.Bytes.{bytes}
+use Rattle.text.specs.Answers.{decimalOf}
+use Rattle.text.proofs.AnswerLaws.{glue-two}
+use borrow.Author.Needs.{needs}
+use Rattle.text.proofs.inner.put_two.Statement.{statement}
+use Rattle.text.proofs.inner.put_two.Tie as tie
+
+slice-aggregate-put-one : tie.Need-slice-aggregate-put-one
+slice-aggregate-put-one c = search needs
+
+put-one-requires : tie.Need-put-one-requires
+put-one-requires c κs = search needs
+
+slice-aggregate-put-one-2 : tie.Need-slice-aggregate-put-one-2
+slice-aggregate-put-one-2 c = search needs
+
+slice-aggregate-put-one-3 : tie.Need-slice-aggregate-put-one-3
+slice-aggregate-put-one-3 c = search needs
+
+put-one-requires-2 : tie.Need-put-one-requires-2
+put-one-requires-2 c κs = search needs
+
+same-length : tie.Need-same-length
+same-length c = search needs
+
+returns : tie.Need-returns
+returns c =
+    let q = c .before .before in
+    let p = q .before .before .before .before .before .before in
+    let a = p .before .before .before .before .before .args in
+    (search needs, glue-two (take (a .at) (now (a .out))) (now (a .label)) (decimalOf (a .m)) (bytes " ") (decimalOf (a .n)) (bytes "\n") (q .put-one2 .ensures .1) (p .put-one .ensures .1))
+
+pub put-two-spec : {M : Type 1} → statement M
+put-two-spec =
+    tie.close
+    (tie.spec
+    slice-aggregate-put-one
+    put-one-requires
+    slice-aggregate-put-one-2
+    slice-aggregate-put-one-3
+    put-one-requires-2
+    same-length
+    returns)

@@ -1,0 +1,87 @@
+-- `text::two` meets its contract.
+use mathlib.Core.Path.{sym, _∙_}
+use Rattle.text.specs.Parse.{pairedOf}
+use borrow.Author.Needs.{needs}
+use Rattle.text.proofs.two.Statement.{statement}
+use Rattle.text.proofs.two.Tie as tie
+
+number-requires : tie.Need-number-requires
+number-requires c κs = search needs
+
+enum-known-m : tie.Need-enum-known-m
+enum-known-m c = search needs
+
+enum-told : tie.Need-enum-told
+enum-told c = search needs
+
+returns : tie.Need-returns
+returns c = rw (sym (c .before .before .number .ensures) ∙ c .enum-told .given .1)
+
+number-requires-2 : tie.Need-number-requires-2
+number-requires-2 c κs = search needs
+
+enum-known-n : tie.Need-enum-known-n
+enum-known-n c = search needs
+
+enum-told-2 : tie.Need-enum-told-2
+enum-told-2 c = search needs
+
+returns-2 : tie.Need-returns-2
+returns-2 c =
+    let m = c .before .before .before .before in
+    rw (sym (m .before .before .number .ensures) ∙ m .m .given .1, sym (c .before .before .number2 .ensures) ∙ c .enum-told2 .given .1)
+
+slice-aggregate-same : tie.Need-slice-aggregate-same
+slice-aggregate-same c = search needs
+
+same-requires : tie.Need-same-requires
+same-requires c κs = search needs
+
+returns-3 : tie.Need-returns-3
+unfolding pairedOf
+returns-3 c =
+    let n = c .before .before .before .before in
+    let m = n .before .before .before .before in
+    rw (sym (m .before .before .number .ensures) ∙ m .m .given .1, sym (n .before .before .number2 .ensures) ∙ n .n .given .1, sym (c .before .same .ensures) ∙ c .if1 .taken)
+
+slice-aggregate-same-2 : tie.Need-slice-aggregate-same-2
+slice-aggregate-same-2 c = search needs
+
+same-requires-2 : tie.Need-same-requires-2
+same-requires-2 c κs = search needs
+
+returns-4 : tie.Need-returns-4
+unfolding pairedOf
+returns-4 c =
+    let p = c .before .before .before in
+    let n = p .before .before .before .before in
+    let m = n .before .before .before .before in
+    rw (sym (m .before .before .number .ensures) ∙ m .m .given .1, sym (n .before .before .number2 .ensures) ∙ n .n .given .1, sym (p .before .same .ensures) ∙ p .if1 .left, sym (c .before .same2 .ensures) ∙ c .if2 .taken)
+
+returns-5 : tie.Need-returns-5
+unfolding pairedOf
+returns-5 c =
+    let p = c .before .before .before in
+    let n = p .before .before .before .before in
+    let m = n .before .before .before .before in
+    rw (sym (m .before .before .number .ensures) ∙ m .m .given .1, sym (n .before .before .number2 .ensures) ∙ n .n .given .1, sym (p .before .same .ensures) ∙ p .if1 .left, sym (c .before .same2 .ensures) ∙ c .if2 .left)
+
+pub two-spec : {M : Type 1} → statement M
+two-spec =
+    tie.close
+    (tie.spec
+    number-requires
+    enum-known-m
+    enum-told
+    returns
+    number-requires-2
+    enum-known-n
+    enum-told-2
+    returns-2
+    slice-aggregate-same
+    same-requires
+    returns-3
+    slice-aggregate-same-2
+    same-requires-2
+    returns-4
+    returns-5)

@@ -1,0 +1,124 @@
+// What the program needs to gather its answers: not for a user. Each function puts some bytes into out from index `at` on, for which
+// it asks room, and answers the index after them.
+use super::Line;
+ghost use mathlib.Core.Path.{_≡_};
+ghost use mathlib.Core.List.{_++_};
+ghost use Prim.Native.Nat.{_+_, _*_, _≤_};
+ghost use lib.ListN.{length, take};
+ghost use Rattle.entry.specs.Limits.{width};
+ghost use Rattle.entry.specs.Change.{change, entriesOf};
+ghost use Rattle.text.specs.Bytes.{bytes};
+ghost use Rattle.text.specs.Answers.{decimalOf, lineOf, entryText, entryLine, entryLines};
+
+// The bytes of src.
+pub fn put(out: &mut [u8], at: usize, src: &[u8]) -> usize
+    requires { ⌜ at + length (now src) ≤ length (now out) ⌝ }
+    ensures { λ r. ⌜ r ≡ at + length (now (src .entry)) ⌝ }
+    ensures { λ r. ⌜ take r (now (out .exit)) ≡ take at (now (out .entry)) ++ now (src .entry) ⌝ }
+{
+    let mut i = 0;
+    while i < src.len() {
+        out[at + i] = src[i];
+        i += 1;
+    }
+    at + i
+}
+
+// n in decimal.
+fn put_number(out: &mut [u8], at: usize, n: u64) -> usize
+    requires { ⌜ at + 20 ≤ length (now out) ⌝ }
+    ensures { λ r. ⌜ r ≤ at + 20 ⌝ }
+    ensures { λ r. ⌜ take r (now (out .exit)) ≡ take at (now (out .entry)) ++ decimalOf n ⌝ }
+{
+    let mut text = [0u8; 20];
+    let k = io::decimal(n, &mut text);
+    put(out, at, &text[..k])
+}
+
+// label, n in decimal and tail.
+fn put_one(out: &mut [u8], at: usize, label: &[u8], n: u64, tail: &[u8]) -> usize
+    requires { ⌜ at + length (now label) + 20 + length (now tail) ≤ length (now out) ⌝ }
+    ensures { λ r. ⌜ r ≤ at + length (now (label .entry)) + 20 + length (now (tail .entry)) ⌝ }
+    ensures { λ r. ⌜ take r (now (out .exit)) ≡ take at (now (out .entry)) ++ (now (label .entry) ++ decimalOf n ++ now (tail .entry)) ⌝ }
+{
+    let a = put(out, at, label);
+    let b = put_number(out, a, n);
+    put(out, b, tail)
+}
+
+// label, m, a space, n and a line end.
+fn put_two(out: &mut [u8], at: usize, label: &[u8], m: u64, n: u64) -> usize
+    requires { ⌜ at + length (now label) + 42 ≤ length (now out) ⌝ }
+    ensures { λ r. ⌜ r ≤ at + length (now (label .entry)) + 42 ⌝ }
+    ensures { λ r. ⌜ take r (now (out .exit)) ≡ take at (now (out .entry)) ++ (now (label .entry) ++ decimalOf m ++ bytes " " ++ decimalOf n ++ bytes "\n") ⌝ }
+{
+    let a = put_one(out, at, label, m, b" ");
+    put_one(out, a, b"", n, b"\n")
+}
+
+// A line.
+pub fn put_line(out: &mut [u8], at: usize, line: Line) -> usize
+    requires { ⌜ at + 64 ≤ length (now out) ⌝ }
+    ensures { λ r. ⌜ r ≤ at + 64 ⌝ }
+    ensures { λ r. ⌜ take r (now (out .exit)) ≡ take at (now (out .entry)) ++ lineOf line ⌝ }
+{
+    match line {
+        Line::Done => put(out, at, b"ok\n"),
+        Line::Held => put(out, at, b"held\n"),
+        Line::Nothing => put(out, at, b"none\n"),
+        Line::BadLine => put(out, at, b"bad line\n"),
+        Line::Accepted(n) => put_one(out, at, b"accepted ", n, b"\n"),
+        Line::Refused(n) => put_one(out, at, b"refused ", n, b"\n"),
+        Line::Run(n) => put_one(out, at, b"run ", n, b"\n"),
+        Line::Trimmed(i) => put_one(out, at, b"trimmed ", i, b"\n"),
+        Line::Snapshot(i, keys) => put_two(out, at, b"snapshot ", i, keys),
+        Line::Stop(c, decided) => {
+            if decided {
+                put_one(out, at, b"stop ", c as u64, b" yes\n")
+            } else {
+                put_one(out, at, b"stop ", c as u64, b" no\n")
+            }
+        }
+    }
+}
+
+// label, a key, a space, the key's place or `-`, and a line end.
+fn put_change(out: &mut [u8], at: usize, label: &[u8], k: u64, w: u64) -> usize
+    requires { ⌜ at + length (now label) + 42 ≤ length (now out) ⌝ }
+    ensures { λ r. ⌜ r ≤ at + length (now (label .entry)) + 42 ⌝ }
+    ensures { λ r. ⌜ take r (now (out .exit)) ≡ take at (now (out .entry)) ++ (now (label .entry) ++ entryText (change k w)) ⌝ }
+{
+    if w == entry::REMOVED {
+        return put_one(out, at, label, k, b" -\n");
+    }
+    put_two(out, at, label, k, w)
+}
+
+// An entry's line.
+fn put_entry(out: &mut [u8], at: usize, decided: bool, k: u64, w: u64) -> usize
+    requires { ⌜ at + 64 ≤ length (now out) ⌝ }
+    ensures { λ r. ⌜ r ≤ at + 64 ⌝ }
+    ensures { λ r. ⌜ take r (now (out .exit)) ≡ take at (now (out .entry)) ++ entryLine decided (change k w) ⌝ }
+{
+    if decided {
+        return put_change(out, at, b"decided ", k, w);
+    }
+    put_change(out, at, b"undecided ", k, w)
+}
+
+// The lines of the first n entries, the first `decided` of them as decided.
+pub fn put_run(out: &mut [u8], at: usize, entries: &[u64], n: usize, decided: usize) -> usize
+    requires { ⌜ n * width ≤ length (now entries) ⌝ }
+    requires { ⌜ at + 64 * n ≤ length (now out) ⌝ }
+    ensures { λ r. ⌜ r ≤ at + 64 * n ⌝ }
+    ensures { λ r. ⌜ take r (now (out .exit)) ≡ take at (now (out .entry)) ++ entryLines decided (entriesOf n (now (entries .entry))) ⌝ }
+{
+    let mut o = at;
+    let mut i = 0;
+    while i < n {
+        let from = i * entry::WIDTH;
+        o = put_entry(out, o, i < decided, entries[from], entries[from + 1]);
+        i += 1;
+    }
+    o
+}

@@ -1,0 +1,198 @@
+// The text of a replay: what a line of input means, and the lines that are printed.
+ghost use mathlib.Core.Path.{_≡_};
+ghost use Rattle.io.specs.Counts.{Counts};
+ghost use Rattle.text.specs.Number.{numberOf};
+ghost use Rattle.text.specs.Parse.{sameOf, gapOf, bareOf, numberedOf, withOne, withTwo, parseOf};
+
+pub mod inner;
+
+// What a word is when it is read as a number.
+pub enum Parsed {
+    Value(u64),
+    NoNumber,
+}
+
+// A line of input.
+pub enum Command {
+    Batch(u64),
+    Put(u64, u64),
+    Del(u64),
+    Read(u64, u64),
+    Flush,
+    Decide(u64),
+    Snap(u64),
+    SnapAll,
+    Stop(u32),
+    Trim(u64),
+    BadLine,
+}
+
+// A line of output, but for those of a run's entries.
+pub enum Line {
+    Done,
+    Held,
+    Nothing,
+    BadLine,
+    Accepted(u64),
+    Refused(u64),
+    Run(u64),
+    Trimmed(u64),
+    Snapshot(u64, u64),
+    Stop(u32, bool),
+}
+
+// The number that s spells in decimal, without leading zeros and below 2^64.
+fn number(s: &[u8]) -> Parsed
+    ensures { λ r. ⌜ r ≡ numberOf (now (s .entry)) ⌝ }
+{
+    if s.len() == 0 {
+        return Parsed::NoNumber;
+    }
+    if s.len() > 1 {
+        if s[0] == b'0' {
+            return Parsed::NoNumber;
+        }
+    }
+    let mut n: u64 = 0;
+    let mut i = 0;
+    while i < s.len() {
+        let b = s[i];
+        if b < b'0' {
+            return Parsed::NoNumber;
+        }
+        if b > b'9' {
+            return Parsed::NoNumber;
+        }
+        let d = (b - b'0') as u64;
+        if n > (u64::MAX - d) / 10 {
+            return Parsed::NoNumber;
+        }
+        n = n * 10 + d;
+        i += 1;
+    }
+    Parsed::Value(n)
+}
+
+// Whether two slices hold the same bytes.
+fn same(a: &[u8], b: &[u8]) -> bool
+    ensures { λ r. ⌜ r ≡ sameOf (now (a .entry)) (now (b .entry)) ⌝ }
+{
+    if a.len() != b.len() {
+        return false;
+    }
+    let mut i = 0;
+    while i < a.len() {
+        if a[i] != b[i] {
+            return false;
+        }
+        i += 1;
+    }
+    true
+}
+
+// How many bytes stand before the first space.
+fn gap(s: &[u8]) -> usize
+    ensures { λ r. ⌜ Counts r (now (s .entry)) ⌝ }
+    ensures { λ r. ⌜ r ≡ gapOf (now (s .entry)) ⌝ }
+{
+    let mut i = 0;
+    while i < s.len() {
+        if s[i] == b' ' {
+            return i;
+        }
+        i += 1;
+    }
+    i
+}
+
+// A line of one word.
+fn bare(w: &[u8]) -> Command
+    ensures { λ r. ⌜ r ≡ bareOf (now (w .entry)) ⌝ }
+{
+    if same(w, b"flush") {
+        return Command::Flush;
+    }
+    Command::BadLine
+}
+
+// A word with a number after it.
+fn numbered(w: &[u8], n: u64) -> Command
+    ensures { λ r. ⌜ r ≡ numberedOf (now (w .entry)) n ⌝ }
+{
+    if same(w, b"batch") {
+        return Command::Batch(n);
+    }
+    if same(w, b"del") {
+        return Command::Del(n);
+    }
+    if same(w, b"decide") {
+        return Command::Decide(n);
+    }
+    if same(w, b"snap") {
+        return Command::Snap(n);
+    }
+    if same(w, b"stop") {
+        if n < 0x1_0000_0000 {
+            return Command::Stop(n as u32);
+        }
+        return Command::BadLine;
+    }
+    if same(w, b"trim") {
+        return Command::Trim(n);
+    }
+    Command::BadLine
+}
+
+// A line of two words.
+fn one(w: &[u8], a: &[u8]) -> Command
+    ensures { λ r. ⌜ r ≡ withOne (now (w .entry)) (now (a .entry)) ⌝ }
+{
+    if same(w, b"snap") & same(a, b"all") {
+        return Command::SnapAll;
+    }
+    let Parsed::Value(n) = number(a) else {
+        return Command::BadLine;
+    };
+    numbered(w, n)
+}
+
+// A line of three words.
+fn two(w: &[u8], a: &[u8], b: &[u8]) -> Command
+    ensures { λ r. ⌜ r ≡ withTwo (now (w .entry)) (now (a .entry)) (now (b .entry)) ⌝ }
+{
+    let Parsed::Value(m) = number(a) else {
+        return Command::BadLine;
+    };
+    let Parsed::Value(n) = number(b) else {
+        return Command::BadLine;
+    };
+    if same(w, b"put") {
+        return Command::Put(m, n);
+    }
+    if same(w, b"read") {
+        return Command::Read(m, n);
+    }
+    Command::BadLine
+}
+
+// What a line means, without its line end.
+pub fn parse(s: &[u8]) -> Command
+    ensures { λ r. ⌜ r ≡ parseOf (now (s .entry)) ⌝ }
+{
+    let e = gap(s);
+    if e == s.len() {
+        return bare(s);
+    }
+    let w = &s[..e];
+    let rest = &s[e + 1..];
+    let f = gap(rest);
+    if f == rest.len() {
+        return one(w, rest);
+    }
+    let a = &rest[..f];
+    let b = &rest[f + 1..];
+    if gap(b) == b.len() {
+        return two(w, a, b);
+    }
+    Command::BadLine
+}

@@ -6,7 +6,7 @@ use mathlib.Core.List.{List, [], _++_, append-assoc, append-nil}
 use mathlib.Core.Option.{Option, none, some}
 use native.Mathlib.Omega.{arith}
 use borrow.Author.Tests.{ltb-false}
-use lib.Dec.{leb}
+use lib.Dec.{leb, eqb}
 use lib.ListN.{length, take, length-append}
 use lib.Seq.{take-all}
 use Rattle.words.specs.If.{if_then_else_}
@@ -15,7 +15,7 @@ use Rattle.words.specs.Coded.{wordsOf}
 use Rattle.words.proofs.CodedLaws.{spliced-append, spliced-before, words-entries, entries-length}
 use Rattle.entry.specs.Limits.{width, entryRoom, logWords}
 use Rattle.entry.specs.Change.{Change, changeCode, formed as entriesFormed, entriesOf, stored}
-use Rattle.entry.specs.Sign.{noSign}
+use Rattle.entry.specs.Sign.{noSign, signFormed}
 use Rattle.entry.specs.Guards.{Guard, Verdict, passes, refuses, first, Answer, refused, replied}
 use Rattle.entry.specs.declared.Ballot.{Ballot}
 use Rattle.entry.specs.declared.StopSign.{StopSign}
@@ -23,16 +23,18 @@ use Rattle.entry.proofs.ChangeLaws.{changeOk}
 use Rattle.entry.proofs.GuardLaws.{passed}
 use Rattle.model.specs.Numbers.{Numbers, acceptedOf}
 use Rattle.model.specs.Log.{Log, numbersOf, given, waiting, withTail}
-use Rattle.model.specs.Append.{Flushed, appendGuards, joined, batchWith, fills, appended, appendedNow, flushed, stopAppended, stopSet, appendReply}
-use Rattle.model.specs.Calls.{Call, Reply, append, appendNow, setPromise, decide, malformed, further, effect, replyOf}
-use Rattle.state_cache.specs.State.{Raw, raw, numbersIn, formed, logOf, signOr}
+use Rattle.model.specs.Append.{Flushed, appendGuards, appendStopGuards, setStopGuards, joined, batchWith, fills, appended, appendedNow, flushed, stopAppended, stopSet, appendReply, flushReply}
+use Rattle.model.specs.Calls.{Call, Reply, append, appendNow, flush, flushEntries, appendStop, setStop, setPromise, decide, malformed, further, effect, replyOf}
+use Rattle.model.proofs.Forms.{Sound}
+use Rattle.state_cache.specs.State.{Raw, raw, numbersIn, formed, logOf, signOr, Small}
+use Rattle.state_cache.proofs.Small.{sound-small}
 use Rattle.state_cache.specs.Run.{outcome, run}
 use Rattle.state_cache.specs.declared.IndexRecord.{IndexRecord}
 use Rattle.state_cache.proofs.Fields.{withEntries, withStop, withDecided, withPromise}
 use Rattle.state_cache.proofs.Stands.{Stands, stands-of, numbers-are, log-formed}
 use Rattle.state_cache.proofs.Runs.{call-refused, call-stands}
 use Rattle.state_cache.proofs.Changes.{held-length, log-spliced}
-use Rattle.internal_storage.specs.Replies.{appended as appendedIs, Indexed, indexed, byNumbers, flushedAt, heldAt, batchedWith}
+use Rattle.internal_storage.specs.Replies.{appended as appendedIs, Indexed, indexed, byNumbers, flushedAt, heldAt, batchedWith, allFlushed, flushSays, asked}
 
 given-by : {A : Type 0} (b : Bool) (x : A) → given (if b then some x else none) ≡ b
 given-by true x = refl
@@ -138,6 +140,44 @@ module _ (r : Raw) (ok : formed r ≡ true) where
     snapshot = st .snapshot;
   }
 
+  pub flush-says : flushSays (r .index) ≡ replyOf flushEntries s
+  unfolding replyOf flushReply flushSays
+  flush-says =
+      ap₂ (λ (k a : ℕ). if eqb k 0 then none else some (record { accepted = a; count = k })) (sym (st .tail .count))
+      (ap acceptedOf (sym (numbers-are (flushed s) (raw (allFlushed (r .index)) (r .log) (r .snapshot)) flushed-stands)))
+
+  pub flush-entries-run : (a : Answer (Option Flushed)) (x : IndexRecord) → a ≡ replied (flushSays (r .index)) → x ≡ allFlushed (r .index)
+      → outcome a (raw x (r .log) (r .snapshot)) ≡ run flushEntries true r
+  unfolding further malformed effect
+  flush-entries-run a x e p =
+      ap₂ (λ (b : Answer (Option Flushed)) (z : IndexRecord). outcome b (raw z (r .log) (r .snapshot))) e p
+      ∙ quiet-stands flushEntries refl refl (flushSays (r .index)) (raw (allFlushed (r .index)) (r .log) (r .snapshot)) flush-says flushed-stands
+
+  pub flush-run : (y : ℕ) (x : IndexRecord) → x ≡ allFlushed (r .index) → y ≡ acceptedOf (numbersIn x) → outcome (replied y) (raw x (r .log) (r .snapshot)) ≡ run flush true r
+  unfolding further malformed effect replyOf
+  flush-run y x e p =
+      ap (λ (z : IndexRecord). outcome (replied y) (raw z (r .log) (r .snapshot))) e
+      ∙ quiet-stands flush refl refl y (raw (allFlushed (r .index)) (r .log) (r .snapshot))
+      (p ∙ ap (λ (z : IndexRecord). acceptedOf (numbersIn z)) e ∙ ap acceptedOf (sym (numbers-are (flushed s) (raw (allFlushed (r .index)) (r .log) (r .snapshot)) flushed-stands)))
+      flushed-stands
+
+  pub append-stop-run : (g : StopSign) → signFormed g ≡ true → (a : Answer (Option Flushed)) (x : IndexRecord)
+      → indexed a x ≡ byNumbers (first (appendStopGuards (numbersIn (r .index)))) (flushSays (r .index)) (withStop true g (allFlushed (r .index))) (r .index)
+      → outcome a (raw x (r .log) (r .snapshot)) ≡ run (appendStop g) true r
+  unfolding further malformed effect replyOf
+  append-stop-run g fine a x e =
+      numbers-run (appendStop g) appendStopGuards refl (rw fine) (flushSays (r .index)) (withStop true g (allFlushed (r .index))) (λ q. (flush-says, stop-stands g)) a x e
+
+  pub set-stop-run : (held : Bool) (g : StopSign) → (held ≡ false → g ≡ noSign) → malformed (setStop (asked held g)) ≡ false → (a : Answer ℕ) (x : IndexRecord)
+      → indexed a x ≡ byNumbers (first (setStopGuards held (numbersIn (r .index)))) (acceptedOf (numbersIn (withStop held g (r .index)))) (withStop held g (r .index)) (r .index)
+      → outcome a (raw x (r .log) (r .snapshot)) ≡ run (setStop (asked held g)) true r
+  unfolding further effect replyOf
+  set-stop-run held g blank m a x e =
+      let set = stop-set-stands held g blank in
+      numbers-run (setStop (asked held g)) (setStopGuards held) (ap (λ (t : Bool). setStopGuards t (numbersOf s)) (given-by held g)) m
+      (acceptedOf (numbersIn (withStop held g (r .index)))) (withStop held g (r .index))
+      (λ q. (ap acceptedOf (sym (numbers-are (stopSet (asked held g) s) (raw (withStop held g (r .index)) (r .log) (r .snapshot)) set)), set)) a x e
+
   -- ---- entries put into the log's words
 
   module _ (n : ℕ) (entries words : List ℕ) (whole : length entries ≡ n * width) where
@@ -195,10 +235,10 @@ module _ (r : Raw) (ok : formed r ≡ true) where
       unfolding effect appended
       hold-effect e = rw e held-all
 
-      abbrev flush-says : Option Flushed
-      flush-says = some (record { accepted = acceptedOf (numbersIn (flushedAt n (r .index) .index)); count = r .index .batched + n })
+      abbrev flush-told : Option Flushed
+      flush-told = some (record { accepted = acceptedOf (numbersIn (flushedAt n (r .index) .index)); count = r .index .batched + n })
 
-      flush-reply : fills es s ≡ true → flush-says ≡ replyOf (append es) s
+      flush-reply : fills es s ≡ true → flush-told ≡ replyOf (append es) s
       unfolding replyOf appendReply appended
       flush-reply e =
           rw e
@@ -225,7 +265,7 @@ module _ (r : Raw) (ok : formed r ≡ true) where
           where
             go : (t : Bool) → fills es s ≡ t
                 → outcome (appendedIs ((if t then flushedAt n (r .index) else heldAt n (r .index)) .answer)) (raw ((if t then flushedAt n (r .index) else heldAt n (r .index)) .index) words (r .snapshot)) ≡ run (append es) true r
-            go true e = call-stands (append es) r ok bad stands flush-says (raw (flushedAt n (r .index) .index) words (r .snapshot)) (flush-reply e) (flush-effect e)
+            go true e = call-stands (append es) r ok bad stands flush-told (raw (flushedAt n (r .index) .index) words (r .snapshot)) (flush-reply e) (flush-effect e)
             go false e = call-stands (append es) r ok bad stands none (raw (heldAt n (r .index) .index) words (r .snapshot)) (hold-reply e) (hold-effect e)
 
     -- before the batch
@@ -274,3 +314,16 @@ module _ (r : Raw) (ok : formed r ≡ true) (n : ℕ) (entries : List ℕ) (fine
 pub append-room : (k : ℕ) (n : Numbers) → passes ≡ first (appendGuards k n) → n .retained + n .batched + k ≤ entryRoom
 unfolding appendGuards
 append-room k n e = ltb-false entryRoom (n .retained + n .batched + k) (passed (appendGuards k n) (sym e) .1 .1 .0)
+
+-- the numbers of a flushed record are small, and what a flush says of a batch that is not empty
+pub flushed-small : (x : IndexRecord) → Sound (numbersIn x) → (y : IndexRecord) → y ≡ allFlushed x → Small (numbersIn y)
+flushed-small x s y e =
+    rw e
+    (record { few = omega (arith, s .room); waiting = omega arith; low = sound-small (numbersIn x) s .low })
+
+pub flush-answered : (x y : IndexRecord) (a : ℕ) → eqb (x .batched) 0 ≡ false → y ≡ allFlushed x → a ≡ acceptedOf (numbersIn y)
+    → replied (some (record { accepted = a; count = x .batched })) ≡ replied (flushSays x)
+unfolding flushSays
+flush-answered x y a t e p =
+    rw t
+    (ap (λ (k : ℕ). replied (some (record { accepted = k; count = x .batched }))) (p ∙ ap (λ (z : IndexRecord). acceptedOf (numbersIn z)) e))

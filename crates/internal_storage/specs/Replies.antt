@@ -1,16 +1,17 @@
 -- What the code's answers say in document 01's words, and what a batch comes to.
 use Prim.Native.Nat.{ℕ, _+_, _*_}
 use mathlib.Core.Path.{_≡_}
-use mathlib.Core.Bool.{true}
+use mathlib.Core.Bool.{Bool, true}
 use mathlib.Core.List.{List}
 use mathlib.Core.Option.{Option, none, some}
-use lib.Dec.{leb}
+use lib.Dec.{leb, eqb}
 use lib.ListN.{length}
 use Rattle.words.specs.If.{if_then_else_}
 use Rattle.entry.specs.Limits.{width}
 use Rattle.entry.specs.Change.{formed, entriesOf}
 use Rattle.entry.specs.Guards.{Verdict, passes, refuses, Answer, refused, replied, refusedBy}
 use Rattle.entry.specs.Refusals.{numberOf, carriedOf}
+use Rattle.entry.specs.declared.StopSign.{StopSign}
 use Rattle.model.specs.Numbers.{acceptedOf}
 use Rattle.model.specs.Append.{Flushed}
 use Rattle.state_cache.specs.State.{Raw, numbersIn, Ready}
@@ -67,6 +68,17 @@ heldAt n x = record { answer = Held; index = withEntries (x .retained) (x .batch
 
 unfoldable pub batchedWith : ℕ → IndexRecord → AppendedAt
 batchedWith n x = if leb (x .«batch_size») (x .batched + n) then flushedAt n x else heldAt n x
+
+-- a flush of the whole batch: the record after it, and what was flushed, if anything was
+abbrev pub allFlushed : IndexRecord → IndexRecord
+allFlushed x = withEntries (x .retained + x .batched) 0 x
+
+unfoldable pub flushSays : IndexRecord → Option Flushed
+flushSays x = if eqb (x .batched) 0 then none else some (record { accepted = acceptedOf (numbersIn (allFlushed x)); count = x .batched })
+
+-- a stop-sign lent beside the flag that says whether one is
+abbrev pub asked : Bool → StopSign → Option StopSign
+asked given g = if given then some g else none
 
 -- what an append needs, once its words are known to be n entries in form
 pub record Appends (r : Raw) (n : ℕ) (entries : List ℕ) : Type 0 where

@@ -6,7 +6,9 @@ use state_cache::IndexRecord;
 
 pub mod append;
 pub mod decide;
+pub mod flush;
 pub mod inner;
+pub mod stop;
 
 // What an append with batching says: the entries wait in the batch, or the whole batch is flushed. The flushed entries are the last
 // so many of those retained.

@@ -1,0 +1,48 @@
+// Flushes. The entries flushed are the last of those retained, so a reply need only count them.
+use super::Appended;
+use super::AppendedAt;
+use entry::LogIndex;
+use entry::Refusal;
+use state_cache::Accepted;
+use state_cache::AcceptedAt;
+use state_cache::IndexRecord;
+ghost use mathlib.Core.Path.{_≡_};
+ghost use mathlib.Core.Bool.{true};
+ghost use Rattle.model.specs.Calls.{flush, flushEntries};
+ghost use Rattle.state_cache.specs.State.{raw};
+ghost use Rattle.state_cache.specs.Run.{outcome, run, accepted};
+ghost use Rattle.internal_storage.specs.Replies.{appended};
+
+pub fn flush_batch(index: IndexRecord, log: &[u64], snapshot: &[u64]) -> AcceptedAt
+    ensures { λ r. ⌜ outcome (accepted (r .answer)) (raw (r .index) (now (log .entry)) (now (snapshot .entry))) ≡ run flush true (raw index (now (log .entry)) (now (snapshot .entry))) ⌝ }
+{
+    if !state_cache::well_formed(index, log, snapshot) {
+        return AcceptedAt {
+            answer: Accepted::Refused(Refusal::IllFormed),
+            index,
+        };
+    }
+    let next = super::inner::flush(index);
+    let last = state_cache::inner::accepted(next);
+    AcceptedAt {
+        answer: Accepted::At(LogIndex(last)),
+        index: next,
+    }
+}
+
+pub fn flush_batch_and_get_entries(index: IndexRecord, log: &[u64], snapshot: &[u64]) -> AppendedAt
+    ensures { λ r. ⌜ outcome (appended (r .answer)) (raw (r .index) (now (log .entry)) (now (snapshot .entry))) ≡ run flushEntries true (raw index (now (log .entry)) (now (snapshot .entry))) ⌝ }
+{
+    if !state_cache::well_formed(index, log, snapshot) {
+        return AppendedAt {
+            answer: Appended::Refused(Refusal::IllFormed),
+            index,
+        };
+    }
+    let answer = super::inner::flush_answer(index);
+    let next = super::inner::flush(index);
+    AppendedAt {
+        answer,
+        index: next,
+    }
+}

@@ -1,0 +1,93 @@
+-- A snapshot created from a lent state: refusals 12, 11, 3, 2 and 8, or the fold written out.
+use Prim.Native.Nat.{ℕ, _+_, _-_, _≤_, _<_}
+use mathlib.Core.Path.{_≡_, refl, sym, ap, _∙_}
+use mathlib.Core.Bool.{Bool, true, false}
+use mathlib.Core.List.{List, [], _∷_}
+use native.Mathlib.Omega.{arith}
+use borrow.Author.Tests.{lt-ltb, le-ltb}
+use lib.Dec.{ltb}
+use Rattle.words.specs.If.{if_then_else_}
+use Rattle.entry.specs.Change.{Change}
+use Rattle.entry.specs.Guards.{Verdict, passes, refuses, first, Answer, refused, settle}
+use Rattle.entry.proofs.GuardLaws.{passing, stopping, found, first-goes-on}
+use Rattle.snapshot.specs.Calls.{outcome as shotOutcome, written, overRoom}
+use Rattle.snapshot.specs.Inner.{foldedOut}
+use Rattle.model.specs.Numbers.{Numbers, logDecided}
+use Rattle.model.specs.Log.{Log, foldedTo}
+use Rattle.model.specs.Compact.{target, createGuards, created}
+use Rattle.model.specs.Calls.{Call, query, create, malformed, further, queryGuards, effect, replyOf, queryReply}
+use Rattle.model.proofs.Forms.{Sound, ranges}
+use Rattle.state_cache.specs.State.{Raw, numbersIn, formed, logOf}
+use Rattle.state_cache.specs.Run.{Outcome, run}
+use Rattle.state_cache.proofs.Stands.{Stands, stands-of}
+use Rattle.state_cache.proofs.Runs.{ill-formed, not-whole, call-refused, call-stands}
+use Rattle.internal_storage.proofs.Effects.{numbers}
+use Rattle.compaction.specs.Written.{writtenOut}
+use Rattle.compaction.proofs.Folding.{fold-is}
+
+-- no target is below compacted that is asked for at or above it
+pub target-from : (i : ℕ) (n : Numbers) → Sound n → n .compacted ≤ i → n .compacted ≤ target i n
+unfolding target
+target-from i n f h = go (ltb i (n .decided))
+  where
+    go : (t : Bool) → n .compacted ≤ (if t then i else logDecided n)
+    go true = h
+    go false = ranges n f .low
+
+module _ (r : Raw) (i : ℕ) (out : List ℕ) where
+  abbrev c : Call
+  c = query (create i)
+
+  abbrev s : Log
+  s = logOf r
+
+  pub create-ill-formed : (whole : Bool) → formed r ≡ false → shotOutcome (refused 12 0) out ≡ writtenOut (run c whole r .answer) out
+  create-ill-formed whole e = ap (λ (o : Outcome (List Change)). writtenOut (o .answer) out) (ill-formed c whole r e)
+
+  module _ (ok : formed r ≡ true) where
+    pub create-malformed : (whole : Bool) → whole ≡ false → shotOutcome (refused 11 0) out ≡ writtenOut (run c whole r .answer) out
+    create-malformed whole e = ap (λ (o : Outcome (List Change)). writtenOut (o .answer) out) (not-whole c whole r ok e)
+
+    st : Stands s r
+    st = stands-of r ok
+
+    answers : (v : Verdict) → v ≡ first (further c s) → settle v (created i s) ≡ run c true r .answer
+    unfolding malformed effect replyOf queryReply
+    answers passes e = ap (λ (o : Outcome (List Change)). o .answer) (call-stands c r ok refl e (created i s) r refl st)
+    answers (refuses n k) e = ap (λ (o : Outcome (List Change)). o .answer) (call-refused c r ok refl n k e)
+
+    told : (v : Verdict) → v ≡ first (further c s) → written v (created i s) out ≡ writtenOut (run c true r .answer) out
+    told v e = same v ∙ ap (λ (a : Answer (List Change)). writtenOut a out) (answers v e)
+      where
+        same : (v : Verdict) → written v (created i s) out ≡ writtenOut (settle v (created i s)) out
+        same passes = refl
+        same (refuses n k) = refl
+
+    pub create-below : i < r .index .compacted .0 → shotOutcome (refused 3 (r .index .compacted .0)) out ≡ writtenOut (run c true r .answer) out
+    unfolding further queryGuards createGuards
+    create-below h =
+        told (refuses 3 (r .index .compacted .0))
+        (found {gs = createGuards i s} {v = refuses 3 (r .index .compacted .0)} (stopping (lt-ltb i (s .run .compacted) (omega (arith, st .run .start, h))) (sym (st .run .start))))
+
+    module _ (low : r .index .compacted .0 ≤ i) where
+      from : ltb i (s .run .compacted) ≡ false
+      from = le-ltb i (s .run .compacted) (omega (arith, st .run .start, low))
+
+      pub create-above : r .index .decided .0 < i → shotOutcome (refused 2 (r .index .decided .0)) out ≡ writtenOut (run c true r .answer) out
+      unfolding further queryGuards createGuards
+      create-above h =
+          told (refuses 2 (r .index .decided .0))
+          (found {gs = createGuards i s} {v = refuses 2 (r .index .decided .0)}
+          (passing from (stopping (lt-ltb (s .marks .decided) i (omega (arith, st .marks .index, h))) (sym (st .marks .index)))))
+
+      pub create-folds : i ≤ r .index .decided .0 → (to : ℕ) → to ≡ target i (numbersIn (r .index)) → to ≤ r .index .compacted .0 + r .index .retained
+          → foldedOut (r .index .keys) (r .snapshot) (to - r .index .compacted .0) (r .log) out ≡ writtenOut (run c true r .answer) out
+      create-folds h to e in-run =
+          ap (λ (es : List Change). written (first (overRoom es ∷ [])) es out) (fold-is r ok to in-run ∙ asked) ∙ told (first (overRoom (created i s) ∷ [])) verdict
+        where
+          asked : foldedTo to (s .run) ≡ created i s
+          asked = unfold created in ap (λ (j : ℕ). foldedTo j (s .run)) (e ∙ ap (target i) (sym (numbers r ok)))
+
+          verdict : first (overRoom (created i s) ∷ []) ≡ first (further c s)
+          verdict = unfold further queryGuards createGuards created in
+              sym (first-goes-on 3 (s .run .compacted) (ltb i (s .run .compacted)) _ from ∙ first-goes-on 2 (s .marks .decided) (ltb (s .marks .decided) i) _ (le-ltb (s .marks .decided) i (omega (arith, st .marks .index, h))))

@@ -1,0 +1,4 @@
+pub mod Moving
+pub mod Folding
+pub mod Shots
+pub mod Creates

@@ -1,0 +1,26 @@
+-- `compaction::inner::past_decided` meets its contract: by how far is asked for.
+use mathlib.Core.Path.{sym, ap}
+use Rattle.model.specs.Compact.{pastDecided}
+use Rattle.state_cache.specs.State.{numbersIn}
+use Rattle.compaction.specs.Moves.{uptoOf}
+use Rattle.compaction.specs.declared.Upto.{Upto}
+use borrow.Author.Needs.{needs}
+use Rattle.compaction.proofs.inner.past_decided.Statement.{statement}
+use Rattle.compaction.proofs.inner.past_decided.Tie as tie
+
+enum-told : tie.Need-enum-told
+enum-told c = search needs
+
+enum-known-idx : tie.Need-enum-known-idx
+enum-known-idx c = search needs
+
+returns : tie.Need-returns
+returns c = ap (λ (u : Upto). pastDecided (uptoOf u) (numbersIn (c .before .before .args .index))) (sym (c .enum-told .given .1))
+
+returns-2 : tie.Need-returns-2
+returns-2 c =
+    let st = c .before .before .before .before .before in
+    ap (λ (u : Upto). pastDecided (uptoOf u) (numbersIn (st .args .index))) (sym (c .before .before .before .idx .given .1))
+
+pub past-decided-spec : {M : Type 1} → statement M
+past-decided-spec = tie.close (tie.spec enum-told enum-known-idx returns returns-2)

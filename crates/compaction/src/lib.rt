@@ -1,0 +1,78 @@
+// The calls of document 01's module 6 on a lent log: trims and snapshots. Each contract is one equation with `run`: the reply, the
+// record and every lent word after the call. Names are the Rust's.
+use entry::LogIndex;
+use entry::Refusal;
+use snapshot::Folded;
+use state_cache::IndexRecord;
+use state_cache::Settled;
+use state_cache::SettledAt;
+ghost use mathlib.Core.Path.{_≡_};
+ghost use mathlib.Core.Bool.{true};
+ghost use lib.Dec.{eqb};
+ghost use lib.ListN.{length};
+ghost use Rattle.entry.specs.Limits.{snapshotWords};
+ghost use Rattle.snapshot.specs.Calls.{outcome as shotOutcome, folded};
+ghost use Rattle.model.specs.Calls.{query, create, trim, snapshot as snapshotCall};
+ghost use Rattle.state_cache.specs.State.{raw};
+ghost use Rattle.state_cache.specs.Run.{outcome, run, settled};
+ghost use Rattle.compaction.specs.Moves.{uptoOf};
+ghost use Rattle.compaction.specs.Written.{writtenOut};
+
+pub mod inner;
+
+// How far a snapshot goes, the Rust's `Option`: over all that is decided, or up to an index.
+pub enum Upto {
+    Decided,
+    Index(LogIndex),
+}
+
+// Drops the entries below an index, whatever stands in the snapshot.
+pub fn try_trim(index: IndexRecord, log: &mut [u64], snapshot: &[u64], idx: LogIndex) -> SettledAt
+    ensures { λ r. ⌜ outcome (settled (r .answer)) (raw (r .index) (now (log .exit)) (now (snapshot .entry))) ≡ run (trim (idx .0)) true (raw index (now (log .entry)) (now (snapshot .entry))) ⌝ }
+{
+    if !state_cache::well_formed(index, log, snapshot) {
+        return SettledAt {
+            answer: Settled::Refused(Refusal::IllFormed),
+            index,
+        };
+    }
+    inner::trim_at(index, log, snapshot, idx)
+}
+
+// Folds the entries below an index onto the held snapshot and drops them. Where the fold has too many keys nothing changes.
+pub fn try_snapshot(
+    index: IndexRecord,
+    log: &mut [u64],
+    snapshot: &mut [u64],
+    idx: Upto,
+) -> SettledAt
+    ensures { λ r. ⌜ outcome (settled (r .answer)) (raw (r .index) (now (log .exit)) (now (snapshot .exit))) ≡ run (snapshotCall (uptoOf idx)) true (raw index (now (log .entry)) (now (snapshot .entry))) ⌝ }
+{
+    if !state_cache::well_formed(index, log, snapshot) {
+        return SettledAt {
+            answer: Settled::Refused(Refusal::IllFormed),
+            index,
+        };
+    }
+    inner::snapshot_at(index, log, snapshot, idx)
+}
+
+// Writes out the fold of all changes below an index and says how many keys it has. The log stays as it is.
+pub fn create_snapshot(
+    index: IndexRecord,
+    log: &[u64],
+    snapshot: &[u64],
+    idx: LogIndex,
+    out: &mut [u64],
+) -> Folded
+    ensures { λ r. ⌜ shotOutcome (folded r) (now (out .exit)) ≡ writtenOut (run (query (create (idx .0))) (eqb (length (now (out .entry))) snapshotWords) (raw index (now (log .entry)) (now (snapshot .entry))) .answer) (now (out .entry)) ⌝ }
+{
+    if !state_cache::well_formed(index, log, snapshot) {
+        return Folded::Refused(Refusal::IllFormed);
+    }
+    let roomy = out.len() == entry::SNAPSHOT_WORDS;
+    if !roomy {
+        return Folded::Refused(Refusal::Malformed);
+    }
+    inner::create_at(index, log, snapshot, idx, out)
+}

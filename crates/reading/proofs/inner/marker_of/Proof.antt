@@ -1,0 +1,40 @@
+-- `reading::inner::marker_of` meets its contract: by the kind.
+use mathlib.Core.Path.{sym, ap, _∙_}
+use Rattle.reading.specs.Numbered.{markerAt}
+use Rattle.reading.specs.declared.inner.IndexEntry.{IndexEntry}
+use borrow.Author.Needs.{needs}
+use Rattle.reading.proofs.inner.marker_of.Statement.{statement}
+use Rattle.reading.proofs.inner.marker_of.Tie as tie
+
+enum-told : tie.Need-enum-told
+enum-told c = search needs
+
+compacted-marker-requires : tie.Need-compacted-marker-requires
+compacted-marker-requires c κs = search needs
+
+enum-told-2 : tie.Need-enum-told-2
+enum-told-2 c = search needs
+
+enum-told-3 : tie.Need-enum-told-3
+enum-told-3 c = search needs
+
+returns : tie.Need-returns
+returns c = c .compacted-marker .ensures ∙ sym (ap (λ (e : IndexEntry). markerAt e (c .before .before .before .args .index)) (c .before .enum-told .given .1))
+
+returns-2 : tie.Need-returns-2
+returns-2 c = sym (ap (λ (e : IndexEntry). markerAt e (c .before .before .args .index)) (c .enum-told2 .given .1))
+
+returns-3 : tie.Need-returns-3
+returns-3 c = sym (ap (λ (e : IndexEntry). markerAt e (c .before .before .args .index)) (c .enum-told3 .given .1))
+
+pub marker-of-spec : {M : Type 1} → statement M
+marker-of-spec =
+    tie.close
+    (tie.spec
+    enum-told
+    compacted-marker-requires
+    enum-told-2
+    enum-told-3
+    returns
+    returns-2
+    returns-3)

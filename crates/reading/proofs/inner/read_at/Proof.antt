@@ -1,0 +1,111 @@
+-- `reading::inner::read_at` meets its contract: the kind of the last index decides.
+use Prim.Native.Nat.{_-_}
+use mathlib.Core.Path.{ap, _∙_}
+use Rattle.state_cache.specs.State.{numbersIn}
+use Rattle.reading.specs.Kinds.{kindIs, entryIs}
+use Rattle.reading.specs.Numbered.{runOfNone}
+use Rattle.reading.specs.declared.ReadReply.the-variants.{Run}
+use Rattle.reading.specs.declared.inner.IndexEntry.the-variants.{Compacted, Entry, StopSign}
+use Rattle.reading.specs.declared.inner.Kind.the-variants.{Nothing, Held}
+use Rattle.reading.proofs.Replying.{entry-inside, stop-inside, case-zero, case-marker, case-past}
+use borrow.Author.Needs.{needs}
+use Rattle.reading.proofs.inner.read_at.Statement.{statement}
+use Rattle.reading.proofs.inner.read_at.Tie as tie
+
+held : (e : tie.After-known-told) → entryIs (numbersIn (e .before .before .before .before .before .args .index)) (e .before .before .before .before .before .args .to - 1) (e .before .kind .given .0 .0)
+held e =
+    let k = e .before .before .before in
+    let a = k .before .before .args in
+    let h : kindIs (numbersIn (a .index)) (a .to - 1) (Held (e .before .kind .given .0 .0)) = rw (e .before .kind .given .1) at (k .kind-at .ensures) in
+    h
+
+returns : tie.Need-returns
+returns c =
+    let a = c .before .args in
+    case-zero (a .index) (a .from) (a .to) (c .if1 .taken)
+
+sub-kind-at : tie.Need-sub-kind-at
+sub-kind-at c = search needs
+
+kind-at-requires : tie.Need-kind-at-requires
+kind-at-requires c κs = search needs
+
+enum-known-kind : tie.Need-enum-known-kind
+enum-known-kind c = search needs
+
+enum-told : tie.Need-enum-told
+enum-told c = search needs
+
+returns-2 : tie.Need-returns-2
+returns-2 c =
+    let k = c .before .before in
+    let a = k .before .before .args in
+    let h : kindIs (numbersIn (a .index)) (a .to - 1) Nothing = rw (c .enum-told .given .1) at (k .kind-at .ensures) in
+    case-past (a .index) (a .from) (a .to) (k .before .if1 .left) h
+
+enum-told-2 : tie.Need-enum-told-2
+enum-told-2 c = search needs
+
+compacted-marker-requires : tie.Need-compacted-marker-requires
+compacted-marker-requires c κs = search needs
+
+no-entries-requires : tie.Need-no-entries-requires
+no-entries-requires c κs = search needs
+
+enum-told-3 : tie.Need-enum-told-3
+enum-told-3 c = search needs
+
+read-from-requires : tie.Need-read-from-requires
+read-from-requires c κs =
+    let e = c .before .before in
+    let f = e .before .before .before .before in
+    let a = f .before .args in
+    let h : entryIs (numbersIn (a .index)) (a .to - 1) Entry = rw (c .enum-told3 .given .1) at (held e) in
+    (f .before .pre, entry-inside (numbersIn (a .index)) (a .to) (f .if1 .left) h)
+
+enum-told-4 : tie.Need-enum-told-4
+enum-told-4 c = search needs
+
+read-from-requires-2 : tie.Need-read-from-requires-2
+read-from-requires-2 c κs =
+    let e = c .before .before in
+    let f = e .before .before .before .before in
+    let a = f .before .args in
+    let h : entryIs (numbersIn (a .index)) (a .to - 1) StopSign = rw (c .enum-told4 .given .1) at (held e) in
+    (f .before .pre, stop-inside (numbersIn (a .index)) (a .to) (f .if1 .left) h)
+
+returns-3 : tie.Need-returns-3
+returns-3 c =
+    let m = c .before in
+    let e = m .before .before .before in
+    let f = e .before .before .before .before in
+    let a = f .before .args in
+    let h : entryIs (numbersIn (a .index)) (a .to - 1) Compacted = rw (m .before .enum-told2 .given .1) at (held e) in
+    ap Run (c .no-entries .ensures ∙ ap runOfNone (m .compacted-marker .ensures)) ∙ case-marker (a .index) (a .from) (a .to) (f .if1 .left) h
+
+returns-4 : tie.Need-returns-4
+returns-4 c = search needs
+
+returns-5 : tie.Need-returns-5
+returns-5 c = search needs
+
+pub read-at-spec : {M : Type 1} → statement M
+read-at-spec =
+    tie.close
+    (tie.spec
+    returns
+    sub-kind-at
+    kind-at-requires
+    enum-known-kind
+    enum-told
+    returns-2
+    enum-told-2
+    compacted-marker-requires
+    no-entries-requires
+    enum-told-3
+    read-from-requires
+    enum-told-4
+    read-from-requires-2
+    returns-3
+    returns-4
+    returns-5)

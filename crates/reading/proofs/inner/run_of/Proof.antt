@@ -1,0 +1,70 @@
+-- `reading::inner::run_of` meets its contract: the calls' results are the run's numbers.
+use mathlib.Core.Path.{_∙_}
+use Rattle.reading.proofs.Replying.{marker-at, run-is}
+use borrow.Author.Needs.{needs}
+use Rattle.reading.proofs.inner.run_of.Statement.{statement}
+use Rattle.reading.proofs.inner.run_of.Tie as tie
+
+monus-requires : tie.Need-monus-requires
+monus-requires c κs = search needs
+
+monus-requires-2 : tie.Need-monus-requires-2
+monus-requires-2 c κs = search needs
+
+least-requires : tie.Need-least-requires
+least-requires c κs = search needs
+
+monus-requires-3 : tie.Need-monus-requires-3
+monus-requires-3 c κs = search needs
+
+least-requires-2 : tie.Need-least-requires-2
+least-requires-2 c κs = search needs
+
+accepted-requires : tie.Need-accepted-requires
+accepted-requires c κs = search needs
+
+stop-decided-requires : tie.Need-stop-decided-requires
+stop-decided-requires c κs = search needs
+
+marker-of-requires : tie.Need-marker-of-requires
+marker-of-requires c κs = search needs
+
+monus-requires-4 : tie.Need-monus-requires-4
+monus-requires-4 c κs = search needs
+
+monus-requires-5 : tie.Need-monus-requires-5
+monus-requires-5 c κs = search needs
+
+returns : tie.Need-returns
+returns c =
+    let k₅ = c .before in
+    let k₄ = k₅ .before in
+    let m = k₄ .before in
+    let d = m .before in
+    let l = d .before in
+    let n = l .before in
+    let k₃ = n .before in
+    let e = k₃ .before in
+    let k₂ = e .before in
+    let k₁ = k₂ .before in
+    let st = k₁ .before in
+    let a = st .args in
+    run-is (a .index) (a .from) (a .to) _ _ (k₂ .monus2 .result) (e .least .result) (k₃ .monus3 .result) (n .least2 .result) _ _ _ _
+    (m .marker-of .ensures ∙ marker-at (a .index) (a .from) (a .entry) (st .pre .1)) (k₁ .monus .ensures) (k₂ .monus2 .ensures) (e .least .ensures) (k₃ .monus3 .ensures) (n .least2 .ensures)
+    (l .accepted .ensures) (d .stop-decided .ensures) (k₄ .monus4 .ensures) (k₅ .monus5 .ensures)
+
+pub run-of-spec : {M : Type 1} → statement M
+run-of-spec =
+    tie.close
+    (tie.spec
+    monus-requires
+    monus-requires-2
+    least-requires
+    monus-requires-3
+    least-requires-2
+    accepted-requires
+    stop-decided-requires
+    marker-of-requires
+    monus-requires-4
+    monus-requires-5
+    returns)

@@ -1,0 +1,30 @@
+-- `reading::inner::start_past` meets its contract: by the bound's case.
+use mathlib.Core.Path.{sym, ap}
+use Rattle.reading.specs.Replies.{boundOf}
+use Rattle.reading.specs.declared.Bound.{Bound}
+use Rattle.model.specs.Read.{startPast}
+use borrow.Author.Needs.{needs}
+use Rattle.reading.proofs.inner.start_past.Statement.{statement}
+use Rattle.reading.proofs.inner.start_past.Tie as tie
+
+enum-told : tie.Need-enum-told
+enum-told c = search needs
+
+enum-known-b : tie.Need-enum-known-b
+enum-known-b c = search needs
+
+enum-told-2 : tie.Need-enum-told-2
+enum-told-2 c = search needs
+
+returns : tie.Need-returns
+returns c = search needs
+
+returns-2 : tie.Need-returns-2
+returns-2 c = sym (ap (λ (b : Bound). startPast (boundOf b)) (c .before .before .b .given .1))
+
+returns-3 : tie.Need-returns-3
+returns-3 c = search needs
+
+pub start-past-spec : {M : Type 1} → statement M
+start-past-spec =
+    tie.close (tie.spec enum-told enum-known-b enum-told-2 returns returns-2 returns-3)

@@ -1,0 +1,42 @@
+-- `reading::inner::stop_at` meets its contract: by the bound's case; the sum fits, since the bound is not the last word.
+use native.Mathlib.Omega.{arith}
+use mathlib.Core.Path.{_≡_, sym, ap, _∙_}
+use mathlib.Core.Bool.{false}
+use borrow.Author.Tests.{eqb-false}
+use lib.Dec.{eqb}
+use Rattle.entry.specs.Limits.{lastWord}
+use Rattle.reading.specs.Replies.{boundOf}
+use Rattle.reading.specs.declared.Bound.{Bound}
+use Rattle.model.specs.Read.{stopPast, stopAt}
+use borrow.Author.Needs.{needs}
+use Rattle.reading.proofs.inner.stop_at.Statement.{statement}
+use Rattle.reading.proofs.inner.stop_at.Tie as tie
+
+enum-known-b : tie.Need-enum-known-b
+enum-known-b c = search needs
+
+add-result : tie.Need-add-result
+add-result c =
+    let k = c .before .before .b .given in
+    let e : eqb (k .0 .0 .0) lastWord ≡ false = sym (ap (λ (b : Bound). stopPast (boundOf b)) (k .1)) ∙ c .before .before .before .before .pre in
+    omega (arith, eqb-false (k .0 .0 .0) lastWord e)
+
+enum-known-b-2 : tie.Need-enum-known-b-2
+enum-known-b-2 c = search needs
+
+enum-told : tie.Need-enum-told
+enum-told c = search needs
+
+returns : tie.Need-returns
+returns c = sym (ap (λ (b : Bound). stopAt (boundOf b) (c .before .before .before .before .args .last)) (c .before .before .b .given .1))
+
+returns-2 : tie.Need-returns-2
+returns-2 c = search needs
+
+returns-3 : tie.Need-returns-3
+returns-3 c = search needs
+
+pub stop-at-spec : {M : Type 1} → statement M
+stop-at-spec =
+    tie.close
+    (tie.spec enum-known-b add-result enum-known-b-2 enum-told returns returns-2 returns-3)

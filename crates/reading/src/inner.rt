@@ -1,0 +1,292 @@
+// What the calls do on a log that is known to be well formed: not for a user, whose calls are in lib.rt.
+use super::Bound;
+use super::Marker;
+use super::ReadReply;
+use super::ShownRun;
+use super::Span;
+use entry::BlockPlace;
+use snapshot::Found;
+use snapshot::inner::Spot;
+use state_cache::IndexRecord;
+ghost use Prim.Native.Nat.{_-_, _*_, _<_, _≤_, min};
+ghost use mathlib.Core.Path.{_≡_};
+ghost use mathlib.Core.Bool.{true, false};
+ghost use mathlib.Core.Option.{some};
+ghost use lib.ListN.{length};
+ghost use Rattle.entry.specs.Limits.{width};
+ghost use Rattle.entry.specs.Change.{saidOf, entriesOf};
+ghost use Rattle.entry.specs.Guards.{replied};
+ghost use Rattle.snapshot.specs.Folds.{find, lastOf, placeOf};
+ghost use Rattle.snapshot.specs.Calls.{found};
+ghost use Rattle.snapshot.specs.Inner.{Holds};
+ghost use Rattle.model.specs.Numbers.{acceptedOf};
+ghost use Rattle.model.specs.Read.{startPast, stopPast, startAt, stopAt};
+ghost use Rattle.model.specs.Calls.{query, lookup};
+ghost use Rattle.state_cache.specs.State.{raw, numbersIn, Small, Ready};
+ghost use Rattle.state_cache.specs.Run.{run};
+ghost use Rattle.reading.specs.Newest.{newestSays};
+ghost use Rattle.reading.specs.Parts.{spanBetween};
+ghost use Rattle.reading.specs.Replies.{boundOf};
+ghost use Rattle.reading.specs.Kinds.{kindIs, entryIs};
+ghost use Rattle.reading.specs.Numbered.{markerIn, markerAt, runOfNone, runOf, replyOf};
+
+// The newest word of a key, or none.
+pub enum Newest {
+    Word(u64),
+    Nowhere,
+}
+
+// Among the first n entries, from the last one back.
+pub fn newest_word(log: &[u64], n: usize, key: u64) -> Newest
+    requires { ⌜ n * width ≤ length (now log) ⌝ }
+    ensures { λ r. ⌜ newestSays r ≡ lastOf key (entriesOf n (now (log .entry))) ⌝ }
+{
+    let mut i = n;
+    loop {
+        if i == 0 {
+            break Newest::Nowhere;
+        }
+        i -= 1;
+        let at = i * entry::WIDTH;
+        let k = log[at];
+        if k == key {
+            let word = log[at + 1];
+            break Newest::Word(word);
+        }
+    }
+}
+
+// What a key's word says to its finder: a removed key is absent.
+pub fn told(word: u64) -> Found
+    ensures { λ r. ⌜ found r ≡ replied (placeOf (some (saidOf word))) ⌝ }
+{
+    if word == entry::REMOVED {
+        return Found::Absent;
+    }
+    Found::Place(BlockPlace(word))
+}
+
+// A key's place in a snapshot that is known to be in form.
+pub fn look_up(s: &[u64], keys: usize, key: u64) -> Found
+    requires { ⌜ Holds (length (now s)) keys (now s) ⌝ }
+    ensures { λ r. ⌜ found r ≡ replied (placeOf (find key (entriesOf keys (now (s .entry))))) ⌝ }
+{
+    let spot = snapshot::inner::search(s, keys, key);
+    let Spot::At(i) = spot else {
+        return Found::Absent;
+    };
+    told(s[i * entry::WIDTH + 1])
+}
+
+pub fn look(index: IndexRecord, log: &[u64], snapshot: &[u64], key: u64) -> Found
+    requires { ⌜ Ready (raw index (now log) (now snapshot)) ⌝ }
+    ensures { λ r. ⌜ found r ≡ run (query (lookup key)) true (raw index (now (log .entry)) (now (snapshot .entry))) .answer ⌝ }
+{
+    let decided = state_cache::inner::log_decided(index);
+    let n = (decided - index.compacted.0) as usize;
+    let newest = newest_word(log, n, key);
+    let Newest::Word(word) = newest else {
+        return look_up(snapshot, index.keys, key);
+    };
+    told(word)
+}
+
+// Where the entries from one index up to another stand among those retained.
+pub fn between(index: IndexRecord, from: u64, to: u64) -> Span
+    requires { ⌜ Small (numbersIn index) ⌝ }
+    ensures { λ r. ⌜ r ≡ spanBetween from to (numbersIn index) ⌝ }
+{
+    let low = index.compacted.0;
+    let last = state_cache::inner::end(index);
+    let held = (low <= from) & ((from <= to) & (to <= last));
+    if !held {
+        return Span::Run { first: 0, count: 0 };
+    }
+    Span::Run {
+        first: (from - low) as usize,
+        count: (to - from) as usize,
+    }
+}
+
+// ---- read
+
+// Whether the index that a bound stands for is past 64 bits.
+pub fn start_past(b: Bound) -> bool
+    ensures { λ r. ⌜ r ≡ startPast (boundOf b) ⌝ }
+{
+    match b {
+        Bound::Included(_) => false,
+        Bound::Excluded(i) => i.0 == u64::MAX,
+        Bound::Unbounded => false,
+    }
+}
+
+pub fn stop_past(b: Bound) -> bool
+    ensures { λ r. ⌜ r ≡ stopPast (boundOf b) ⌝ }
+{
+    match b {
+        Bound::Included(i) => i.0 == u64::MAX,
+        Bound::Excluded(_) => false,
+        Bound::Unbounded => false,
+    }
+}
+
+// The first index of a range, and the one after its last.
+pub fn start_at(b: Bound) -> u64
+    requires { ⌜ startPast (boundOf b) ≡ false ⌝ }
+    ensures { λ r. ⌜ r ≡ startAt (boundOf b) ⌝ }
+{
+    match b {
+        Bound::Included(i) => i.0,
+        Bound::Excluded(i) => i.0 + 1,
+        Bound::Unbounded => 0,
+    }
+}
+
+pub fn stop_at(b: Bound, last: u64) -> u64
+    requires { ⌜ stopPast (boundOf b) ≡ false ⌝ }
+    ensures { λ r. ⌜ r ≡ stopAt (boundOf b) last ⌝ }
+{
+    match b {
+        Bound::Included(i) => i.0 + 1,
+        Bound::Excluded(i) => i.0,
+        Bound::Unbounded => last,
+    }
+}
+
+// What stands at an index of the log.
+pub enum IndexEntry {
+    Compacted,
+    Entry,
+    StopSign,
+}
+
+pub enum Kind {
+    Nothing,
+    Held(IndexEntry),
+}
+
+pub fn kind_at(index: IndexRecord, i: u64) -> Kind
+    requires { ⌜ Small (numbersIn index) ⌝ }
+    ensures { λ r. ⌜ kindIs (numbersIn index) i r ⌝ }
+{
+    let low = index.compacted.0;
+    let end = state_cache::inner::end(index);
+    let last = state_cache::inner::accepted(index);
+    if i < low {
+        return Kind::Held(IndexEntry::Compacted);
+    }
+    if i < end {
+        return Kind::Held(IndexEntry::Entry);
+    }
+    if i < last {
+        return Kind::Held(IndexEntry::StopSign);
+    }
+    Kind::Nothing
+}
+
+// The marker of a run that starts at an index of a kind.
+pub fn marker_of(index: IndexRecord, entry: IndexEntry) -> Marker
+    ensures { λ r. ⌜ r ≡ markerAt entry index ⌝ }
+{
+    match entry {
+        IndexEntry::Compacted => compacted_marker(index),
+        IndexEntry::Entry => Marker::None,
+        IndexEntry::StopSign => Marker::None,
+    }
+}
+
+fn compacted_marker(index: IndexRecord) -> Marker
+    ensures { λ r. ⌜ r ≡ markerIn index ⌝ }
+{
+    let compacted = index.compacted;
+    if index.snapshot_held {
+        return Marker::Snapshot {
+            index: compacted,
+            keys: index.keys,
+        };
+    }
+    Marker::Trimmed(compacted)
+}
+
+fn monus(a: u64, b: u64) -> u64
+    ensures { λ r. ⌜ r ≡ a - b ⌝ }
+{
+    if b <= a { a - b } else { 0 }
+}
+
+fn least(a: u64, b: u64) -> u64
+    ensures { λ r. ⌜ r ≡ min a b ⌝ }
+{
+    if a <= b { a } else { b }
+}
+
+// The run from an index of a kind up to another.
+fn run_of(index: IndexRecord, entry: IndexEntry, from: u64, to: u64) -> ShownRun
+    requires { ⌜ Small (numbersIn index) × entryIs (numbersIn index) from entry ⌝ }
+    ensures { λ r. ⌜ r ≡ runOf from to index ⌝ }
+{
+    let low = index.compacted.0;
+    let start = monus(from, low);
+    let end = least(monus(to, low), index.retained as u64);
+    let known = least(end, monus(index.decided.0, low));
+    let last = state_cache::inner::accepted(index);
+    let decided = state_cache::inner::stop_decided(index);
+    let marker = marker_of(index, entry);
+    ShownRun {
+        marker,
+        first: start as usize,
+        count: monus(end, start) as usize,
+        decided: monus(known, start) as usize,
+        stop: (to == last) & index.stop_held,
+        stop_decided: (to == last) & decided,
+    }
+}
+
+// A run of a marker or nothing at all.
+fn no_entries(marker: Marker) -> ShownRun
+    ensures { λ r. ⌜ r ≡ runOfNone marker ⌝ }
+{
+    ShownRun {
+        marker,
+        first: 0,
+        count: 0,
+        decided: 0,
+        stop: false,
+        stop_decided: false,
+    }
+}
+
+// Where the last index of the range is an entry or the stop-sign: the kind of the first decides.
+fn read_from(index: IndexRecord, from: u64, to: u64) -> ReadReply
+    requires { ⌜ Small (numbersIn index) × ((index .compacted .0 < to) × (to ≤ acceptedOf (numbersIn index))) ⌝ }
+    ensures { λ r. ⌜ r ≡ replyOf from to index ⌝ }
+{
+    let kind = kind_at(index, from);
+    let Kind::Held(entry) = kind else {
+        return ReadReply::Nothing;
+    };
+    if to <= from {
+        return ReadReply::Run(no_entries(Marker::None));
+    }
+    ReadReply::Run(run_of(index, entry, from, to))
+}
+
+// The kind of the last index is asked first: where it is compacted, the first is not looked at.
+pub fn read_at(index: IndexRecord, from: u64, to: u64) -> ReadReply
+    requires { ⌜ Small (numbersIn index) ⌝ }
+    ensures { λ r. ⌜ r ≡ replyOf from to index ⌝ }
+{
+    if to == 0 {
+        return ReadReply::Nothing;
+    }
+    let kind = kind_at(index, to - 1);
+    let Kind::Held(entry) = kind else {
+        return ReadReply::Nothing;
+    };
+    match entry {
+        IndexEntry::Compacted => ReadReply::Run(no_entries(compacted_marker(index))),
+        IndexEntry::Entry => read_from(index, from, to),
+        IndexEntry::StopSign => read_from(index, from, to),
+    }
+}

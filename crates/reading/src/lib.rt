@@ -1,0 +1,154 @@
+// The calls that read a lent log and change nothing: module 9's lookup, the reads of module 4 and module 5's read. Each contract is an
+// equation with the answer of `run`; where a reply names a part of the log, a second equation tells which, since an empty part could
+// start anywhere. Names are the Rust's where the Rust has the call.
+use entry::LogIndex;
+use entry::Refusal;
+use snapshot::Found;
+use state_cache::IndexRecord;
+ghost use mathlib.Core.Path.{_≡_};
+ghost use mathlib.Core.Bool.{true};
+ghost use Rattle.snapshot.specs.Calls.{found};
+ghost use Rattle.model.specs.Numbers.{endOf};
+ghost use Rattle.model.specs.Calls.{query, lookup as lookupCall, getEntries, getSuffix, read, readDecided};
+ghost use Rattle.state_cache.specs.State.{raw, numbersIn};
+ghost use Rattle.state_cache.specs.Run.{run};
+ghost use Rattle.reading.specs.Parts.{part, spanSays, spanReply};
+ghost use Rattle.reading.specs.Replies.{boundOf, readSaid};
+ghost use Rattle.reading.specs.Numbered.{rangeReply, decidedReply};
+
+pub mod inner;
+
+// A part of the lent log, in entries from its start: `entries_of` is that part.
+pub enum Span {
+    Run { first: usize, count: usize },
+    Refused(Refusal),
+}
+
+// One end of a range.
+pub enum Bound {
+    Included(LogIndex),
+    Excluded(LogIndex),
+    Unbounded,
+}
+
+// What stands for the entries below the compacted index; the snapshot's words are those lent.
+pub enum Marker {
+    None,
+    Trimmed(LogIndex),
+    Snapshot { index: LogIndex, keys: usize },
+}
+
+// A run that is read: its marker; its entries, a part of the lent log, with the number of them decided; and whether the stop-sign,
+// which stays in the record, comes last, and is decided.
+pub struct ShownRun {
+    pub marker: Marker,
+    pub first: usize,
+    pub count: usize,
+    pub decided: usize,
+    pub stop: bool,
+    pub stop_decided: bool,
+}
+
+pub enum ReadReply {
+    Nothing,
+    Run(ShownRun),
+    Refused(Refusal),
+}
+
+// A key's place: its newest word among the decided entries that are retained, else the snapshot's.
+pub fn lookup(index: IndexRecord, log: &[u64], snapshot: &[u64], key: u64) -> Found
+    ensures { λ r. ⌜ found r ≡ run (query (lookupCall key)) true (raw index (now (log .entry)) (now (snapshot .entry))) .answer ⌝ }
+{
+    if !state_cache::well_formed(index, log, snapshot) {
+        return Found::Refused(Refusal::IllFormed);
+    }
+    inner::look(index, log, snapshot, key)
+}
+
+// Which part of the lent log the entries from one index up to another are, an empty one where they are not all held.
+pub fn get_entries_reply(
+    index: IndexRecord,
+    log: &[u64],
+    snapshot: &[u64],
+    from: LogIndex,
+    to: LogIndex,
+) -> Span
+    ensures { λ r. ⌜ spanSays (now (log .entry)) r ≡ run (query (getEntries (from .0) (to .0))) true (raw index (now (log .entry)) (now (snapshot .entry))) .answer ⌝ }
+    ensures { λ r. ⌜ r ≡ spanReply (from .0) (to .0) (raw index (now (log .entry)) (now (snapshot .entry))) ⌝ }
+{
+    if !state_cache::well_formed(index, log, snapshot) {
+        return Span::Refused(Refusal::IllFormed);
+    }
+    inner::between(index, from.0, to.0)
+}
+
+// The same from an index to the end.
+pub fn get_suffix_reply(index: IndexRecord, log: &[u64], snapshot: &[u64], from: LogIndex) -> Span
+    ensures { λ r. ⌜ spanSays (now (log .entry)) r ≡ run (query (getSuffix (from .0))) true (raw index (now (log .entry)) (now (snapshot .entry))) .answer ⌝ }
+    ensures { λ r. ⌜ r ≡ spanReply (from .0) (endOf (numbersIn index)) (raw index (now (log .entry)) (now (snapshot .entry))) ⌝ }
+{
+    if !state_cache::well_formed(index, log, snapshot) {
+        return Span::Refused(Refusal::IllFormed);
+    }
+    inner::between(index, from.0, state_cache::inner::end(index))
+}
+
+// That part of the log itself, an empty one where it does not lie in the slice.
+pub fn entries_of<'a>(log: &'a [u64], first: usize, count: usize) -> &'a [u64]
+    ensures { λ r. ⌜ now r ≡ part first count (now (log .entry)) ⌝ }
+{
+    let room = log.len() / entry::WIDTH;
+    if room < first {
+        return &log[..0];
+    }
+    if room - first < count {
+        return &log[..0];
+    }
+    let at = first * entry::WIDTH;
+    let end = at + count * entry::WIDTH;
+    &log[at..end]
+}
+
+// Reads a range of the log.
+pub fn read_reply(
+    index: IndexRecord,
+    log: &[u64],
+    snapshot: &[u64],
+    from: Bound,
+    to: Bound,
+) -> ReadReply
+    ensures { λ r. ⌜ readSaid (raw index (now (log .entry)) (now (snapshot .entry))) r ≡ run (query (read (boundOf from) (boundOf to))) true (raw index (now (log .entry)) (now (snapshot .entry))) .answer ⌝ }
+    ensures { λ r. ⌜ r ≡ rangeReply (boundOf from) (boundOf to) (raw index (now (log .entry)) (now (snapshot .entry))) ⌝ }
+{
+    if !state_cache::well_formed(index, log, snapshot) {
+        return ReadReply::Refused(Refusal::IllFormed);
+    }
+    let start_past = inner::start_past(from);
+    let stop_past = inner::stop_past(to);
+    if start_past | stop_past {
+        return ReadReply::Refused(Refusal::Malformed);
+    }
+    let last = state_cache::inner::accepted(index);
+    let start = inner::start_at(from);
+    let stop = inner::stop_at(to, last);
+    inner::read_at(index, start, stop)
+}
+
+// Reads from an index up to the decided index.
+pub fn read_decided_suffix_reply(
+    index: IndexRecord,
+    log: &[u64],
+    snapshot: &[u64],
+    from: LogIndex,
+) -> ReadReply
+    ensures { λ r. ⌜ readSaid (raw index (now (log .entry)) (now (snapshot .entry))) r ≡ run (query (readDecided (from .0))) true (raw index (now (log .entry)) (now (snapshot .entry))) .answer ⌝ }
+    ensures { λ r. ⌜ r ≡ decidedReply (from .0) (raw index (now (log .entry)) (now (snapshot .entry))) ⌝ }
+{
+    if !state_cache::well_formed(index, log, snapshot) {
+        return ReadReply::Refused(Refusal::IllFormed);
+    }
+    if index.decided.0 <= from.0 {
+        return ReadReply::Nothing;
+    }
+    inner::read_at(index, from.0, index.decided.0)
+}

@@ -22,8 +22,6 @@ use Rattle.internal_storage.specs.declared.Check.the-variants.{Passed, R
 use Rattle.internal_storage.specs.declared.Appended.{Appended}
 use Rattle.internal_storage.specs.declared.Appended.the-variants.{Held, Flushed as AppendFlushed, Refused as AppendRefused}
 use Rattle.internal_storage.specs.declared.AppendedAt.{AppendedAt}
-use Rattle.internal_storage.specs.declared.AcceptedIdx.{AcceptedIdx}
-use Rattle.internal_storage.specs.declared.AcceptedIdx.the-variants.{Held as IdxHeld, At as IdxAt, Refused as IdxRefused}
 
 abbrev pub verdictOf : Check → Verdict
 verdictOf Passed = passes
@@ -33,17 +31,6 @@ abbrev pub appended : Appended → Answer (Option Flushed)
 appended Held = replied none
 appended (AppendFlushed i n) = replied (some (record { accepted = i .0; count = n }))
 appended (AppendRefused r) = refusedBy r
-
-abbrev pub acceptedIdx : AcceptedIdx → Answer (Option ℕ)
-acceptedIdx IdxHeld = replied none
-acceptedIdx (IdxAt i) = replied (some (i .0))
-acceptedIdx (IdxRefused r) = refusedBy r
-
--- the accepted index alone
-abbrev pub indexOnly : Answer (Option Flushed) → Answer (Option ℕ)
-indexOnly (refused n k) = refused n k
-indexOnly (replied none) = replied none
-indexOnly (replied (some f)) = replied (some (f .accepted))
 
 -- what a call that moves no word comes to: its answer and the record after it, by the first refusal that applies
 pub record Indexed (A : Type 0) : Type 0 where

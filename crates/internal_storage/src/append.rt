@@ -1,6 +1,4 @@
-// Appends, in the Rust's four forms.
-use super::AcceptedIdx;
-use super::AcceptedIdxAt;
+// Appends of entries, with and without batching.
 use super::Appended;
 use super::AppendedAt;
 use entry::Refusal;

@@ -23,18 +23,6 @@ pub struct AppendedAt {
     pub index: IndexRecord,
 }
 
-// The same without the flushed entries.
-pub enum AcceptedIdx {
-    Held,
-    At(LogIndex),
-    Refused(Refusal),
-}
-
-pub struct AcceptedIdxAt {
-    pub answer: AcceptedIdx,
-    pub index: IndexRecord,
-}
-
 // What a call's refusals come to: the first that applies, or none.
 pub enum Check {
     Passed,

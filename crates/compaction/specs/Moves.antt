@@ -9,7 +9,7 @@ use Rattle.words.specs.Words.{laid, spliced}
 use Rattle.entry.specs.Limits.{width, logWords}
 use Rattle.entry.specs.Change.{Laid}
 use Rattle.state_cache.specs.declared.IndexRecord.{IndexRecord}
-use Rattle.state_cache.proofs.Fields.{withRun}
+use Rattle.state_cache.specs.Fields.{withRun}
 use Rattle.compaction.specs.declared.Upto.{Upto}
 use Rattle.compaction.specs.declared.Upto.the-variants.{Decided, Index}
 

@@ -30,7 +30,7 @@ use Rattle.state_cache.specs.State.{Raw, raw, numbersIn, formed, logOf, signOr,
 use Rattle.state_cache.proofs.Small.{sound-small}
 use Rattle.state_cache.specs.Run.{outcome, run}
 use Rattle.state_cache.specs.declared.IndexRecord.{IndexRecord}
-use Rattle.state_cache.proofs.Fields.{withEntries, withStop, withDecided, withPromise}
+use Rattle.state_cache.specs.Fields.{withEntries, withStop, withDecided, withPromise}
 use Rattle.state_cache.proofs.Stands.{Stands, stands-of, numbers-are, log-formed}
 use Rattle.state_cache.proofs.Runs.{call-refused, call-stands}
 use Rattle.state_cache.proofs.Changes.{held-length, log-spliced}

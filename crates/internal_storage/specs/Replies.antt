@@ -16,7 +16,7 @@ use Rattle.model.specs.Numbers.{acceptedOf}
 use Rattle.model.specs.Append.{Flushed}
 use Rattle.state_cache.specs.State.{Raw, numbersIn, Ready}
 use Rattle.state_cache.specs.declared.IndexRecord.{IndexRecord}
-use Rattle.state_cache.proofs.Fields.{withEntries}
+use Rattle.state_cache.specs.Fields.{withEntries}
 use Rattle.internal_storage.specs.declared.Check.{Check}
 use Rattle.internal_storage.specs.declared.Check.the-variants.{Passed, Refused}
 use Rattle.internal_storage.specs.declared.Appended.{Appended}

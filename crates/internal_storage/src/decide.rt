@@ -12,7 +12,7 @@ ghost use Rattle.model.specs.Calls.{decide, setPromise, decideGuards};
 ghost use Rattle.state_cache.specs.State.{raw, numbersIn, Small};
 ghost use Rattle.state_cache.specs.Run.{outcome, run, settled};
 ghost use Rattle.internal_storage.specs.Replies.{indexed, byNumbers};
-ghost use Rattle.state_cache.proofs.Fields.{withDecided};
+ghost use Rattle.state_cache.specs.Fields.{withDecided};
 
 // Refusals 5 and 6, or the index moved.
 fn decide_at(index: IndexRecord, idx: LogIndex) -> SettledAt

@@ -16,7 +16,7 @@ ghost use Rattle.model.specs.Calls.{appendStop, setStop};
 ghost use Rattle.model.proofs.Forms.{Sound};
 ghost use Rattle.state_cache.specs.State.{raw, numbersIn};
 ghost use Rattle.state_cache.specs.Run.{outcome, run, accepted};
-ghost use Rattle.state_cache.proofs.Fields.{withStop};
+ghost use Rattle.state_cache.specs.Fields.{withStop};
 ghost use Rattle.internal_storage.specs.Replies.{appended, indexed, byNumbers, flushSays, allFlushed, asked};
 
 // Refusals 4 and 9, or the batch flushed and the stop-sign after it.

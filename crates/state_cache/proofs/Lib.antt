@@ -2,3 +2,4 @@ pub mod Small
 pub mod Stands
 pub mod Runs
 pub mod Changes
+pub mod Unique

@@ -5,11 +5,12 @@ use mathlib.Core.Bool.{Bool, true, false, not}
 use mathlib.Core.List.{_∷_}
 use Rattle.entry.specs.Guards.{guard, Verdict, passes, refuses, first, refused, replied, settle}
 use Rattle.entry.proofs.GuardLaws.{first-refuses, first-goes-on}
+use Rattle.model.specs.Numbers.{Numbers}
 use Rattle.model.specs.Log.{Log, wellFormed}
 use Rattle.model.specs.Calls.{Call, Reply, malformed, further, guards, effect, replyOf, after, answerTo, stateAfter}
 use Rattle.model.proofs.Keeps.{call-keeps}
-use Rattle.state_cache.specs.State.{Raw, formed, logOf, rawOf}
-use Rattle.state_cache.specs.Run.{Outcome, outcome, run}
+use Rattle.state_cache.specs.State.{Raw, numbersIn, formed, logOf, rawOf}
+use Rattle.state_cache.specs.Run.{Outcome, outcome, run, ofNumbers}
 use Rattle.state_cache.proofs.Stands.{Stands, stands-raw, raw-is, log-formed, raw-formed, log-of-raw}
 
 -- refusal 12
@@ -65,3 +66,13 @@ module _ (c : Call) (r : Raw) (ok : formed r ≡ true) where
   pub run-stands : logOf (run c true r .after) ≡ stateAfter c (logOf r)
   unfolding run
   run-stands = rw ok (log-of-raw (stateAfter c (logOf r)) (call-keeps c (logOf r) (log-formed r ok)))
+
+-- a question about the numbers: refusal 12, or what they say
+module _ {A : Type 0} (f : Numbers → A) (r : Raw) where
+  pub not-asked : formed r ≡ false → refused 12 0 ≡ ofNumbers f r
+  unfolding ofNumbers
+  not-asked e = rw e
+
+  pub asked-of : formed r ≡ true → (y : A) → y ≡ f (numbersIn (r .index)) → replied y ≡ ofNumbers f r
+  unfolding ofNumbers
+  asked-of ok y e = rw ok (ap replied e)

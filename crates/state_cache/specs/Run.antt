@@ -7,13 +7,16 @@ use lib.ListN.{length}
 use Rattle.words.specs.If.{if_then_else_}
 use Rattle.entry.specs.Limits.{largestBatch, logWords, snapshotWords}
 use Rattle.entry.specs.Guards.{Answer, refused, replied, refusedBy}
+use Rattle.model.specs.Numbers.{Numbers}
 use Rattle.model.specs.Log.{freshLog}
 use Rattle.model.specs.Calls.{Call, Reply, answerTo, stateAfter}
-use Rattle.state_cache.specs.State.{Raw, raw, formed, logOf, indexOf, rawOf}
+use Rattle.state_cache.specs.State.{Raw, raw, numbersIn, formed, logOf, indexOf, rawOf}
 use Rattle.state_cache.specs.declared.Settled.{Settled}
 use Rattle.state_cache.specs.declared.Settled.the-variants.{Done, Refused}
 use Rattle.state_cache.specs.declared.Accepted.{Accepted}
 use Rattle.state_cache.specs.declared.Accepted.the-variants.{At, Refused as AcceptedRefused}
+use Rattle.state_cache.specs.declared.Flag.{Flag}
+use Rattle.state_cache.specs.declared.Flag.the-variants.{Is, Refused as FlagRefused}
 
 pub record Outcome (A : Type 0) : Type 0 where
   pub answer : Answer A
@@ -30,6 +33,10 @@ run c whole r =
     then (if whole then outcome (answerTo c (logOf r)) (rawOf (stateAfter c (logOf r))) else outcome (refused 11 0) r)
     else outcome (refused 12 0) r
 
+-- what a question about the numbers of a state comes to: 12, or what they say; nothing changes
+unfoldable pub ofNumbers : {A : Type 0} → (Numbers → A) → Raw → Answer A
+ofNumbers f r = if formed r then replied (f (numbersIn (r .index))) else refused 12 0
+
 -- what the code's answers say
 abbrev pub settled : Settled → Answer (Unit {0})
 settled Done = replied tt
@@ -38,6 +45,10 @@ settled (Refused r) = refusedBy r
 abbrev pub accepted : Accepted → Answer ℕ
 accepted (At i) = replied (i .0)
 accepted (AcceptedRefused r) = refusedBy r
+
+abbrev pub flag : Flag → Answer Bool
+flag (Is b) = replied b
+flag (FlagRefused r) = refusedBy r
 
 -- a fresh log: 11 for a batch size above 64 or a slice of wrong length; there is no record yet, and the one beside a refusal is that
 -- of a log with batch size 0

@@ -1,13 +1,15 @@
-// The index record: a log's numbers by value, beside its lent words. When the two are well formed; a fresh log, and a log reloaded.
+// The index record: a log's numbers by value, beside its lent words. When the two are well formed; a fresh log, and a log reloaded; and
+// what a user asks for that no field of the record says.
 use entry::Ballot;
 use entry::LogIndex;
 use entry::Refusal;
 use entry::StopSign;
 ghost use mathlib.Core.Path.{_≡_};
 ghost use mathlib.Core.Bool.{true};
+ghost use Rattle.model.specs.Numbers.{acceptedOf, stopDecided, logDecided};
 ghost use Rattle.model.specs.Calls.{reload};
 ghost use Rattle.state_cache.specs.State.{raw, formed};
-ghost use Rattle.state_cache.specs.Run.{outcome, run, settled, accepted, freshCall};
+ghost use Rattle.state_cache.specs.Run.{outcome, run, ofNumbers, settled, accepted, flag, freshCall};
 
 pub mod inner;
 
@@ -36,7 +38,7 @@ pub struct SettledAt {
     pub index: IndexRecord,
 }
 
-// The reply of a call that tells the accepted index.
+// The reply of a call that tells an index of the log: the accepted one, or log-decided.
 pub enum Accepted {
     At(LogIndex),
     Refused(Refusal),
@@ -45,6 +47,12 @@ pub enum Accepted {
 pub struct AcceptedAt {
     pub answer: Accepted,
     pub index: IndexRecord,
+}
+
+// The reply of a question that is answered by yes or no.
+pub enum Flag {
+    Is(bool),
+    Refused(Refusal),
 }
 
 // Document 01's "well formed", all of it.
@@ -94,4 +102,35 @@ pub fn load_cache(index: IndexRecord, log: &mut [u64], snapshot: &[u64]) -> Acce
         };
     }
     inner::reload(index, log, snapshot)
+}
+
+pub fn get_accepted_idx(index: IndexRecord, log: &[u64], snapshot: &[u64]) -> Accepted
+    ensures { λ r. ⌜ accepted r ≡ ofNumbers acceptedOf (raw index (now (log .entry)) (now (snapshot .entry))) ⌝ }
+{
+    if !well_formed(index, log, snapshot) {
+        return Accepted::Refused(Refusal::IllFormed);
+    }
+    let last = inner::accepted(index);
+    Accepted::At(LogIndex(last))
+}
+
+// The decided index without the stop-sign: the Rust's `get_decided_idx_without_stopsign`.
+pub fn get_log_decided_idx(index: IndexRecord, log: &[u64], snapshot: &[u64]) -> Accepted
+    ensures { λ r. ⌜ accepted r ≡ ofNumbers logDecided (raw index (now (log .entry)) (now (snapshot .entry))) ⌝ }
+{
+    if !well_formed(index, log, snapshot) {
+        return Accepted::Refused(Refusal::IllFormed);
+    }
+    let decided = inner::log_decided(index);
+    Accepted::At(LogIndex(decided))
+}
+
+pub fn stopsign_is_decided(index: IndexRecord, log: &[u64], snapshot: &[u64]) -> Flag
+    ensures { λ r. ⌜ flag r ≡ ofNumbers stopDecided (raw index (now (log .entry)) (now (snapshot .entry))) ⌝ }
+{
+    if !well_formed(index, log, snapshot) {
+        return Flag::Refused(Refusal::IllFormed);
+    }
+    let decided = inner::stop_decided(index);
+    Flag::Is(decided)
 }

@@ -28,13 +28,13 @@ use Rattle.model.specs.Calls.{Call, Reply, append, appendNow, flush, flushEntri
 use Rattle.model.proofs.Forms.{Sound}
 use Rattle.state_cache.specs.State.{Raw, raw, numbersIn, formed, logOf, signOr, Small}
 use Rattle.state_cache.proofs.Small.{sound-small}
-use Rattle.state_cache.specs.Run.{outcome, run}
+use Rattle.state_cache.specs.Run.{Outcome, outcome, run}
 use Rattle.state_cache.specs.declared.IndexRecord.{IndexRecord}
 use Rattle.state_cache.specs.Fields.{withEntries, withStop, withDecided, withPromise}
 use Rattle.state_cache.proofs.Stands.{Stands, stands-of, numbers-are, log-formed}
 use Rattle.state_cache.proofs.Runs.{call-refused, call-stands}
 use Rattle.state_cache.proofs.Changes.{held-length, log-spliced}
-use Rattle.internal_storage.specs.Replies.{appended as appendedIs, Indexed, indexed, byNumbers, flushedAt, heldAt, batchedWith, allFlushed, flushSays, asked}
+use Rattle.internal_storage.specs.Replies.{appended as appendedIs, Indexed, indexed, byNumbers, flushedAt, heldAt, batchedWith, allFlushed, flushSays, asked, indexOnly, withIndexOnly}
 
 given-by : {A : Type 0} (b : Bool) (x : A) → given (if b then some x else none) ≡ b
 given-by true x = refl
@@ -327,3 +327,8 @@ unfolding flushSays
 flush-answered x y a t e p =
     rw t
     (ap (λ (k : ℕ). replied (some (record { accepted = k; count = x .batched }))) (p ∙ ap (λ (z : IndexRecord). acceptedOf (numbersIn z)) e))
+
+-- an outcome that tells of a flush the accepted index alone
+pub index-told : (a : Answer (Option ℕ)) (b : Answer (Option Flushed)) (r : Raw) (o : Outcome (Option Flushed)) → a ≡ indexOnly b → outcome b r ≡ o
+    → outcome a r ≡ withIndexOnly o
+index-told a b r o e q = ap (λ (x : Answer (Option ℕ)). outcome x r) e ∙ ap withIndexOnly q

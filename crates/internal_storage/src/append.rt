@@ -1,16 +1,48 @@
 // Appends of entries, with and without batching.
+use super::AcceptedIdx;
+use super::AcceptedIdxAt;
 use super::Appended;
 use super::AppendedAt;
+use super::Said;
 use entry::Refusal;
 use state_cache::Accepted;
 use state_cache::AcceptedAt;
 use state_cache::IndexRecord;
 ghost use mathlib.Core.Path.{_≡_};
+ghost use mathlib.Core.Bool.{true};
+ghost use mathlib.Core.List.{[], _∷_};
 ghost use Rattle.entry.specs.Change.{entriesIn, wholeIn};
 ghost use Rattle.model.specs.Calls.{append, appendNow};
 ghost use Rattle.state_cache.specs.State.{raw};
 ghost use Rattle.state_cache.specs.Run.{outcome, run, accepted};
-ghost use Rattle.internal_storage.specs.Replies.{appended};
+ghost use Rattle.internal_storage.specs.Replies.{saidIs, lentWord, appended, acceptedIdx, indexOnly, withIndexOnly};
+
+// The word that says it. That of a place of 2^48 or more breaks its form too, and is never the word of a removed key.
+fn word_of(said: Said) -> u64
+    ensures { λ w. ⌜ w ≡ lentWord (saidIs said) ⌝ }
+{
+    let Said::Place(place) = said else {
+        return entry::REMOVED;
+    };
+    if place.0 < entry::PLACES {
+        return place.0;
+    }
+    entry::PLACES
+}
+
+pub fn append_entry_with_batching(
+    index: IndexRecord,
+    log: &mut [u64],
+    snapshot: &[u64],
+    key: u64,
+    said: Said,
+) -> AppendedAt
+    ensures { λ r. ⌜ outcome (appended (r .answer)) (raw (r .index) (now (log .exit)) (now (snapshot .entry))) ≡ run (append (record { key = key; said = saidIs said } ∷ [])) true (raw index (now (log .entry)) (now (snapshot .entry))) ⌝ }
+{
+    let word = word_of(said);
+    let words = [key, word];
+    append_entries_with_batching(index, log, snapshot, &words)
+}
 
 pub fn append_entries_with_batching(
     index: IndexRecord,
@@ -56,4 +88,35 @@ pub fn append_entries_without_batching(
         };
     }
     super::inner::append_now_at(index, log, snapshot, entries, entries.len() / entry::WIDTH)
+}
+
+// An append's answer without the number of entries flushed.
+fn index_only(answer: Appended) -> AcceptedIdx
+    ensures { λ r. ⌜ acceptedIdx r ≡ indexOnly (appended answer) ⌝ }
+{
+    match answer {
+        Appended::Held => AcceptedIdx::Held,
+        Appended::Flushed {
+            accepted,
+            entries: _,
+        } => AcceptedIdx::At(accepted),
+        Appended::Refused(refusal) => AcceptedIdx::Refused(refusal),
+    }
+}
+
+pub fn append_entries_and_get_accepted_idx(
+    index: IndexRecord,
+    log: &mut [u64],
+    snapshot: &[u64],
+    entries: &[u64],
+) -> AcceptedIdxAt
+    ensures { λ r. ⌜ outcome (acceptedIdx (r .answer)) (raw (r .index) (now (log .exit)) (now (snapshot .entry))) ≡ withIndexOnly (run (append (entriesIn (now (entries .entry)))) (wholeIn (now (entries .entry))) (raw index (now (log .entry)) (now (snapshot .entry)))) ⌝ }
+{
+    let appended = append_entries_with_batching(index, log, snapshot, entries);
+    let answer = appended.answer;
+    let next = appended.index;
+    AcceptedIdxAt {
+        answer: index_only(answer),
+        index: next,
+    }
 }

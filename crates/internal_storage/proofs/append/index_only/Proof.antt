@@ -1,0 +1,30 @@
+-- `internal_storage::append::index_only` meets its contract: by the answer.
+use mathlib.Core.Path.{sym, ap}
+use Rattle.internal_storage.specs.Replies.{appended, indexOnly}
+use Rattle.internal_storage.specs.declared.Appended.{Appended}
+use borrow.Author.Needs.{needs}
+use Rattle.internal_storage.proofs.append.index_only.Statement.{statement}
+use Rattle.internal_storage.proofs.append.index_only.Tie as tie
+
+enum-told : tie.Need-enum-told
+enum-told c = search needs
+
+enum-known-answer : tie.Need-enum-known-answer
+enum-known-answer c = search needs
+
+enum-known-answer-2 : tie.Need-enum-known-answer-2
+enum-known-answer-2 c = search needs
+
+returns : tie.Need-returns
+returns c = search needs
+
+returns-2 : tie.Need-returns-2
+returns-2 c = ap (λ (a : Appended). indexOnly (appended a)) (sym (c .before .answer .given .1))
+
+returns-3 : tie.Need-returns-3
+returns-3 c = ap (λ (a : Appended). indexOnly (appended a)) (sym (c .before .answer2 .given .1))
+
+pub index-only-spec : {M : Type 1} → statement M
+index-only-spec =
+    tie.close
+    (tie.spec enum-told enum-known-answer enum-known-answer-2 returns returns-2 returns-3)

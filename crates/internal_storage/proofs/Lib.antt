@@ -1,3 +1,4 @@
 pub mod Numbered
 pub mod Effects
 pub mod Arguments
+pub mod Unique

@@ -1,12 +1,13 @@
 -- The answer of a call that changes nothing: refusals 12 and 11, and the reply.
-use mathlib.Core.Path.{_≡_, ap}
-use mathlib.Core.Bool.{true, false}
+use mathlib.Core.Path.{_≡_, refl, ap, _∙_}
+use mathlib.Core.Bool.{Bool, true, false}
 use mathlib.Core.List.{[]}
-use Rattle.entry.specs.Guards.{first, Answer, refused, replied}
-use Rattle.model.specs.Calls.{Query, QueryReply, query, queryMalformed, queryGuards, queryReply, malformed, further, effect, replyOf}
-use Rattle.state_cache.specs.State.{Raw, formed, logOf}
+use Rattle.entry.specs.Guards.{Verdict, passes, refuses, first, Answer, refused, replied}
+use Rattle.model.specs.Calls.{Query, QueryReply, query, queryMalformed, queryGuards, queryReply, malformed, further, guards, effect, replyOf, after, stateAfter}
+use Rattle.model.specs.Log.{Log}
+use Rattle.state_cache.specs.State.{Raw, formed, logOf, rawOf}
 use Rattle.state_cache.specs.Run.{Outcome, run}
-use Rattle.state_cache.proofs.Stands.{stands-of}
+use Rattle.state_cache.proofs.Stands.{stands-of, raw-is}
 use Rattle.state_cache.proofs.Runs.{ill-formed, bad-call, call-stands}
 
 module _ (q : Query) (r : Raw) where
@@ -24,3 +25,16 @@ module _ (q : Query) (r : Raw) where
     pub answer-is : queryMalformed q ≡ false → queryGuards q (logOf r) ≡ [] → (y : QueryReply q) → y ≡ queryReply q (logOf r) → replied y ≡ run (query q) true r .answer
     unfolding malformed further effect replyOf first
     answer-is m g y e = ap answerOf (call-stands (query q) r ok m (rw g) y r e (stands-of r ok))
+
+-- such a call leaves the record and every lent word as they were
+same-after : (v : Verdict) (s : Log) → after v s s ≡ s
+same-after passes s = refl
+same-after (refuses n k) s = refl
+
+pub query-keeps : (q : Query) (r : Raw) → run (query q) true r .after ≡ r
+unfolding run stateAfter effect
+query-keeps q r = go (formed r) refl
+  where
+    go : (b : Bool) → formed r ≡ b → run (query q) true r .after ≡ r
+    go true e = rw e (ap rawOf (same-after (first (guards (query q) (logOf r))) (logOf r)) ∙ raw-is r e)
+    go false e = rw e

@@ -14,7 +14,7 @@ ghost use Rattle.model.specs.Numbers.{endOf, acceptedOf, stopDecided, logDecide
 ghost use Rattle.state_cache.specs.State.{raw, numbersIn, oneIf, Small, sizesFormed, signHeld, shotHeld, indexOf, Ready};
 ghost use Rattle.state_cache.specs.Run.{outcome, run, accepted as acceptedIs};
 
-fn one_if(b: bool) -> u64
+pub fn one_if(b: bool) -> u64
     ensures { λ x. ⌜ x ≡ oneIf b ⌝ }
 {
     if b { 1 } else { 0 }

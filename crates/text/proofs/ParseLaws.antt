@@ -13,39 +13,40 @@ use lib.Seq.{drop-cons}
 use Rattle.words.specs.If.{if_then_else_}
 use Rattle.words.specs.All.{allOf}
 use Rattle.text.specs.Number.{isDigit, value, numberOf}
-use Rattle.text.specs.Parse.{sameOf, gapOf, words, onto, commandOf}
+use Rattle.text.specs.Parse.{sameOf, words, onto, commandOf}
+use Rattle.text.specs.Bytes.{gapOf}
 use Rattle.text.specs.declared.Parsed.{Parsed}
 use Rattle.text.specs.declared.Parsed.the-variants.{Value, NoNumber}
 use Rattle.text.specs.declared.Command.the-variants.{BadLine}
 
--- the first space
-module _ (s : List ℕ) (i : ℕ) where
-  pub gap-step : i < length s → (getD s i 0 ≡ 32 → ⊥) → gapOf (drop i s) ≡ suc (gapOf (drop (i + 1) s))
+-- the first b
+module _ (b : ℕ) (s : List ℕ) (i : ℕ) where
+  pub gap-step : i < length s → (getD s i 0 ≡ b → ⊥) → gapOf b (drop i s) ≡ suc (gapOf b (drop (i + 1) s))
   gap-step h ne = rw (add-one, drop-cons s i 0, ne-eqb _ _ ne)
 
-  pub gap-here : i < length s → getD s i 0 ≡ 32 → gapOf (drop i s) ≡ 0
+  pub gap-here : i < length s → getD s i 0 ≡ b → gapOf b (drop i s) ≡ 0
   gap-here h e = rw (drop-cons s i 0, eq-eqb _ _ e)
 
-  pub gap-end : length s ≤ i → gapOf (drop i s) ≡ 0
-  gap-end h = ap gapOf (drop-of-length-le s h)
+  pub gap-end : length s ≤ i → gapOf b (drop i s) ≡ 0
+  gap-end h = ap (gapOf b) (drop-of-length-le s h)
 
 -- the words of a line
-words-none-by : (b : ℕ) (bs : List ℕ) (t : Bool) → (if t then 0 else suc (gapOf bs)) ≡ suc (length bs) → (gapOf bs ≡ length bs → words bs ≡ bs ∷ [])
+words-none-by : (b : ℕ) (bs : List ℕ) (t : Bool) → (if t then 0 else suc (gapOf 32 bs)) ≡ suc (length bs) → (gapOf 32 bs ≡ length bs → words bs ≡ bs ∷ [])
     → (if t then [] ∷ words bs else onto b (words bs)) ≡ (b ∷ bs) ∷ []
 words-none-by b bs true e ih = absurd (omega arith)
 words-none-by b bs false e ih = rw (ih (omega arith))
 
-pub words-none : (xs : List ℕ) → gapOf xs ≡ length xs → words xs ≡ xs ∷ []
+pub words-none : (xs : List ℕ) → gapOf 32 xs ≡ length xs → words xs ≡ xs ∷ []
 words-none [] e = refl
 words-none (b ∷ bs) e = words-none-by b bs (eqb b 32) e (words-none bs)
 
-words-some-by : (b : ℕ) (bs : List ℕ) (t : Bool) → (if t then 0 else suc (gapOf bs)) < suc (length bs)
-    → (gapOf bs < length bs → words bs ≡ take (gapOf bs) bs ∷ words (drop (suc (gapOf bs)) bs))
-    → (if t then [] ∷ words bs else onto b (words bs)) ≡ take (if t then 0 else suc (gapOf bs)) (b ∷ bs) ∷ words (drop (suc (if t then 0 else suc (gapOf bs))) (b ∷ bs))
+words-some-by : (b : ℕ) (bs : List ℕ) (t : Bool) → (if t then 0 else suc (gapOf 32 bs)) < suc (length bs)
+    → (gapOf 32 bs < length bs → words bs ≡ take (gapOf 32 bs) bs ∷ words (drop (suc (gapOf 32 bs)) bs))
+    → (if t then [] ∷ words bs else onto b (words bs)) ≡ take (if t then 0 else suc (gapOf 32 bs)) (b ∷ bs) ∷ words (drop (suc (if t then 0 else suc (gapOf 32 bs))) (b ∷ bs))
 words-some-by b bs true h ih = refl
 words-some-by b bs false h ih = rw (ih (omega arith))
 
-pub words-some : (xs : List ℕ) → gapOf xs < length xs → words xs ≡ take (gapOf xs) xs ∷ words (drop (suc (gapOf xs)) xs)
+pub words-some : (xs : List ℕ) → gapOf 32 xs < length xs → words xs ≡ take (gapOf 32 xs) xs ∷ words (drop (suc (gapOf 32 xs)) xs)
 words-some [] h = absurd (omega arith)
 words-some (b ∷ bs) h = words-some-by b bs (eqb b 32) h (words-some bs)
 
@@ -53,7 +54,7 @@ words-some (b ∷ bs) h = words-some-by b bs (eqb b 32) h (words-some bs)
 abbrev pub rest : List ℕ → ℕ → List ℕ
 rest xs e = take (length xs - (e + 1)) (drop (e + 1) xs)
 
-pub words-more : (xs : List ℕ) (e : ℕ) → e ≡ gapOf xs → e ≤ length xs → (e ≡ length xs → ⊥) → words xs ≡ take e xs ∷ words (rest xs e)
+pub words-more : (xs : List ℕ) (e : ℕ) → e ≡ gapOf 32 xs → e ≤ length xs → (e ≡ length xs → ⊥) → words xs ≡ take e xs ∷ words (rest xs e)
 words-more xs e g h ne = rw (part-to-end xs (e + 1), g, add-one) (words-some xs (omega arith))
 
 -- a line of four words or more

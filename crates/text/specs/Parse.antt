@@ -1,5 +1,5 @@
 -- What a line means: "Commands are the nine shown, with `snap` taking an index or `all`. .. Other lines print `bad line`."
-use Prim.Native.Nat.{ℕ, suc, _^_}
+use Prim.Native.Nat.{ℕ, _^_}
 use Prim.Native.String.{String}
 use mathlib.Core.Bool.{Bool, true, false, _&&_}
 use mathlib.Core.List.{List, [], _∷_}
@@ -31,11 +31,6 @@ onto b (w ∷ ws) = (b ∷ w) ∷ ws
 abbrev pub words : List ℕ → List (List ℕ)
 words [] = [] ∷ []
 words (b ∷ bs) = if eqb b 32 then [] ∷ words bs else onto b (words bs)
-
--- how many bytes stand before the first space, all of them where there is none
-abbrev pub gapOf : List ℕ → ℕ
-gapOf [] = 0
-gapOf (b ∷ bs) = if eqb b 32 then 0 else suc (gapOf bs)
 
 -- a line of one word
 unfoldable pub bareOf : List ℕ → Command

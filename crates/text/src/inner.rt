@@ -1,5 +1,5 @@
-// What the program needs to gather its answers: not for a user. Each function puts some bytes into out from index `at` on, for which
-// it asks room, and answers the index after them.
+// What the program needs to take lines apart and to gather its answers: not for a user. Each function that puts bytes puts them into
+// out from index `at` on, for which it asks room, and answers the index after them.
 use super::Line;
 ghost use mathlib.Core.Path.{_≡_};
 ghost use mathlib.Core.List.{_++_};
@@ -7,8 +7,24 @@ ghost use Prim.Native.Nat.{_+_, _*_, _≤_};
 ghost use lib.ListN.{length, take};
 ghost use Rattle.entry.specs.Limits.{width};
 ghost use Rattle.entry.specs.Change.{change, entriesOf};
-ghost use Rattle.text.specs.Bytes.{bytes};
+ghost use Rattle.io.specs.Counts.{Counts};
+ghost use Rattle.text.specs.Bytes.{bytes, gapOf};
 ghost use Rattle.text.specs.Answers.{decimalOf, lineOf, entryText, entryLine, entryLines};
+
+// How many bytes stand before the first b.
+pub fn gap(s: &[u8], b: u8) -> usize
+    ensures { λ r. ⌜ Counts r (now (s .entry)) ⌝ }
+    ensures { λ r. ⌜ r ≡ gapOf b (now (s .entry)) ⌝ }
+{
+    let mut i = 0;
+    while i < s.len() {
+        if s[i] == b {
+            return i;
+        }
+        i += 1;
+    }
+    i
+}
 
 // The bytes of src.
 pub fn put(out: &mut [u8], at: usize, src: &[u8]) -> usize

@@ -1,8 +1,7 @@
 // The text of a replay: what a line of input means, and the lines that are printed.
 ghost use mathlib.Core.Path.{_≡_};
-ghost use Rattle.io.specs.Counts.{Counts};
 ghost use Rattle.text.specs.Number.{numberOf};
-ghost use Rattle.text.specs.Parse.{sameOf, gapOf, bareOf, numberedOf, withOne, withTwo, parseOf};
+ghost use Rattle.text.specs.Parse.{sameOf, bareOf, numberedOf, withOne, withTwo, parseOf};
 
 pub mod inner;
 
@@ -90,21 +89,6 @@ fn same(a: &[u8], b: &[u8]) -> bool
     true
 }
 
-// How many bytes stand before the first space.
-fn gap(s: &[u8]) -> usize
-    ensures { λ r. ⌜ Counts r (now (s .entry)) ⌝ }
-    ensures { λ r. ⌜ r ≡ gapOf (now (s .entry)) ⌝ }
-{
-    let mut i = 0;
-    while i < s.len() {
-        if s[i] == b' ' {
-            return i;
-        }
-        i += 1;
-    }
-    i
-}
-
 // A line of one word.
 fn bare(w: &[u8]) -> Command
     ensures { λ r. ⌜ r ≡ bareOf (now (w .entry)) ⌝ }
@@ -179,19 +163,19 @@ fn two(w: &[u8], a: &[u8], b: &[u8]) -> Command
 pub fn parse(s: &[u8]) -> Command
     ensures { λ r. ⌜ r ≡ parseOf (now (s .entry)) ⌝ }
 {
-    let e = gap(s);
+    let e = inner::gap(s, b' ');
     if e == s.len() {
         return bare(s);
     }
     let w = &s[..e];
     let rest = &s[e + 1..];
-    let f = gap(rest);
+    let f = inner::gap(rest, b' ');
     if f == rest.len() {
         return one(w, rest);
     }
     let a = &rest[..f];
     let b = &rest[f + 1..];
-    if gap(b) == b.len() {
+    if inner::gap(b, b' ') == b.len() {
         return two(w, a, b);
     }
     Command::BadLine

@@ -1,20 +1,20 @@
--- `text::gap` meets its contract: what is left of the slice still has its first space `i` bytes on.
+-- `text::inner::gap` meets its contract: what is left of the slice still has its first b `i` bytes on.
 use Prim.Native.Nat.{_≤_, _+_, _-_}
 use mathlib.Core.Path.{_≡_, sym}
 use native.Mathlib.Omega.{arith}
 use lib.ListN.{length, drop}
 use lib.Seq.{length-take-le}
 use denote.Ref.{now}
-use Rattle.text.specs.Parse.{gapOf}
+use Rattle.text.specs.Bytes.{gapOf}
 use Rattle.text.proofs.ParseLaws.{gap-step, gap-here, gap-end}
-use Rattle.text.proofs.gap.Statement.{statement}
-use Rattle.text.proofs.gap.Tie as tie
+use Rattle.text.proofs.inner.gap.Statement.{statement}
+use Rattle.text.proofs.inner.gap.Tie as tie
 
 abbrev Inv-loop : tie.InvT-loop
-Inv-loop s i₀ i = (i ≤ length s) × (i + gapOf (drop i s) ≡ gapOf s)
+Inv-loop s b i₀ i = (i ≤ length s) × (i + gapOf b (drop i s) ≡ gapOf b s)
 
 abbrev μ-loop : tie.MeasureT-loop
-μ-loop s i₀ i = length s - i
+μ-loop s b i₀ i = length s - i
 
 loop-holds : tie.Need-loop-holds Inv-loop μ-loop
 loop-holds c = omega arith
@@ -26,7 +26,7 @@ returns : tie.Need-returns Inv-loop μ-loop
 returns c =
     let l = c .before .before .before in
     let s = now (l .before .args .s) in
-    let e = gap-here s (l .loop .i) (c .before .before .loop-test .taken) (c .if1 .taken) in
+    let e = gap-here (l .before .args .b) s (l .loop .i) (c .before .before .loop-test .taken) (c .if1 .taken) in
     let h : l .loop .i ≤ length s = omega arith in
     ((h, sym (length-take-le _ _ h)), omega arith)
 
@@ -39,13 +39,13 @@ loop-less c = omega arith
 loop-again : tie.Need-loop-again Inv-loop μ-loop
 loop-again c =
     let l = c .before .before .before in
-    omega (arith, gap-step (now (l .before .args .s)) (l .loop .i) (c .before .before .loop-test .taken) (c .if1 .left))
+    omega (arith, gap-step (l .before .args .b) (now (l .before .args .s)) (l .loop .i) (c .before .before .loop-test .taken) (c .if1 .left))
 
 returns-2 : tie.Need-returns-2 Inv-loop μ-loop
 returns-2 c =
     let l = c .before in
     let s = now (l .before .args .s) in
-    let e = gap-end s (l .loop .i) (c .loop-test .left) in
+    let e = gap-end (l .before .args .b) s (l .loop .i) (c .loop-test .left) in
     let h : l .loop .i ≤ length s = omega arith in
     ((h, sym (length-take-le _ _ h)), omega arith)
 

@@ -1,0 +1,30 @@
+-- `replay::answer::decide` meets its contract: the call's outcome is what is printed.
+use lib.ListN.{take}
+use denote.Ref.{now}
+use Rattle.state_cache.specs.Run.{settled}
+use Rattle.replay.specs.Answering.{settledText, answering}
+use Rattle.replay.proofs.Telling.{tells}
+use borrow.Author.Needs.{needs}
+use Rattle.replay.proofs.answer.decide.Statement.{statement}
+use Rattle.replay.proofs.answer.decide.Tie as tie
+
+set-decided-idx-requires : tie.Need-set-decided-idx-requires
+set-decided-idx-requires c κs = search needs
+
+put-settled-requires : tie.Need-put-settled-requires
+put-settled-requires c κs = search needs
+
+same-length : tie.Need-same-length
+same-length c = search needs
+
+returns : tie.Need-returns
+unfolding answering
+returns c =
+    let a = c .before .before .before .before .before .before .before .before .args in
+    let to = c .before .before .before .before .set-decided-idx in
+    let put = c .before .before .put-settled in
+    (put .ensures .0, tells settledText (take (a .at) (now (a .out))) _ (settled (to .result .answer)) (to .result .index) (put .result .index) (now (a .log)) (now (a .snapshot)) _ (to .ensures) (put .ensures .1 .0) (put .ensures .1 .1))
+
+pub decide-spec : {M : Type 1} → statement M
+decide-spec =
+    tie.close (tie.spec set-decided-idx-requires put-settled-requires same-length returns)

@@ -1,0 +1,30 @@
+-- `replay::answer::settled_line` meets its contract: each arm knows its answer.
+use Prim.Native.Nat.{ℕ}
+use mathlib.Core.Path.{sym, ap, _∙_}
+use Rattle.text.specs.Answers.{lineOf}
+use Rattle.text.specs.declared.Line.the-variants.{Refused}
+use Rattle.state_cache.specs.Run.{settled}
+use Rattle.state_cache.specs.declared.Settled.{Settled}
+use Rattle.replay.specs.Answering.{settledText}
+use borrow.Author.Needs.{needs}
+use Rattle.replay.proofs.answer.settled_line.Statement.{statement}
+use Rattle.replay.proofs.answer.settled_line.Tie as tie
+
+enum-told : tie.Need-enum-told
+enum-told c = search needs
+
+enum-known-answer : tie.Need-enum-known-answer
+enum-known-answer c = search needs
+
+number-requires : tie.Need-number-requires
+number-requires c κs = search needs
+
+returns : tie.Need-returns
+returns c = sym (ap (λ (x : Settled). settledText (settled x)) (c .enum-told .given .1))
+
+returns-2 : tie.Need-returns-2
+returns-2 c = ap (λ (n : ℕ). lineOf (Refused n)) (c .number .ensures) ∙ sym (ap (λ (x : Settled). settledText (settled x)) (c .before .before .answer .given .1))
+
+pub settled-line-spec : {M : Type 1} → statement M
+settled-line-spec =
+    tie.close (tie.spec enum-told enum-known-answer number-requires returns returns-2)

@@ -1,0 +1,43 @@
+-- `replay::answer::snap` meets its contract: the call's outcome is what is printed.
+use lib.ListN.{take}
+use denote.Ref.{now}
+use Rattle.state_cache.specs.Run.{settled}
+use Rattle.replay.specs.Answering.{settledText, answering}
+use Rattle.replay.proofs.Telling.{tells}
+use borrow.Author.Needs.{needs}
+use Rattle.replay.proofs.answer.snap.Statement.{statement}
+use Rattle.replay.proofs.answer.snap.Tie as tie
+
+try-snapshot-requires : tie.Need-try-snapshot-requires
+try-snapshot-requires c κs = search needs
+
+put-settled-requires : tie.Need-put-settled-requires
+put-settled-requires c κs = search needs
+
+same-length : tie.Need-same-length
+same-length c = search needs
+
+same-length-2 : tie.Need-same-length-2
+same-length-2 c = search needs
+
+same-length-3 : tie.Need-same-length-3
+same-length-3 c = search needs
+
+returns : tie.Need-returns
+unfolding answering
+returns c =
+    let a = c .before .before .before .before .before .before .before .before .before .before .before .before .before .before .args in
+    let to = c .before .before .before .before .before .before .before .before .try-snapshot in
+    let put = c .before .before .put-settled in
+    (put .ensures .0, tells settledText (take (a .at) (now (a .out))) _ (settled (to .result .answer)) (to .result .index) (put .result .index) (c .before .before .before .before .before .before .before .before .try-snapshot .last .1 .0) (c .before .before .before .before .before .before .before .before .try-snapshot .last .1 .1 .0) _ (to .ensures) (put .ensures .1 .0) (put .ensures .1 .1))
+
+pub snap-spec : {M : Type 1} → statement M
+snap-spec =
+    tie.close
+    (tie.spec
+    try-snapshot-requires
+    put-settled-requires
+    same-length
+    same-length-2
+    same-length-3
+    returns)

@@ -1,0 +1,55 @@
+-- `replay::feed::finish` meets its contract: the answer is put where there is room for it.
+use mathlib.Core.List.{[]}
+use Prim.Native.Nat.{ℕ}
+use mathlib.Core.Path.{refl, ap, _∙_}
+use native.Mathlib.Omega.{arith}
+use lib.ListN.{take}
+use denote.Ref.{now}
+use Rattle.state_cache.specs.State.{raw}
+use Rattle.text.specs.declared.Command.{Command}
+use Rattle.replay.specs.Answering.{answering}
+use Rattle.replay.specs.Feeding.{meaning, after}
+use Rattle.replay.proofs.Lines.{next-low}
+use borrow.Author.Needs.{needs}
+use Rattle.replay.proofs.feed.finish.Statement.{statement}
+use Rattle.replay.proofs.feed.finish.Tie as tie
+
+room-requires : tie.Need-room-requires
+room-requires c κs = search needs
+
+command-of-requires : tie.Need-command-of-requires
+command-of-requires c κs = search needs
+
+step-requires : tie.Need-step-requires
+step-requires c κs = let s = c .before .before .before .before .before .before .before .before .before .before .before in
+    (omega (arith, c .before .before .before .before .room .ensures, next-low (s .args .st .used), s .pre .room), s .pre .words)
+
+same-length : tie.Need-same-length
+same-length c = search needs
+
+same-length-2 : tie.Need-same-length-2
+same-length-2 c = search needs
+
+same-length-3 : tie.Need-same-length-3
+same-length-3 c = search needs
+
+returns : tie.Need-returns
+returns c =
+    let a = c .before .before .before .before .before .before .before .before .before .before .before .before .before .before .before .before .before .before .before .args in
+    let done = c .before .before .before .before .before .before .before .step in
+    let room = c .before .before .before .before .before .before .before .before .before .before .before .before .room in
+    let x = raw (a .st .index) (now (a .log)) (now (a .snapshot)) in
+    let k = meaning (a .st .over) (a .st .len) (now (a .line)) [] in
+    ((refl, omega (arith, done .ensures .0, room .ensures, next-low (a .st .used))), done .ensures .1 ∙ ap (λ (k : Command). after (take (room .result) (now (a .out))) (answering k x)) (c .before .before .before .before .before .before .before .before .before .before .before .command-of .ensures) ∙ ap (λ (n : ℕ). after (take n (now (a .out))) (answering k x)) (room .ensures))
+
+pub finish-spec : {M : Type 1} → statement M
+finish-spec =
+    tie.close
+    (tie.spec
+    room-requires
+    command-of-requires
+    step-requires
+    same-length
+    same-length-2
+    same-length-3
+    returns)

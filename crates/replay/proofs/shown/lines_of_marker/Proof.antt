@@ -1,0 +1,33 @@
+-- `replay::shown::lines_of_marker` meets its contract: each arm knows its marker.
+use Prim.Native.Nat.{ℕ}
+use mathlib.Core.Path.{sym, ap}
+use mathlib.Core.List.{List}
+use Rattle.model.specs.Log.{given}
+use Rattle.state_cache.specs.State.{oneIf}
+use Rattle.reading.specs.Replies.{markerSaid}
+use Rattle.reading.specs.declared.Marker.{Marker}
+use borrow.Author.Needs.{needs}
+use Rattle.replay.proofs.shown.lines_of_marker.Statement.{statement}
+use Rattle.replay.proofs.shown.lines_of_marker.Tie as tie
+
+enum-told : tie.Need-enum-told
+enum-told c = search needs
+
+enum-told-2 : tie.Need-enum-told-2
+enum-told-2 c = search needs
+
+enum-told-3 : tie.Need-enum-told-3
+enum-told-3 c = search needs
+
+returns : tie.Need-returns
+returns c = λ (snapshot : List ℕ). sym (ap (λ (m : Marker). oneIf (given (markerSaid snapshot m))) (c .enum-told .given .1))
+
+returns-2 : tie.Need-returns-2
+returns-2 c = λ (snapshot : List ℕ). sym (ap (λ (m : Marker). oneIf (given (markerSaid snapshot m))) (c .enum-told2 .given .1))
+
+returns-3 : tie.Need-returns-3
+returns-3 c = λ (snapshot : List ℕ). sym (ap (λ (m : Marker). oneIf (given (markerSaid snapshot m))) (c .enum-told3 .given .1))
+
+pub lines-of-marker-spec : {M : Type 1} → statement M
+lines-of-marker-spec =
+    tie.close (tie.spec enum-told enum-told-2 enum-told-3 returns returns-2 returns-3)

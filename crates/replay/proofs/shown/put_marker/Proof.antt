@@ -1,0 +1,71 @@
+-- `replay::shown::put_marker` meets its contract: each arm knows its marker.
+use Prim.Native.Nat.{ℕ}
+use mathlib.Core.Path.{sym, ap, _∙_}
+use mathlib.Core.List.{List, _++_, append-nil}
+use lib.ListN.{take}
+use denote.Ref.{now}
+use native.Mathlib.Omega.{arith}
+use Rattle.reading.specs.Replies.{markerSaid}
+use Rattle.reading.specs.declared.Marker.{Marker}
+use Rattle.replay.specs.Answering.{markerText}
+use Rattle.replay.proofs.Telling.{shot-line}
+use borrow.Author.Needs.{needs}
+use Rattle.replay.proofs.shown.put_marker.Statement.{statement}
+use Rattle.replay.proofs.shown.put_marker.Tie as tie
+
+enum-told : tie.Need-enum-told
+enum-told c = search needs
+
+enum-known-marker : tie.Need-enum-known-marker
+enum-known-marker c = search needs
+
+put-line-requires : tie.Need-put-line-requires
+put-line-requires c κs = search needs
+
+enum-known-marker-2 : tie.Need-enum-known-marker-2
+enum-known-marker-2 c = search needs
+
+put-line-requires-2 : tie.Need-put-line-requires-2
+put-line-requires-2 c κs = search needs
+
+returns : tie.Need-returns
+returns c =
+    let a = c .before .before .before .args in
+    let front = take (a .at) (now (a .out)) in
+    (omega arith, λ (snapshot : List ℕ). sym (append-nil front) ∙ sym (ap (λ (m : Marker). front ++ markerText (markerSaid snapshot m)) (c .enum-told .given .1)))
+
+same-length : tie.Need-same-length
+same-length c = search needs
+
+returns-2 : tie.Need-returns-2
+returns-2 c =
+    let b = c .before .before in
+    let a = b .before .before .before .before .before .before .args in
+    let front = take (a .at) (now (a .out)) in
+    (b .put-line .ensures .0, λ (snapshot : List ℕ). b .put-line .ensures .1 ∙ sym (ap (λ (m : Marker). front ++ markerText (markerSaid snapshot m)) (b .before .before .before .marker .given .1)))
+
+same-length-2 : tie.Need-same-length-2
+same-length-2 c = search needs
+
+returns-3 : tie.Need-returns-3
+returns-3 c =
+    let b = c .before .before in
+    let a = b .before .before .before .before .before .before .args in
+    let front = take (a .at) (now (a .out)) in
+    let k = b .before .before .before .marker2 .given .0 in
+    (b .put-line2 .ensures .0, λ (snapshot : List ℕ). b .put-line2 .ensures .1 ∙ ap (λ (l : List ℕ). front ++ l) (shot-line (k .0 .0) (k .1 .0) snapshot) ∙ sym (ap (λ (m : Marker). front ++ markerText (markerSaid snapshot m)) (b .before .before .before .marker2 .given .1)))
+
+pub put-marker-spec : {M : Type 1} → statement M
+put-marker-spec =
+    tie.close
+    (tie.spec
+    enum-told
+    enum-known-marker
+    put-line-requires
+    enum-known-marker-2
+    put-line-requires-2
+    returns
+    same-length
+    returns-2
+    same-length-2
+    returns-3)

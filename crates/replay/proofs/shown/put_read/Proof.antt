@@ -1,0 +1,85 @@
+-- `replay::shown::put_read` meets its contract: each arm knows its reply.
+use Prim.Native.Nat.{ℕ}
+use mathlib.Core.Path.{sym, ap, _∙_}
+use mathlib.Core.List.{List, _++_}
+use lib.ListN.{take}
+use denote.Ref.{now}
+use native.Mathlib.Omega.{arith}
+use Rattle.state_cache.specs.State.{raw}
+use Rattle.text.specs.Answers.{lineOf}
+use Rattle.text.specs.declared.Line.the-variants.{Refused}
+use Rattle.reading.specs.Replies.{readSaid}
+use Rattle.reading.specs.declared.ReadReply.{ReadReply}
+use Rattle.replay.specs.Answering.{readText}
+use borrow.Author.Needs.{needs}
+use Rattle.replay.proofs.shown.put_read.Statement.{statement}
+use Rattle.replay.proofs.shown.put_read.Tie as tie
+
+enum-told : tie.Need-enum-told
+enum-told c = search needs
+
+put-line-requires : tie.Need-put-line-requires
+put-line-requires c κs = search needs
+
+enum-known-reply : tie.Need-enum-known-reply
+enum-known-reply c = search needs
+
+put-shown-requires : tie.Need-put-shown-requires
+put-shown-requires c κs = search needs
+
+enum-known-reply-2 : tie.Need-enum-known-reply-2
+enum-known-reply-2 c = search needs
+
+number-requires : tie.Need-number-requires
+number-requires c κs = search needs
+
+put-line-requires-2 : tie.Need-put-line-requires-2
+put-line-requires-2 c κs = search needs
+
+same-length : tie.Need-same-length
+same-length c = search needs
+
+returns : tie.Need-returns
+returns c =
+    let b = c .before .before in
+    let a = b .before .before .before .before .before .before .args in
+    let front = take (a .at) (now (a .out)) in
+    (omega (arith, b .put-line .ensures .0), λ (snapshot : List ℕ). b .put-line .ensures .1 ∙ sym (ap (λ (r : ReadReply). front ++ readText (readSaid (raw (a .index) (now (a .log)) snapshot) r)) (b .before .before .enum-told .given .1)))
+
+same-length-2 : tie.Need-same-length-2
+same-length-2 c = search needs
+
+returns-2 : tie.Need-returns-2
+returns-2 c =
+    let b = c .before .before in
+    let a = b .before .before .before .before .before .before .before .args in
+    let front = take (a .at) (now (a .out)) in
+    (b .put-shown .ensures .0, λ (snapshot : List ℕ). b .put-shown .ensures .1 snapshot ∙ sym (ap (λ (r : ReadReply). front ++ readText (readSaid (raw (a .index) (now (a .log)) snapshot) r)) (b .before .before .before .reply .given .1)))
+
+same-length-3 : tie.Need-same-length-3
+same-length-3 c = search needs
+
+returns-3 : tie.Need-returns-3
+returns-3 c =
+    let b = c .before .before in
+    let a = b .before .before .before .before .before .before .before .before .args in
+    let front = take (a .at) (now (a .out)) in
+    (omega (arith, b .put-line2 .ensures .0), λ (snapshot : List ℕ). b .put-line2 .ensures .1 ∙ ap (λ (n : ℕ). front ++ lineOf (Refused n)) (b .before .number .ensures) ∙ sym (ap (λ (r : ReadReply). front ++ readText (readSaid (raw (a .index) (now (a .log)) snapshot) r)) (b .before .before .before .before .reply2 .given .1)))
+
+pub put-read-spec : {M : Type 1} → statement M
+put-read-spec =
+    tie.close
+    (tie.spec
+    enum-told
+    put-line-requires
+    enum-known-reply
+    put-shown-requires
+    enum-known-reply-2
+    number-requires
+    put-line-requires-2
+    same-length
+    returns
+    same-length-2
+    returns-2
+    same-length-3
+    returns-3)

@@ -1,0 +1,35 @@
+-- `replay::shown::put_stop` meets its contract: by the flag.
+use mathlib.Core.Path.{sym, ap, _∙_}
+use mathlib.Core.Bool.{Bool}
+use mathlib.Core.List.{_++_, append-nil}
+use mathlib.Core.Option.{none, some}
+use lib.ListN.{take}
+use denote.Ref.{now}
+use native.Mathlib.Omega.{arith}
+use Rattle.words.specs.If.{if_then_else_}
+use Rattle.replay.specs.Answering.{stopText}
+use borrow.Author.Needs.{needs}
+use Rattle.replay.proofs.shown.put_stop.Statement.{statement}
+use Rattle.replay.proofs.shown.put_stop.Tie as tie
+
+put-line-requires : tie.Need-put-line-requires
+put-line-requires c κs = search needs
+
+same-length : tie.Need-same-length
+same-length c = search needs
+
+returns : tie.Need-returns
+returns c =
+    let b = c .before .before in
+    let a = b .before .before .before .before .before .args in
+    let front = take (a .at) (now (a .out)) in
+    (b .put-line .ensures .0, b .put-line .ensures .1 ∙ sym (ap (λ (t : Bool). front ++ stopText (if t then some (a .index .stop) else none) (a .run .«stop_decided»)) (b .before .before .if1 .taken)))
+
+returns-2 : tie.Need-returns-2
+returns-2 c =
+    let a = c .before .before .before .args in
+    let front = take (a .at) (now (a .out)) in
+    (omega arith, sym (append-nil front) ∙ sym (ap (λ (t : Bool). front ++ stopText (if t then some (a .index .stop) else none) (a .run .«stop_decided»)) (c .if1 .left)))
+
+pub put-stop-spec : {M : Type 1} → statement M
+put-stop-spec = tie.close (tie.spec put-line-requires same-length returns returns-2)

@@ -1,0 +1,46 @@
+-- Lines that come in parts: what a line means, some of whose bytes have come, and what its end prints.
+use Prim.Native.Nat.{ℕ, _≤_}
+use mathlib.Core.Path.{_≡_}
+use mathlib.Core.Bool.{Bool, true, false}
+use mathlib.Core.List.{List, _++_}
+use lib.Dec.{leb}
+use lib.ListN.{take}
+use Rattle.words.specs.If.{if_then_else_}
+use Rattle.entry.specs.Limits.{logWords}
+use Rattle.text.specs.Parse.{parseOf}
+use Rattle.text.specs.declared.Command.{Command}
+use Rattle.text.specs.declared.Command.the-variants.{BadLine}
+use Rattle.replay.specs.Answering.{Told, told}
+
+-- with more bytes after those in the buffer, up to the line's end; a line longer than the buffer is a bad line
+abbrev pub meaning : Bool → ℕ → List ℕ → List ℕ → Command
+meaning true len line more = BadLine
+meaning false len line more = parseOf (take len line ++ more)
+
+-- a longer line is a bad line: the longest that is none has a word of six letters and two numbers of twenty digits
+abbrev pub lineRoom : ℕ
+lineRoom = 48
+
+-- the most bytes that an answer may have: 64 for each of 1,024 entries, the count before them, a marker and a stop-sign
+abbrev pub answerRoom : ℕ
+answerRoom = 65728
+
+-- so many bytes of answers wait to be written
+abbrev pub outRoom : ℕ
+outRoom = 131072
+
+-- where the next answer is put: after those that wait, unless it might not fit; then these are written first
+abbrev pub nextAt : ℕ → ℕ
+nextAt used = if leb used 65344 then used else 0
+
+-- some bytes before what is told
+abbrev pub after : List ℕ → Told → Told
+after bs t = told (bs ++ t .text) (t .after)
+
+-- what is known between one part of the input and the next: the line so far is in its buffer, and the answers that wait in theirs
+pub record Fed (len used line log out : ℕ) : Type 0 where
+  pub inside : len ≤ line
+  pub buffer : lineRoom ≤ line
+  pub waiting : used ≤ outRoom
+  pub room : out ≡ outRoom
+  pub words : log ≡ logWords

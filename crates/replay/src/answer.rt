@@ -1,0 +1,349 @@
+// What each command does to the log, and the line that answers it, put into out from index `at` on.
+use compaction::Upto;
+use entry::BlockPlace;
+use entry::LogIndex;
+use entry::StopSign;
+use internal_storage::Appended;
+use internal_storage::AppendedAt;
+use internal_storage::Said;
+use reading::Bound;
+use state_cache::Accepted;
+use state_cache::AcceptedAt;
+use state_cache::IndexRecord;
+use state_cache::Settled;
+use state_cache::SettledAt;
+use text::Command;
+use text::Line;
+ghost use mathlib.Core.Path.{_≡_};
+ghost use mathlib.Core.List.{_++_};
+ghost use Prim.Native.Nat.{_+_, _≤_};
+ghost use lib.ListN.{length, take};
+ghost use Rattle.entry.specs.Limits.{logWords};
+ghost use Rattle.state_cache.specs.State.{raw};
+ghost use Rattle.state_cache.specs.Run.{settled, accepted};
+ghost use Rattle.internal_storage.specs.Replies.{appended};
+ghost use Rattle.text.specs.Answers.{lineOf};
+ghost use Rattle.text.specs.declared.Line.the-variants.{BadLine};
+ghost use Rattle.text.specs.declared.Command.the-variants.{Batch, Put, Del, Read, Flush, Decide, Snap, SnapAll, Stop, Trim};
+ghost use Rattle.replay.specs.Answering.{told, settledText, acceptedText, appendedText, stopOf, stopLine, answering};
+ghost use Rattle.replay.specs.Feeding.{answerRoom, after};
+
+// The record after a command, and the index after its answer's bytes.
+pub struct Stepped {
+    pub index: IndexRecord,
+    pub at: usize,
+}
+
+fn settled_line(answer: Settled) -> Line
+    ensures { λ r. ⌜ lineOf r ≡ settledText (settled answer) ⌝ }
+{
+    match answer {
+        Settled::Done => Line::Done,
+        Settled::Refused(refusal) => Line::Refused(entry::number(refusal)),
+    }
+}
+
+fn accepted_line(answer: Accepted) -> Line
+    ensures { λ r. ⌜ lineOf r ≡ acceptedText (accepted answer) ⌝ }
+{
+    match answer {
+        Accepted::At(i) => Line::Accepted(i.0),
+        Accepted::Refused(refusal) => Line::Refused(entry::number(refusal)),
+    }
+}
+
+fn appended_line(answer: Appended) -> Line
+    ensures { λ r. ⌜ lineOf r ≡ appendedText (appended answer) ⌝ }
+{
+    match answer {
+        Appended::Held => Line::Held,
+        Appended::Flushed {
+            accepted,
+            entries: _,
+        } => Line::Accepted(accepted.0),
+        Appended::Refused(refusal) => Line::Refused(entry::number(refusal)),
+    }
+}
+
+fn put_settled(out: &mut [u8], at: usize, from: SettledAt) -> Stepped
+    requires { ⌜ at + 64 ≤ length (now out) ⌝ }
+    ensures { λ r. ⌜ r .at ≤ at + 64 ⌝ }
+    ensures { λ r. ⌜ r .index ≡ from .index ⌝ }
+    ensures { λ r. ⌜ take (r .at) (now (out .exit)) ≡ take at (now (out .entry)) ++ settledText (settled (from .answer)) ⌝ }
+{
+    let answer = from.answer;
+    let index = from.index;
+    let line = settled_line(answer);
+    let o = text::inner::put_line(out, at, line);
+    Stepped { index, at: o }
+}
+
+fn put_accepted(out: &mut [u8], at: usize, from: AcceptedAt) -> Stepped
+    requires { ⌜ at + 64 ≤ length (now out) ⌝ }
+    ensures { λ r. ⌜ r .at ≤ at + 64 ⌝ }
+    ensures { λ r. ⌜ r .index ≡ from .index ⌝ }
+    ensures { λ r. ⌜ take (r .at) (now (out .exit)) ≡ take at (now (out .entry)) ++ acceptedText (accepted (from .answer)) ⌝ }
+{
+    let answer = from.answer;
+    let index = from.index;
+    let line = accepted_line(answer);
+    let o = text::inner::put_line(out, at, line);
+    Stepped { index, at: o }
+}
+
+fn put_appended(out: &mut [u8], at: usize, from: AppendedAt) -> Stepped
+    requires { ⌜ at + 64 ≤ length (now out) ⌝ }
+    ensures { λ r. ⌜ r .at ≤ at + 64 ⌝ }
+    ensures { λ r. ⌜ r .index ≡ from .index ⌝ }
+    ensures { λ r. ⌜ take (r .at) (now (out .exit)) ≡ take at (now (out .entry)) ++ appendedText (appended (from .answer)) ⌝ }
+{
+    let answer = from.answer;
+    let index = from.index;
+    let line = appended_line(answer);
+    let o = text::inner::put_line(out, at, line);
+    Stepped { index, at: o }
+}
+
+// A fresh log. Where it is refused the old one stays.
+fn batch(
+    index: IndexRecord,
+    log: &mut [u64],
+    snapshot: &mut [u64],
+    n: u64,
+    out: &mut [u8],
+    at: usize,
+) -> Stepped
+    requires { ⌜ at + 64 ≤ length (now out) ⌝ }
+    ensures { λ r. ⌜ r .at ≤ at + 64 ⌝ }
+    ensures { λ r. ⌜ told (take (r .at) (now (out .exit))) (raw (r .index) (now (log .exit)) (now (snapshot .exit))) ≡ after (take at (now (out .entry))) (answering (Batch n) (raw index (now (log .entry)) (now (snapshot .entry)))) ⌝ }
+{
+    let started = state_cache::fresh(n, log, snapshot);
+    let answer = started.answer;
+    let next = started.index;
+    let Settled::Refused(refusal) = answer else {
+        let o = text::inner::put_line(out, at, Line::Done);
+        return Stepped { index: next, at: o };
+    };
+    let o = text::inner::put_line(out, at, Line::Refused(entry::number(refusal)));
+    Stepped { index, at: o }
+}
+
+fn put(
+    index: IndexRecord,
+    log: &mut [u64],
+    snapshot: &[u64],
+    k: u64,
+    p: u64,
+    out: &mut [u8],
+    at: usize,
+) -> Stepped
+    requires { ⌜ at + 64 ≤ length (now out) ⌝ }
+    ensures { λ r. ⌜ r .at ≤ at + 64 ⌝ }
+    ensures { λ r. ⌜ told (take (r .at) (now (out .exit))) (raw (r .index) (now (log .exit)) (now (snapshot .entry))) ≡ after (take at (now (out .entry))) (answering (Put k p) (raw index (now (log .entry)) (now (snapshot .entry)))) ⌝ }
+{
+    let said = Said::Place(BlockPlace(p));
+    let to = internal_storage::append::append_entry_with_batching(index, log, snapshot, k, said);
+    put_appended(out, at, to)
+}
+
+fn del(
+    index: IndexRecord,
+    log: &mut [u64],
+    snapshot: &[u64],
+    k: u64,
+    out: &mut [u8],
+    at: usize,
+) -> Stepped
+    requires { ⌜ at + 64 ≤ length (now out) ⌝ }
+    ensures { λ r. ⌜ r .at ≤ at + 64 ⌝ }
+    ensures { λ r. ⌜ told (take (r .at) (now (out .exit))) (raw (r .index) (now (log .exit)) (now (snapshot .entry))) ≡ after (take at (now (out .entry))) (answering (Del k) (raw index (now (log .entry)) (now (snapshot .entry)))) ⌝ }
+{
+    let said = Said::Removed;
+    let to = internal_storage::append::append_entry_with_batching(index, log, snapshot, k, said);
+    put_appended(out, at, to)
+}
+
+fn read(
+    index: IndexRecord,
+    log: &[u64],
+    snapshot: &[u64],
+    from: u64,
+    to: u64,
+    out: &mut [u8],
+    at: usize,
+) -> Stepped
+    requires { ⌜ (at + answerRoom ≤ length (now out)) × (length (now log) ≡ logWords) ⌝ }
+    ensures { λ r. ⌜ r .at ≤ at + answerRoom ⌝ }
+    ensures { λ r. ⌜ told (take (r .at) (now (out .exit))) (raw (r .index) (now (log .entry)) (now (snapshot .entry))) ≡ after (take at (now (out .entry))) (answering (Read from to) (raw index (now (log .entry)) (now (snapshot .entry)))) ⌝ }
+{
+    let first = LogIndex(from);
+    let end = LogIndex(to);
+    let reply = reading::read_reply(
+        index,
+        log,
+        snapshot,
+        Bound::Included(first),
+        Bound::Excluded(end),
+    );
+    let o = super::shown::put_read(out, at, reply, index, log);
+    Stepped { index, at: o }
+}
+
+fn flush(index: IndexRecord, log: &[u64], snapshot: &[u64], out: &mut [u8], at: usize) -> Stepped
+    requires { ⌜ at + 64 ≤ length (now out) ⌝ }
+    ensures { λ r. ⌜ r .at ≤ at + 64 ⌝ }
+    ensures { λ r. ⌜ told (take (r .at) (now (out .exit))) (raw (r .index) (now (log .entry)) (now (snapshot .entry))) ≡ after (take at (now (out .entry))) (answering Flush (raw index (now (log .entry)) (now (snapshot .entry)))) ⌝ }
+{
+    let to = internal_storage::flush::flush_batch(index, log, snapshot);
+    put_accepted(out, at, to)
+}
+
+fn decide(
+    index: IndexRecord,
+    log: &[u64],
+    snapshot: &[u64],
+    i: u64,
+    out: &mut [u8],
+    at: usize,
+) -> Stepped
+    requires { ⌜ at + 64 ≤ length (now out) ⌝ }
+    ensures { λ r. ⌜ r .at ≤ at + 64 ⌝ }
+    ensures { λ r. ⌜ told (take (r .at) (now (out .exit))) (raw (r .index) (now (log .entry)) (now (snapshot .entry))) ≡ after (take at (now (out .entry))) (answering (Decide i) (raw index (now (log .entry)) (now (snapshot .entry)))) ⌝ }
+{
+    let to = internal_storage::decide::set_decided_idx(index, log, snapshot, LogIndex(i));
+    put_settled(out, at, to)
+}
+
+fn snap(
+    index: IndexRecord,
+    log: &mut [u64],
+    snapshot: &mut [u64],
+    i: u64,
+    out: &mut [u8],
+    at: usize,
+) -> Stepped
+    requires { ⌜ at + 64 ≤ length (now out) ⌝ }
+    ensures { λ r. ⌜ r .at ≤ at + 64 ⌝ }
+    ensures { λ r. ⌜ told (take (r .at) (now (out .exit))) (raw (r .index) (now (log .exit)) (now (snapshot .exit))) ≡ after (take at (now (out .entry))) (answering (Snap i) (raw index (now (log .entry)) (now (snapshot .entry)))) ⌝ }
+{
+    let to = compaction::try_snapshot(index, log, snapshot, Upto::Index(LogIndex(i)));
+    put_settled(out, at, to)
+}
+
+fn snap_all(
+    index: IndexRecord,
+    log: &mut [u64],
+    snapshot: &mut [u64],
+    out: &mut [u8],
+    at: usize,
+) -> Stepped
+    requires { ⌜ at + 64 ≤ length (now out) ⌝ }
+    ensures { λ r. ⌜ r .at ≤ at + 64 ⌝ }
+    ensures { λ r. ⌜ told (take (r .at) (now (out .exit))) (raw (r .index) (now (log .exit)) (now (snapshot .exit))) ≡ after (take at (now (out .entry))) (answering SnapAll (raw index (now (log .entry)) (now (snapshot .entry)))) ⌝ }
+{
+    let to = compaction::try_snapshot(index, log, snapshot, Upto::Decided);
+    put_settled(out, at, to)
+}
+
+// Node 1 and no metadata.
+fn stop_sign(c: u32) -> StopSign
+    ensures { λ r. ⌜ r ≡ stopOf c ⌝ }
+{
+    StopSign {
+        config_id: c,
+        node_count: 1,
+        nodes: [1, 0, 0, 0, 0, 0, 0],
+        metadata_held: false,
+        metadata_len: 0,
+        metadata: [0; 32],
+    }
+}
+
+// The accepted index after the call is printed: the call's own reply does not count the stop-sign.
+fn stop_line(answer: Appended, last: Accepted) -> Line
+    ensures { λ r. ⌜ lineOf r ≡ stopLine (appended answer) (accepted last) ⌝ }
+{
+    match answer {
+        Appended::Held => accepted_line(last),
+        Appended::Flushed {
+            accepted: _,
+            entries: _,
+        } => accepted_line(last),
+        Appended::Refused(refusal) => Line::Refused(entry::number(refusal)),
+    }
+}
+
+fn stop(
+    index: IndexRecord,
+    log: &[u64],
+    snapshot: &[u64],
+    c: u32,
+    out: &mut [u8],
+    at: usize,
+) -> Stepped
+    requires { ⌜ at + 64 ≤ length (now out) ⌝ }
+    ensures { λ r. ⌜ r .at ≤ at + 64 ⌝ }
+    ensures { λ r. ⌜ told (take (r .at) (now (out .exit))) (raw (r .index) (now (log .entry)) (now (snapshot .entry))) ≡ after (take at (now (out .entry))) (answering (Stop c) (raw index (now (log .entry)) (now (snapshot .entry)))) ⌝ }
+{
+    let to = internal_storage::stop::append_stopsign(index, log, snapshot, stop_sign(c));
+    let answer = to.answer;
+    let next = to.index;
+    let last = state_cache::get_accepted_idx(next, log, snapshot);
+    let line = stop_line(answer, last);
+    let o = text::inner::put_line(out, at, line);
+    Stepped { index: next, at: o }
+}
+
+fn trim(
+    index: IndexRecord,
+    log: &mut [u64],
+    snapshot: &[u64],
+    i: u64,
+    out: &mut [u8],
+    at: usize,
+) -> Stepped
+    requires { ⌜ at + 64 ≤ length (now out) ⌝ }
+    ensures { λ r. ⌜ r .at ≤ at + 64 ⌝ }
+    ensures { λ r. ⌜ told (take (r .at) (now (out .exit))) (raw (r .index) (now (log .exit)) (now (snapshot .entry))) ≡ after (take at (now (out .entry))) (answering (Trim i) (raw index (now (log .entry)) (now (snapshot .entry)))) ⌝ }
+{
+    let to = compaction::try_trim(index, log, snapshot, LogIndex(i));
+    put_settled(out, at, to)
+}
+
+fn bad_line(index: IndexRecord, out: &mut [u8], at: usize) -> Stepped
+    requires { ⌜ at + 64 ≤ length (now out) ⌝ }
+    ensures { λ r. ⌜ r .at ≤ at + 64 ⌝ }
+    ensures { λ r. ⌜ r .index ≡ index ⌝ }
+    ensures { λ r. ⌜ take (r .at) (now (out .exit)) ≡ take at (now (out .entry)) ++ lineOf BadLine ⌝ }
+{
+    let o = text::inner::put_line(out, at, Line::BadLine);
+    Stepped { index, at: o }
+}
+
+// Does what a line says, and puts its answer.
+pub fn step(
+    index: IndexRecord,
+    log: &mut [u64],
+    snapshot: &mut [u64],
+    command: Command,
+    out: &mut [u8],
+    at: usize,
+) -> Stepped
+    requires { ⌜ (at + answerRoom ≤ length (now out)) × (length (now log) ≡ logWords) ⌝ }
+    ensures { λ r. ⌜ r .at ≤ at + answerRoom ⌝ }
+    ensures { λ r. ⌜ told (take (r .at) (now (out .exit))) (raw (r .index) (now (log .exit)) (now (snapshot .exit))) ≡ after (take at (now (out .entry))) (answering command (raw index (now (log .entry)) (now (snapshot .entry)))) ⌝ }
+{
+    match command {
+        Command::Batch(n) => batch(index, log, snapshot, n, out, at),
+        Command::Put(k, p) => put(index, log, snapshot, k, p, out, at),
+        Command::Del(k) => del(index, log, snapshot, k, out, at),
+        Command::Read(from, to) => read(index, log, snapshot, from, to, out, at),
+        Command::Flush => flush(index, log, snapshot, out, at),
+        Command::Decide(i) => decide(index, log, snapshot, i, out, at),
+        Command::Snap(i) => snap(index, log, snapshot, i, out, at),
+        Command::SnapAll => snap_all(index, log, snapshot, out, at),
+        Command::Stop(c) => stop(index, log, snapshot, c, out, at),
+        Command::Trim(i) => trim(index, log, snapshot, i, out, at),
+        Command::BadLine => bad_line(index, out, at),
+    }
+}

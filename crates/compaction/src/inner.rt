@@ -8,6 +8,7 @@ use state_cache::Settled;
 use state_cache::SettledAt;
 ghost use mathlib.Core.Path.{_≡_};
 ghost use mathlib.Core.Bool.{true};
+ghost use lib.Dec.{ltb};
 ghost use lib.ListN.{length};
 ghost use Rattle.entry.specs.Limits.{snapshotWords};
 ghost use Rattle.snapshot.specs.Calls.{outcome as shotOutcome, folded};
@@ -99,6 +100,13 @@ fn target_of(index: IndexRecord, idx: Upto) -> u64
     }
 }
 
+// Whether a snapshot up to there folds anything: one that does not pass compacted changes nothing.
+fn passes(index: IndexRecord, to: u64) -> bool
+    ensures { λ r. ⌜ r ≡ ltb (index .compacted .0) to ⌝ }
+{
+    index.compacted.0 < to
+}
+
 // Folds the first n entries onto a snapshot in its place. The fold is made aside, so that one with too many keys writes nothing.
 fn fold_over(shot: &mut [u64], kept: usize, entries: &[u64], n: usize) -> Folded
     requires { ⌜ Aside kept (now shot) n (now entries) (now shot) ⌝ }
@@ -122,7 +130,7 @@ pub fn snapshot_at(index: IndexRecord, log: &mut [u64], shot: &mut [u64], idx: U
         };
     }
     let to = target_of(index, idx);
-    if to <= index.compacted.0 {
+    if !passes(index, to) {
         return SettledAt {
             answer: Settled::Done,
             index,

@@ -114,8 +114,12 @@ pub fn get_accepted_idx(index: IndexRecord, log: &[u64], snapshot: &[u64]) -> Ac
     Accepted::At(LogIndex(last))
 }
 
-// The decided index without the stop-sign: the Rust's `get_decided_idx_without_stopsign`.
-pub fn get_log_decided_idx(index: IndexRecord, log: &[u64], snapshot: &[u64]) -> Accepted
+// The decided index, a decided stop-sign not counted.
+pub fn get_decided_idx_without_stopsign(
+    index: IndexRecord,
+    log: &[u64],
+    snapshot: &[u64],
+) -> Accepted
     ensures { λ r. ⌜ accepted r ≡ ofNumbers logDecided (raw index (now (log .entry)) (now (snapshot .entry))) ⌝ }
 {
     if !well_formed(index, log, snapshot) {

@@ -1,8 +1,8 @@
--- `compaction::inner::snapshot_at` meets its contract: refusal 2, then by whether the target passes compacted, then by the fold.
-use Prim.Native.Nat.{_+_, _≤_}
+use Prim.Native.Nat.{_+_, _≤_, _<_}
 use mathlib.Core.Path.{_≡_, sym, _∙_}
 use mathlib.Core.Bool.{false}
 use native.Mathlib.Omega.{arith}
+use borrow.Author.Tests.{ltb-true, ltb-false, not-true, not-false}
 use denote.Ref.{now}
 use Rattle.model.specs.Compact.{pastDecided}
 use Rattle.state_cache.specs.State.{Raw, raw, numbersIn}
@@ -13,6 +13,13 @@ use Rattle.compaction.proofs.Shots.{upto-in, shot-refused, shot-idle, s
 use borrow.Author.Needs.{needs}
 use Rattle.compaction.proofs.inner.snapshot_at.Statement.{statement}
 use Rattle.compaction.proofs.inner.snapshot_at.Tie as tie
+use Rattle.compaction.proofs.inner.snapshot_at.Reads as reads
+use Rattle.compaction.proofs.inner.snapshot_at.Lts as lts
+use Rattle.compaction.proofs.inner.fold_over.Reads as fold-over-reads
+use Rattle.compaction.proofs.inner.move_to.Reads as move-to-reads
+use Rattle.compaction.proofs.inner.passes.Reads as passes-reads
+use Rattle.compaction.proofs.inner.past_decided.Reads as past-decided-reads
+use Rattle.compaction.proofs.inner.target_of.Reads as target-of-reads
 
 abbrev stateAt : tie.Start → Raw
 stateAt c = raw (c .args .index) (now (c .args .log)) (now (c .args .shot))
@@ -28,6 +35,9 @@ within k =
     let st = startOf k in
     omega (arith, k .target-of .ensures, upto-in (uptoOf (st .args .idx)) (numbersIn (st .args .index)) (st .pre .numbers))
 
+moves : (e : tie.Else2) → startOf (e .before .before) .args .index .compacted .0 < e .before .before .target-of .result
+moves e = ltb-true _ _ (sym (e .before .passes .ensures) ∙ not-false _ (e .if2 .left))
+
 past-decided-requires : tie.Need-past-decided-requires
 past-decided-requires c κs = search needs
 
@@ -40,14 +50,17 @@ returns c =
 target-of-requires : tie.Need-target-of-requires
 target-of-requires c κs = sound-small _ (c .before .before .before .before .before .pre .numbers)
 
+passes-requires : tie.Need-passes-requires
+passes-requires c κs = search needs
+
 returns-2 : tie.Need-returns-2
 returns-2 c =
     let k = c .before .before in
     let st = startOf k in
-    shot-idle (stateAt st) (st .pre .okay) (uptoOf (st .args .idx)) (k .target-of .result) (not-past k) (k .target-of .ensures) (c .if2 .taken)
+    shot-idle (stateAt st) (st .pre .okay) (uptoOf (st .args .idx)) (k .target-of .result) (not-past k) (k .target-of .ensures) (ltb-false _ _ (sym (c .before .passes .ensures) ∙ not-true _ (c .if2 .taken)))
 
 sub-gone : tie.Need-sub-gone
-sub-gone c = search needs
+sub-gone c = omega (arith, moves (c .before))
 
 fold-over-requires : tie.Need-fold-over-requires
 fold-over-requires c κs =
@@ -73,14 +86,14 @@ returns-3 c =
     let e = f .before .before .before .before in
     let k = e .before .before in
     let st = startOf k in
-    shot-over (stateAt st) (st .pre .okay) (uptoOf (st .args .idx)) (k .target-of .result) (not-past k) (k .target-of .ensures) (e .if2 .left) (within k) (f .fold-over .result) (f .fold-over .last .0) (f .fold-over .ensures) _ (c .enum-told .given .1)
+    shot-over (stateAt st) (st .pre .okay) (uptoOf (st .args .idx)) (k .target-of .result) (not-past k) (k .target-of .ensures) (moves e) (within k) (f .fold-over .result) (f .fold-over .last .0) (f .fold-over .ensures) _ (c .enum-told .given .1)
 
 move-to-requires : tie.Need-move-to-requires
 move-to-requires c κs =
     let e = c .before .before .before .before .before .before .before .before .before .before in
     let k = e .before .before in
     let st = startOf k in
-    record { up = omega (arith, e .if2 .left); within = within k; laid-out = st .pre .log }
+    record { up = omega (arith, moves e); within = within k; laid-out = st .pre .log }
 
 same-length-3 : tie.Need-same-length-3
 same-length-3 c = search needs
@@ -96,7 +109,7 @@ returns-4 c =
     let e = f .before .before .before .before in
     let k = e .before .before in
     let st = startOf k in
-    shot-moves (stateAt st) (st .pre .okay) (uptoOf (st .args .idx)) (k .target-of .result) (not-past k) (k .target-of .ensures) (e .if2 .left) (within k) (f .fold-over .result) (f .fold-over .last .0) (f .fold-over .ensures) _ (g .r .given .1) (m .move-to .result) (m .move-to .last .1 .0) (m .move-to .ensures)
+    shot-moves (stateAt st) (st .pre .okay) (uptoOf (st .args .idx)) (k .target-of .result) (not-past k) (k .target-of .ensures) (moves e) (within k) (f .fold-over .result) (f .fold-over .last .0) (f .fold-over .ensures) _ (g .r .given .1) (m .move-to .result) (m .move-to .last .1 .0) (m .move-to .ensures)
 
 pub snapshot-at-spec : {M : Type 1} → statement M
 snapshot-at-spec =
@@ -105,6 +118,7 @@ snapshot-at-spec =
     past-decided-requires
     returns
     target-of-requires
+    passes-requires
     returns-2
     sub-gone
     fold-over-requires

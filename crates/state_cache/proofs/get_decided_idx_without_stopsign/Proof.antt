@@ -1,4 +1,4 @@
--- `state_cache::get_log_decided_idx` meets its contract: refusal 12, or the decided index without the stop-sign.
+-- `state_cache::get_decided_idx_without_stopsign` meets its contract: refusal 12, or the decided index without the stop-sign.
 use mathlib.Core.Path.{_≡_, sym, _∙_}
 use mathlib.Core.Bool.{true}
 use borrow.Author.Tests.{not-true, not-false}
@@ -9,8 +9,8 @@ use Rattle.state_cache.proofs.Small.{sound-small}
 use Rattle.state_cache.proofs.Stands.{ready-of}
 use Rattle.state_cache.proofs.Runs.{not-asked, asked-of}
 use borrow.Author.Needs.{needs}
-use Rattle.state_cache.proofs.get_log_decided_idx.Statement.{statement}
-use Rattle.state_cache.proofs.get_log_decided_idx.Tie as tie
+use Rattle.state_cache.proofs.get_decided_idx_without_stopsign.Statement.{statement}
+use Rattle.state_cache.proofs.get_decided_idx_without_stopsign.Tie as tie
 
 abbrev stateAt : tie.Start → Raw
 stateAt c = raw (c .args .index) (now (c .args .log)) (now (c .args .snapshot))
@@ -30,5 +30,5 @@ log-decided-requires c κs = sound-small _ (ready-of _ (okay c) .numbers)
 returns-2 : tie.Need-returns-2
 returns-2 c = asked-of logDecided (stateAt (c .before .before .before .before .before)) (okay (c .before)) _ (c .log-decided .ensures)
 
-pub get-log-decided-idx-spec : {M : Type 1} → statement M
-get-log-decided-idx-spec = tie.close (tie.spec well-formed-requires returns log-decided-requires returns-2)
+pub get-decided-idx-without-stopsign-spec : {M : Type 1} → statement M
+get-decided-idx-without-stopsign-spec = tie.close (tie.spec well-formed-requires returns log-decided-requires returns-2)

@@ -1,0 +1,31 @@
+// Module 10: the host keeps one index record, and decide and trim alter it where it stands. Each is the call by value on the record
+// that is there, and what it hands back is stored.
+use entry::LogIndex;
+use state_cache::IndexRecord;
+use state_cache::Settled;
+ghost use mathlib.Core.Path.{_≡_};
+ghost use mathlib.Core.Bool.{true};
+ghost use Rattle.model.specs.Calls.{decide, trim};
+ghost use Rattle.state_cache.specs.State.{raw};
+ghost use Rattle.state_cache.specs.Run.{outcome, run, settled};
+
+pub fn set_decided_idx(
+    held: &mut IndexRecord,
+    log: &[u64],
+    snapshot: &[u64],
+    idx: LogIndex,
+) -> Settled
+    ensures { λ r. ⌜ outcome (settled r) (raw (now (held .exit)) (now (log .entry)) (now (snapshot .entry))) ≡ run (decide (idx .0)) true (raw (now (held .entry)) (now (log .entry)) (now (snapshot .entry))) ⌝ }
+{
+    let decided = internal_storage::decide::set_decided_idx(*held, log, snapshot, idx);
+    *held = decided.index;
+    decided.answer
+}
+
+pub fn try_trim(held: &mut IndexRecord, log: &mut [u64], snapshot: &[u64], idx: LogIndex) -> Settled
+    ensures { λ r. ⌜ outcome (settled r) (raw (now (held .exit)) (now (log .exit)) (now (snapshot .entry))) ≡ run (trim (idx .0)) true (raw (now (held .entry)) (now (log .entry)) (now (snapshot .entry))) ⌝ }
+{
+    let trimmed = compaction::try_trim(*held, log, snapshot, idx);
+    *held = trimmed.index;
+    trimmed.answer
+}

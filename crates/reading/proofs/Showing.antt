@@ -51,6 +51,14 @@ front count l h =
     ∙ ap (λ (k : ℕ). entriesOf k (take (count * width) l ++ drop (count * width) l)) z
     ∙ ap (entriesOf count) (take-append-drop (count * width) l)
 
+pub no-part : (ws : List ℕ) → part 0 0 ws ≡ []
+unfolding part
+no-part ws = go (leb ((0 + 0) * width) (length ws))
+  where
+    go : (b : Bool) → (if b then take (0 * width) (drop (0 * width) ws) else []) ≡ []
+    go true = refl
+    go false = refl
+
 -- a part within the first n entries is a run of them
 pub shown-is : (n first count : ℕ) (ws : List ℕ) → first + count ≤ n → n * width ≤ length ws → shownIn ws first count ≡ take count (drop first (entriesOf n ws))
 unfolding part

@@ -1,5 +1,5 @@
 -- What the code's bounds and read replies say in the model's words.
-use mathlib.Core.List.{List}
+use mathlib.Core.List.{List, []}
 use mathlib.Core.Option.{Option, none, some}
 use Prim.Native.Nat.{ℕ}
 use Rattle.words.specs.If.{if_then_else_}
@@ -7,7 +7,7 @@ use Rattle.entry.specs.Change.{entriesOf}
 use Rattle.entry.specs.Guards.{Answer, replied, refusedBy}
 use Rattle.model.specs.Read.{Bound, included, excluded, unbounded, Marker, trimmed, snapshotted, Shown, shown}
 use Rattle.state_cache.specs.State.{Raw}
-use Rattle.reading.specs.Parts.{shownIn}
+use Rattle.reading.specs.Parts.{part, shownIn}
 use Rattle.reading.specs.declared.Bound.{Bound as CodeBound}
 use Rattle.reading.specs.declared.Bound.the-variants.{Included, Excluded, Unbounded}
 use Rattle.reading.specs.declared.Marker.{Marker as CodeMarker}
@@ -37,3 +37,9 @@ abbrev pub readSaid : Raw → ReadReply → Answer (Option Shown)
 readSaid x Nothing = replied none
 readSaid x (Run r) = replied (some (shownSaid x r))
 readSaid x (Refused r) = refusedBy r
+
+-- the words of the entries shown
+abbrev pub shownPart : ReadReply → List ℕ → List ℕ
+shownPart Nothing log = []
+shownPart (Run r) log = part (r .first) (r .count) log
+shownPart (Refused r) log = []

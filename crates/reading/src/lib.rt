@@ -13,7 +13,7 @@ ghost use Rattle.model.specs.Calls.{query, lookup as lookupCall, getEntries, ge
 ghost use Rattle.state_cache.specs.State.{raw, numbersIn};
 ghost use Rattle.state_cache.specs.Run.{run};
 ghost use Rattle.reading.specs.Parts.{part, spanSays, spanReply};
-ghost use Rattle.reading.specs.Replies.{boundOf, readSaid};
+ghost use Rattle.reading.specs.Replies.{boundOf, readSaid, shownPart};
 ghost use Rattle.reading.specs.Numbered.{rangeReply, decidedReply};
 
 pub mod inner;
@@ -107,6 +107,17 @@ pub fn entries_of<'a>(log: &'a [u64], first: usize, count: usize) -> &'a [u64]
     let at = first * entry::WIDTH;
     let end = at + count * entry::WIDTH;
     &log[at..end]
+}
+
+// The entries that a reply shows, none where it shows no run.
+pub fn entries_shown<'a>(log: &'a [u64], reply: ReadReply) -> &'a [u64]
+    ensures { λ r. ⌜ now r ≡ shownPart reply (now (log .entry)) ⌝ }
+{
+    match reply {
+        ReadReply::Nothing => entries_of(log, 0, 0),
+        ReadReply::Run(run) => entries_of(log, run.first, run.count),
+        ReadReply::Refused(_) => entries_of(log, 0, 0),
+    }
 }
 
 // Reads a range of the log.

@@ -3,3 +3,4 @@ pub mod Stands
 pub mod Runs
 pub mod Changes
 pub mod Unique
+pub mod Chain

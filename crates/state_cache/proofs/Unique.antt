@@ -7,11 +7,8 @@ use Rattle.entry.specs.declared.LogIndex.{LogIndex}
 use Rattle.entry.proofs.RefusalLaws.{refusal-known}
 use Rattle.state_cache.specs.State.{Raw}
 use Rattle.state_cache.specs.Run.{Outcome, outcome, settled, accepted, flag}
-use Rattle.state_cache.specs.declared.Settled.{Settled}
 use Rattle.state_cache.specs.declared.Settled.the-variants.{Done, Refused}
-use Rattle.state_cache.specs.declared.Accepted.{Accepted}
 use Rattle.state_cache.specs.declared.Accepted.the-variants.{At, Refused as AcceptedRefused}
-use Rattle.state_cache.specs.declared.Flag.{Flag}
 use Rattle.state_cache.specs.declared.Flag.the-variants.{Is, Refused as FlagRefused}
 
 -- an answer says which of the code's answers it is: of a call that changes nothing, two that meet a claim are one

@@ -1,3 +1,4 @@
 pub mod State
 pub mod Fields
 pub mod Run
+pub mod Chain

@@ -1,0 +1,156 @@
+// What a sync does once the state is known to be well formed: not for a user, whose call is in lib.rt.
+use super::LogSync;
+use super::SnapshotType;
+use entry::Ballot;
+use entry::LogIndex;
+use entry::Refusal;
+use internal_storage::Check;
+use state_cache::Accepted;
+use state_cache::AcceptedAt;
+use state_cache::IndexRecord;
+ghost use Prim.Native.Nat.{_+_, _-_, _≤_, max};
+ghost use mathlib.Core.Path.{_≡_};
+ghost use mathlib.Core.Bool.{true};
+ghost use lib.Dec.{ltb};
+ghost use Rattle.words.specs.If.{if_then_else_};
+ghost use Rattle.entry.specs.Guards.{first};
+ghost use Rattle.entry.specs.Limits.{entryRoom, lastIndex};
+ghost use Rattle.model.specs.Numbers.{acceptedOf};
+ghost use Rattle.model.specs.Sync.{acceptedThen, keptThen, partNumberGuards, roundGuards};
+ghost use Rattle.model.proofs.Forms.{Sound};
+ghost use Rattle.state_cache.specs.State.{numbersIn, oneIf};
+ghost use Rattle.state_cache.specs.Run.{accepted};
+ghost use Rattle.internal_storage.specs.Replies.{verdictOf, indexed, byNumbers};
+ghost use Rattle.sync.specs.Requests.{plainBy, numbersBy, requestFormed};
+ghost use Rattle.sync.specs.Records.{marked};
+
+fn is_plain(kind: SnapshotType) -> bool
+    ensures { λ r. ⌜ r ≡ plainBy kind ⌝ }
+{
+    match kind {
+        SnapshotType::Plain => true,
+        SnapshotType::Complete => false,
+        SnapshotType::Delta => false,
+    }
+}
+
+// Whether all that is lent is in form. A snapshot or a stop-sign that is not lent is not judged, but for the snapshot's length.
+pub fn request_formed(held: bool, log_sync: LogSync, incoming: &[u64], suffix: &[u64]) -> bool
+    ensures { λ r. ⌜ r ≡ requestFormed held «log_sync» (now (incoming .entry)) (now (suffix .entry)) ⌝ }
+{
+    let kind = log_sync.decided_snapshot;
+    let plain = is_plain(kind);
+    let sized = incoming.len() == entry::SNAPSHOT_WORDS;
+    let words = suffix.len();
+    let whole = words % entry::WIDTH == 0;
+    let shot = snapshot::snapshot_formed(incoming, log_sync.keys);
+    let fine = entry::inner::places_formed(suffix, words / entry::WIDTH);
+    let stop = entry::sign_formed(log_sync.stopsign);
+    (sized & (whole & (!held | (plain | shot)))) & (!held | (fine & (!log_sync.stop_held | stop)))
+}
+
+fn larger(a: u64, b: u64) -> u64
+    ensures { λ r. ⌜ r ≡ max a b ⌝ }
+{
+    if a < b { b } else { a }
+}
+
+fn one_if(b: bool) -> u64
+    ensures { λ r. ⌜ r ≡ oneIf b ⌝ }
+{
+    if b { 1 } else { 0 }
+}
+
+// Whether the accepted index that a sync leaves, and the batch after it, pass the largest index. No sum is made that might not fit.
+fn past_last(idx: u64, n: usize, more: u64) -> bool
+    requires { ⌜ more ≤ lastIndex ⌝ }
+    ensures { λ r. ⌜ r ≡ ltb lastIndex (idx + n + more) ⌝ }
+{
+    if entry::LAST_INDEX - more < idx {
+        return true;
+    }
+    entry::LAST_INDEX - more - idx < n as u64
+}
+
+// How many of the retained entries stay: of a plain sync those below its index.
+fn kept_of(plain: bool, idx: u64, low: u64) -> u64
+    requires { ⌜ low ≤ idx ⌝ }
+    ensures { λ r. ⌜ r ≡ (if plain then idx - low else 0) ⌝ }
+{
+    if plain { idx - low } else { 0 }
+}
+
+// Refusals 4, 5, 7, 10, 9, 1, 6 and 2, of a log part with n entries.
+fn check_sync(index: IndexRecord, decided_idx: LogIndex, log_sync: LogSync, n: usize) -> Check
+    requires { ⌜ Sound (numbersIn index) ⌝ }
+    ensures { λ r. ⌜ verdictOf r ≡ first (partNumberGuards («decided_idx» .0) (numbersBy «log_sync» n) (numbersIn index)) ⌝ }
+{
+    let decided = index.decided;
+    let low = index.compacted.0;
+    let waiting = index.batched;
+    let idx = log_sync.sync_idx.0;
+    let stop = log_sync.stop_held;
+    let kind = log_sync.decided_snapshot;
+    let plain = is_plain(kind);
+    let end = state_cache::inner::end(index);
+    let last = state_cache::inner::accepted(index);
+    let one = one_if(stop);
+    let next = larger(decided_idx.0, decided.0);
+    if state_cache::inner::stop_decided(index) {
+        return Check::Refused(Refusal::Stopped(LogIndex(last)));
+    }
+    if idx < decided.0 {
+        return Check::Refused(Refusal::BelowDecided(decided));
+    }
+    if plain & ((idx < low) | (end < idx)) {
+        return Check::Refused(Refusal::OutsideRun(LogIndex(end)));
+    }
+    if stop & (0 < waiting) {
+        return Check::Refused(Refusal::BatchHeld(waiting));
+    }
+    if past_last(idx, n, one + waiting as u64) {
+        return Check::Refused(Refusal::PastLastIndex(LogIndex(last)));
+    }
+    let kept = kept_of(plain, idx, low) as usize;
+    if entry::ENTRIES - (kept + waiting) < n {
+        return Check::Refused(Refusal::NoRoom);
+    }
+    let then = idx + n as u64 + one;
+    if then < next {
+        return Check::Refused(Refusal::AboveAccepted(LogIndex(then)));
+    }
+    if !plain & (next < idx) {
+        return Check::Refused(Refusal::AboveDecided(LogIndex(next)));
+    }
+    Check::Passed
+}
+
+// The record with the round and the larger decided index.
+fn mark(index: IndexRecord, accepted_round: Ballot, decided_idx: LogIndex) -> IndexRecord
+    ensures { λ r. ⌜ r ≡ marked «accepted_round» («decided_idx» .0) index ⌝ }
+{
+    let decided = LogIndex(larger(decided_idx.0, index.decided.0));
+    let mut next = index;
+    next.decided = decided;
+    next.accepted_round = accepted_round;
+    next
+}
+
+// A sync without log part: refusal 6, or the marks alone. No word moves.
+pub fn round_at(index: IndexRecord, accepted_round: Ballot, decided_idx: LogIndex) -> AcceptedAt
+    requires { ⌜ Sound (numbersIn index) ⌝ }
+    ensures { λ r. ⌜ indexed (accepted (r .answer)) (r .index) ≡ byNumbers (first (roundGuards («decided_idx» .0) (numbersIn index))) (acceptedOf (numbersIn index)) (marked «accepted_round» («decided_idx» .0) index) index ⌝ }
+{
+    let last = state_cache::inner::accepted(index);
+    let next = mark(index, accepted_round, decided_idx);
+    if last < next.decided.0 {
+        return AcceptedAt {
+            answer: Accepted::Refused(Refusal::AboveAccepted(LogIndex(last))),
+            index,
+        };
+    }
+    AcceptedAt {
+        answer: Accepted::At(LogIndex(last)),
+        index: next,
+    }
+}

@@ -5,24 +5,30 @@ use entry::Ballot;
 use entry::LogIndex;
 use entry::Refusal;
 use internal_storage::Check;
+use snapshot::Folded;
 use state_cache::Accepted;
 use state_cache::AcceptedAt;
 use state_cache::IndexRecord;
 ghost use Prim.Native.Nat.{_+_, _-_, _≤_, max};
 ghost use mathlib.Core.Path.{_≡_};
-ghost use mathlib.Core.Bool.{true};
+ghost use mathlib.Core.Bool.{false};
 ghost use lib.Dec.{ltb};
 ghost use Rattle.words.specs.If.{if_then_else_};
 ghost use Rattle.entry.specs.Guards.{first};
-ghost use Rattle.entry.specs.Limits.{entryRoom, lastIndex};
-ghost use Rattle.model.specs.Numbers.{acceptedOf};
-ghost use Rattle.model.specs.Sync.{acceptedThen, keptThen, partNumberGuards, roundGuards};
+ghost use Rattle.entry.specs.Limits.{snapshotWords, lastIndex};
+ghost use Rattle.entry.specs.Change.{entriesOf};
+ghost use Rattle.snapshot.specs.Folds.{foldOnto};
+ghost use Rattle.snapshot.specs.Calls.{outcome as shotOutcome, folded};
+ghost use Rattle.snapshot.specs.Inner.{Holds, Shows, Aside};
+ghost use Rattle.model.specs.Numbers.{acceptedOf, logDecided};
+ghost use Rattle.model.specs.Sync.{partNumberGuards, roundGuards};
 ghost use Rattle.model.proofs.Forms.{Sound};
-ghost use Rattle.state_cache.specs.State.{numbersIn, oneIf};
+ghost use Rattle.state_cache.specs.State.{raw, numbersIn, oneIf, Ready};
 ghost use Rattle.state_cache.specs.Run.{accepted};
 ghost use Rattle.internal_storage.specs.Replies.{verdictOf, indexed, byNumbers};
 ghost use Rattle.sync.specs.Requests.{plainBy, numbersBy, requestFormed};
 ghost use Rattle.sync.specs.Records.{marked};
+ghost use Rattle.sync.specs.Shots.{shotThen, shotOver};
 
 fn is_plain(kind: SnapshotType) -> bool
     ensures { λ r. ⌜ r ≡ plainBy kind ⌝ }
@@ -152,5 +158,53 @@ pub fn round_at(index: IndexRecord, accepted_round: Ballot, decided_idx: LogInde
     AcceptedAt {
         answer: Accepted::At(LogIndex(last)),
         index: next,
+    }
+}
+
+// Folds the first n entries, and then m more, onto a snapshot in its place. The fold is made aside, so that one with too many keys
+// writes nothing; where the first part has too many so has the whole, since keys are only added.
+fn fold_twice(
+    shot: &mut [u64],
+    kept: usize,
+    entries: &[u64],
+    n: usize,
+    more: &[u64],
+    m: usize,
+) -> Folded
+    requires { ⌜ Aside kept (now shot) n (now entries) (now shot) × Shows m (now more) ⌝ }
+    ensures { λ r. ⌜ shotOutcome (folded r) (now (shot .exit)) ≡ shotOver (foldOnto (foldOnto (entriesOf kept (now (shot .entry))) (entriesOf n (now (entries .entry)))) (entriesOf m (now (more .entry)))) (now (shot .entry)) ⌝ }
+{
+    let mut scratch = [0u64; entry::SNAPSHOT_WORDS];
+    words::copy_words(shot, &mut scratch);
+    let r = snapshot::inner::fold_onto(&mut scratch, kept, entries, n);
+    let Folded::Keys(keys) = r else {
+        return Folded::Refused(Refusal::TooManyKeys);
+    };
+    snapshot::inner::fold_out(&mut scratch, keys, more, m, shot)
+}
+
+// Puts the snapshot that is then held in the place of the one held before. A delta goes onto all that was decided before the call.
+fn hold(
+    index: IndexRecord,
+    log: &[u64],
+    shot: &mut [u64],
+    kind: SnapshotType,
+    incoming: &[u64],
+    keys: usize,
+) -> Folded
+    requires { ⌜ Ready (raw index (now log) (now shot)) × (plainBy kind ≡ false → Holds snapshotWords keys (now incoming)) ⌝ }
+    ensures { λ r. ⌜ shotOutcome (folded r) (now (shot .exit)) ≡ shotOver (shotThen kind (entriesOf (index .keys) (now (shot .entry))) (entriesOf (logDecided (numbersIn index) - index .compacted .0) (now (log .entry))) (entriesOf keys (now (incoming .entry)))) (now (shot .entry)) ⌝ }
+{
+    match kind {
+        SnapshotType::Plain => Folded::Keys(index.keys),
+        SnapshotType::Complete => {
+            words::copy_words(incoming, shot);
+            Folded::Keys(keys)
+        }
+        SnapshotType::Delta => {
+            let decided = state_cache::inner::log_decided(index);
+            let n = (decided - index.compacted.0) as usize;
+            fold_twice(shot, index.keys, log, n, incoming, keys)
+        }
     }
 }

@@ -1,5 +1,5 @@
 -- What a diff gives, of a lent state: a fold onto the held snapshot, or of a part of the log.
-use Prim.Native.Nat.{ℕ, _+_, _-_, _*_, _≤_, _<_, min}
+use Prim.Native.Nat.{ℕ, _-_, _*_, _≤_, _<_, min}
 use mathlib.Core.Path.{_≡_, refl, sym, ap, _∙_}
 use mathlib.Core.Bool.{Bool, true, false, _||_}
 use mathlib.Core.List.{List, []}
@@ -21,14 +21,15 @@ use Rattle.snapshot.specs.Inner.{Shows, Aside, foldedOut}
 use Rattle.snapshot.proofs.Calling.{snapshot-holds, empty-formed}
 use Rattle.snapshot.proofs.Algebra.{merge-empty}
 use Rattle.snapshot.proofs.Forming.{formed-fold}
-use Rattle.model.specs.Numbers.{endOf, logDecided}
+use Rattle.model.specs.Numbers.{logDecided}
 use Rattle.model.specs.Log.{Run, Log, given, orEmpty, foldedTo}
 use Rattle.model.specs.Read.{between}
 use Rattle.model.specs.Diff.{Given, plain, complete, delta, diffOf}
-use Rattle.model.proofs.Forms.{ranges, formed-of, shot-folded}
+use Rattle.model.proofs.Forms.{formed-of, shot-folded}
 use Rattle.state_cache.specs.State.{Raw, numbersIn, formed, logOf, Ready}
 use Rattle.state_cache.proofs.Stands.{Stands, stands-of, log-formed, ready-of}
 use Rattle.internal_storage.proofs.Effects.{numbers}
+use Rattle.compaction.proofs.Folding.{decided-low, decided-high}
 
 -- the model's diff, of a run up to an index
 abbrev diffTo : ℕ → ℕ → Run → Given
@@ -121,26 +122,20 @@ module _ (r : Raw) (ok : formed r ≡ true) (i last : ℕ) (l : last ≡ logDeci
   pub complete-formed : entriesFormed (foldedTo last (s .run)) ≡ true
   complete-formed = shot-folded last s (formed-of s (log-formed r ok)) .fine
 
-  pub last-low : r .index .compacted .0 ≤ last
-  last-low = rw l (ranges (numbersIn (r .index)) (ready-of r ok .numbers) .low)
-
-  pub last-high : last ≤ r .index .compacted .0 + r .index .retained
-  last-high = rw l (unfold endOf in ranges (numbersIn (r .index)) (ready-of r ok .numbers) .high)
-
   -- a delta is folded from its start, or from log-decided where it would start past that
   module _ (h : r .index .compacted .0 < i) (start : ℕ) (e : start ≡ min i last) where
     abbrev part : List Change
     part = entriesOf (last - start) (drop ((start - r .index .compacted .0) * width) (r .log))
 
     pub start-low : r .index .compacted .0 ≤ start
-    start-low = omega (arith, last-low)
+    start-low = omega (arith, decided-low (numbersIn (r .index)) (ready-of r ok .numbers) last l)
 
     part-is : part ≡ between start last (s .run)
     unfolding logOf
     part-is =
         let first : ℕ = start - r .index .compacted .0 in
-        sym (ap (take (last - start)) (entries-drop changeCode first (r .index .retained) (r .log) (omega (arith, start-low, last-high)))
-        ∙ entries-take changeCode (last - start) (r .index .retained - first) (drop (first * width) (r .log)) (omega (arith, start-low, last-low, last-high)))
+        sym (ap (take (last - start)) (entries-drop changeCode first (r .index .retained) (r .log) (omega (arith, start-low, decided-high (numbersIn (r .index)) (ready-of r ok .numbers) last l)))
+        ∙ entries-take changeCode (last - start) (r .index .retained - first) (drop (first * width) (r .log)) (omega (arith, start-low, decided-low (numbersIn (r .index)) (ready-of r ok .numbers) last l, decided-high (numbersIn (r .index)) (ready-of r ok .numbers) last l)))
 
     pub diff-delta : diffOf i s ≡ delta (fold part)
     diff-delta =
@@ -156,9 +151,9 @@ module _ (r : Raw) (ok : formed r ≡ true) (i last : ℕ) (l : last ≡ logDeci
     delta-formed = formed-fold part part-formed
 
     pub part-inside : (start - r .index .compacted .0) * width ≤ length (r .log)
-    part-inside = let g : Ready r = ready-of r ok in omega (arith, last-high, g .log .fits, g .log .long)
+    part-inside = let g : Ready r = ready-of r ok in omega (arith, decided-high (numbersIn (r .index)) (ready-of r ok .numbers) last l, g .log .fits, g .log .long)
 
     pub part-shows : Shows (last - start) (drop ((start - r .index .compacted .0) * width) (r .log))
     part-shows =
         let g : Ready r = ready-of r ok in
-        record { inside = simp length-drop (omega (arith, start-low, last-high, g .log .fits, g .log .long)); sound = part-formed }
+        record { inside = simp length-drop (omega (arith, start-low, decided-high (numbersIn (r .index)) (ready-of r ok .numbers) last l, g .log .fits, g .log .long)); sound = part-formed }

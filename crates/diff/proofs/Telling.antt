@@ -27,14 +27,14 @@ use Rattle.model.specs.Diff.{Given, plain, complete, delta, snapshotIn, diffOf,
 use Rattle.model.specs.Calls.{Call, query, diff, Diff as Reply, malformed, further, queryGuards, effect, replyOf, queryReply}
 use Rattle.state_cache.specs.State.{Raw, numbersIn, formed, logOf}
 use Rattle.state_cache.specs.Run.{Outcome, run}
-use Rattle.state_cache.proofs.Stands.{stands-of}
+use Rattle.state_cache.proofs.Stands.{stands-of, ready-of}
 use Rattle.state_cache.proofs.Runs.{ill-formed, not-whole, call-refused, call-stands}
 use Rattle.internal_storage.proofs.Effects.{numbers}
-use Rattle.compaction.proofs.Folding.{fold-is, fold-wrote, fold-left}
+use Rattle.compaction.proofs.Folding.{decided-high, fold-is, fold-wrote, fold-left}
 use Rattle.diff.specs.Replies.{reply, diffSaid, outAfter}
 use Rattle.diff.specs.declared.Diff.{Diff}
 use Rattle.diff.specs.declared.Diff.the-variants.{Nothing, Complete, Delta, Refused}
-use Rattle.diff.proofs.Giving.{diff-plain, diff-complete, complete-formed, last-high, diff-delta, delta-formed}
+use Rattle.diff.proofs.Giving.{diff-plain, diff-complete, complete-formed, diff-delta, delta-formed}
 
 module _ (r : Raw) (i : ℕ) (out : List ℕ) where
   abbrev c : Call
@@ -113,7 +113,7 @@ module _ (r : Raw) (i : ℕ) (out : List ℕ) where
         all = foldedTo last (s .run)
 
         all-folded : shotOutcome (folded a) exit ≡ written (first (overRoom all ∷ [])) all out
-        all-folded = f ∙ ap (λ (es : List Change). written (first (overRoom es ∷ [])) es out) (fold-is r ok last (last-high r ok i last l))
+        all-folded = f ∙ ap (λ (es : List Change). written (first (overRoom es ∷ [])) es out) (fold-is r ok last (decided-high (numbersIn (r .index)) (ready-of r ok .numbers) last l))
 
         pub complete-over : (x : Refusal) → a ≡ FoldRefused x → Told (Refused TooManyKeys) exit true
         complete-over = over complete Complete (λ t. refl) (λ k j w. refl) all (diff-complete r ok i last l h g) (complete-formed r ok i last l) a exit all-folded

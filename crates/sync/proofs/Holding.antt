@@ -1,18 +1,18 @@
 -- The snapshot held after a sync: two folds one after the other, and the words that stand for it.
-use Prim.Native.Nat.{ℕ, _+_, _-_, _*_, _<_, _≤_}
-use mathlib.Core.Path.{_≡_, refl, sym, ap, ap₂, _∙_}
-use mathlib.Core.Bool.{Bool, true, false}
-use mathlib.Core.List.{List, [], _∷_}
+use Prim.Native.Nat.{ℕ, _+_, _-_, _*_, _≤_}
+use mathlib.Core.Path.{_≡_, sym, ap, ap₂, _∙_}
+use mathlib.Core.Bool.{true}
+use mathlib.Core.List.{List}
 use native.Mathlib.Omega.{arith}
 use lib.ListN.{length}
 use Rattle.words.proofs.CodedLaws.{entries-length}
-use Rattle.entry.specs.Limits.{width, keyRoom, snapshotWords}
+use Rattle.entry.specs.Limits.{width, snapshotWords}
 use Rattle.entry.specs.Change.{Change, changeCode, formed as entriesFormed, entriesOf, stored}
 use Rattle.entry.specs.Guards.{replied}
 use Rattle.entry.specs.declared.Refusal.{Refusal}
 use Rattle.entry.specs.declared.Refusal.the-variants.{TooManyKeys}
 use Rattle.entry.proofs.SliceLaws.{laid-stored, stored-entries}
-use Rattle.snapshot.specs.Folds.{rising, foldOnto}
+use Rattle.snapshot.specs.Folds.{foldOnto}
 use Rattle.snapshot.specs.Calls.{Outcome, outcome as shotOutcome, folded}
 use Rattle.snapshot.specs.Inner.{Holds, Shows, FoldIs, Aside, foldedOut}
 use Rattle.snapshot.specs.declared.Folded.{Folded}
@@ -22,8 +22,7 @@ use Rattle.snapshot.proofs.Forming.{formed-onto}
 use Rattle.snapshot.proofs.Room.{onto-grows}
 use Rattle.snapshot.proofs.Putting.{folded-keys, folded-refused}
 use Rattle.snapshot.proofs.Calling.{over-refused, over-written, snapshot-holds, snapshot-stored}
-use Rattle.model.specs.Numbers.{Numbers, endOf, logDecided}
-use Rattle.model.proofs.Forms.{Sound, ranges}
+use Rattle.model.specs.Numbers.{logDecided}
 use Rattle.state_cache.specs.State.{Raw, numbersIn, Ready}
 use Rattle.sync.specs.Shots.{shotThen, shotOver}
 use Rattle.sync.specs.declared.SnapshotType.{SnapshotType}
@@ -91,10 +90,3 @@ module _ (kind : SnapshotType) (r : Raw) (g : Ready r) (keys : ℕ) (incoming : 
   pub hold-delta : kind ≡ Delta → (last : ℕ) → last ≡ logDecided (numbersIn (r .index))
       → shotOver (foldOnto (foldOnto (entriesOf (r .index .keys) (r .snapshot)) (entriesOf (last - r .index .compacted .0) (r .log))) (entriesOf keys incoming)) (r .snapshot) ≡ told
   hold-delta e last l = rw (e, l)
-
--- log-decided is in the run
-pub decided-low : (n : Numbers) → Sound n → (last : ℕ) → last ≡ logDecided n → n .compacted ≤ last
-decided-low n f last l = rw l (ranges n f .low)
-
-pub decided-high : (n : Numbers) → Sound n → (last : ℕ) → last ≡ logDecided n → last ≤ n .compacted + n .retained
-decided-high n f last l = rw l (unfold endOf in ranges n f .high)

@@ -4,6 +4,7 @@ use super::SnapshotType;
 use entry::Ballot;
 use entry::LogIndex;
 use entry::Refusal;
+use entry::StopSign;
 use internal_storage::Check;
 use snapshot::Folded;
 use state_cache::Accepted;
@@ -11,7 +12,8 @@ use state_cache::AcceptedAt;
 use state_cache::IndexRecord;
 ghost use Prim.Native.Nat.{_+_, _-_, _≤_, max};
 ghost use mathlib.Core.Path.{_≡_};
-ghost use mathlib.Core.Bool.{false};
+ghost use mathlib.Core.Bool.{true, false};
+ghost use mathlib.Core.Option.{some};
 ghost use lib.Dec.{ltb};
 ghost use Rattle.words.specs.If.{if_then_else_};
 ghost use Rattle.entry.specs.Guards.{first};
@@ -22,12 +24,13 @@ ghost use Rattle.snapshot.specs.Calls.{outcome as shotOutcome, folded};
 ghost use Rattle.snapshot.specs.Inner.{Holds, Shows, Aside};
 ghost use Rattle.model.specs.Numbers.{acceptedOf, logDecided};
 ghost use Rattle.model.specs.Sync.{partNumberGuards, roundGuards};
+ghost use Rattle.model.specs.Calls.{sync as syncCall};
 ghost use Rattle.model.proofs.Forms.{Sound};
-ghost use Rattle.state_cache.specs.State.{raw, numbersIn, oneIf, Ready};
-ghost use Rattle.state_cache.specs.Run.{accepted};
-ghost use Rattle.internal_storage.specs.Replies.{verdictOf, indexed, byNumbers};
-ghost use Rattle.sync.specs.Requests.{plainBy, numbersBy, requestFormed};
-ghost use Rattle.sync.specs.Records.{marked};
+ghost use Rattle.state_cache.specs.State.{raw, numbersIn, oneIf, signOr, Ready};
+ghost use Rattle.state_cache.specs.Run.{outcome, run, accepted};
+ghost use Rattle.internal_storage.specs.Replies.{verdictOf, indexed, byNumbers, asked};
+ghost use Rattle.sync.specs.Requests.{plainBy, partBy, numbersBy, requestFormed};
+ghost use Rattle.sync.specs.Records.{marked, Fits, Taken, Syncs};
 ghost use Rattle.sync.specs.Shots.{shotThen, shotOver};
 
 fn is_plain(kind: SnapshotType) -> bool
@@ -206,5 +209,102 @@ fn hold(
             let n = (decided - index.compacted.0) as usize;
             fold_twice(shot, index.keys, log, n, incoming, keys)
         }
+    }
+}
+
+// The stop-sign of a record: blank where none is held.
+fn sign_or_blank(held: bool, stop: StopSign) -> StopSign
+    ensures { λ r. ⌜ r ≡ signOr (asked held stop) ⌝ }
+{
+    if held {
+        return stop;
+    }
+    let blank = state_cache::inner::fresh_index(0);
+    blank.stop
+}
+
+// Where the run then starts: a snapshot stands for all entries below the sync's index.
+fn start_of(plain: bool, low: LogIndex, idx: LogIndex) -> LogIndex
+    ensures { λ r. ⌜ r ≡ (if plain then low else idx) ⌝ }
+{
+    if plain {
+        return low;
+    }
+    idx
+}
+
+// Puts the suffix in the place of the retained entries from the sync's index on, of a snapshot in the place of all. The batch stays
+// behind it.
+fn take_suffix(
+    index: IndexRecord,
+    log: &mut [u64],
+    log_sync: LogSync,
+    suffix: &[u64],
+    n: usize,
+    keys: usize,
+) -> IndexRecord
+    requires { ⌜ Fits «log_sync» n index (now log) (now suffix) ⌝ }
+    ensures { λ r. ⌜ Taken «log_sync» n keys index (now (log .entry)) (now (suffix .entry)) r (now (log .exit)) ⌝ }
+{
+    let low = index.compacted;
+    let idx = log_sync.sync_idx;
+    let kind = log_sync.decided_snapshot;
+    let plain = is_plain(kind);
+    let kept = kept_of(plain, idx.0, low.0) as usize;
+    let start = start_of(plain, low, idx);
+    let stop = sign_or_blank(log_sync.stop_held, log_sync.stopsign);
+    words::splice(
+        log,
+        (index.retained + index.batched) * entry::WIDTH,
+        kept * entry::WIDTH,
+        (index.retained - kept) * entry::WIDTH,
+        suffix,
+    );
+    let mut next = index;
+    next.compacted = start;
+    next.retained = kept + n;
+    next.snapshot_held = index.snapshot_held | !plain;
+    next.keys = keys;
+    next.stop_held = log_sync.stop_held;
+    next.stop = stop;
+    next
+}
+
+// A sync with a log part on a well-formed log. All refusals are decided before a word is written.
+pub fn sync_at(
+    index: IndexRecord,
+    log: &mut [u64],
+    shot: &mut [u64],
+    accepted_round: Ballot,
+    decided_idx: LogIndex,
+    log_sync: LogSync,
+    incoming: &[u64],
+    suffix: &[u64],
+) -> AcceptedAt
+    requires { ⌜ Syncs (raw index (now log) (now shot)) «log_sync» (now incoming) (now suffix) ⌝ }
+    ensures { λ r. ⌜ outcome (accepted (r .answer)) (raw (r .index) (now (log .exit)) (now (shot .exit))) ≡ run (syncCall «accepted_round» («decided_idx» .0) (some (partBy «log_sync» (now (incoming .entry)) (now (suffix .entry))))) true (raw index (now (log .entry)) (now (shot .entry))) ⌝ }
+{
+    let n = suffix.len() / entry::WIDTH;
+    let check = check_sync(index, decided_idx, log_sync, n);
+    if let Check::Refused(refusal) = check {
+        return AcceptedAt {
+            answer: Accepted::Refused(refusal),
+            index,
+        };
+    }
+    let marked = mark(index, accepted_round, decided_idx);
+    let kind = log_sync.decided_snapshot;
+    let r = hold(index, log, shot, kind, incoming, log_sync.keys);
+    let Folded::Keys(keys) = r else {
+        return AcceptedAt {
+            answer: Accepted::Refused(Refusal::TooManyKeys),
+            index,
+        };
+    };
+    let next = take_suffix(marked, log, log_sync, suffix, n, keys);
+    let last = state_cache::inner::accepted(next);
+    AcceptedAt {
+        answer: Accepted::At(LogIndex(last)),
+        index: next,
     }
 }

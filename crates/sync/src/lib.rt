@@ -30,3 +30,45 @@ pub struct LogSync {
     pub stop_held: bool,
     pub stopsign: StopSign,
 }
+
+// Takes over a leader's round and decided index, and its log where `held` says that there is a log part: else nothing more is looked at
+// than whether the slices are as long as they should be.
+pub fn sync_log(
+    index: IndexRecord,
+    log: &mut [u64],
+    snapshot: &mut [u64],
+    accepted_round: Ballot,
+    decided_idx: LogIndex,
+    held: bool,
+    log_sync: LogSync,
+    incoming: &[u64],
+    suffix: &[u64],
+) -> AcceptedAt
+    ensures { λ r. ⌜ outcome (accepted (r .answer)) (raw (r .index) (now (log .exit)) (now (snapshot .exit))) ≡ run (syncCall «accepted_round» («decided_idx» .0) (partOf held «log_sync» (now (incoming .entry)) (now (suffix .entry)))) (lentWhole held «log_sync» (now (incoming .entry)) (now (suffix .entry))) (raw index (now (log .entry)) (now (snapshot .entry))) ⌝ }
+{
+    if !state_cache::well_formed(index, log, snapshot) {
+        return AcceptedAt {
+            answer: Accepted::Refused(Refusal::IllFormed),
+            index,
+        };
+    }
+    if !inner::request_formed(held, log_sync, incoming, suffix) {
+        return AcceptedAt {
+            answer: Accepted::Refused(Refusal::Malformed),
+            index,
+        };
+    }
+    if !held {
+        return inner::round_at(index, accepted_round, decided_idx);
+    }
+    inner::sync_at(
+        index,
+        log,
+        snapshot,
+        accepted_round,
+        decided_idx,
+        log_sync,
+        incoming,
+        suffix,
+    )
+}

@@ -2,10 +2,10 @@
 use native.Mathlib.Omega.{arith}
 use borrow.Author.Tests.{not-true, not-false}
 use denote.Ref.{now}
-use Rattle.state_cache.specs.State.{Raw, raw}
+use Rattle.state_cache.specs.State.{Raw, raw, numbersIn}
 use Rattle.state_cache.proofs.Small.{sound-small}
-use Rattle.compaction.proofs.Folding.{fold-needs}
-use Rattle.diff.proofs.Giving.{last-low, last-high, start-low, part-inside, part-shows}
+use Rattle.compaction.proofs.Folding.{decided-low, decided-high, fold-needs}
+use Rattle.diff.proofs.Giving.{start-low, part-inside, part-shows}
 use Rattle.diff.proofs.Telling.{diff-nothing, complete-over, complete-wrote, delta-over, delta-wrote}
 use borrow.Author.Needs.{needs}
 use Rattle.diff.proofs.inner.diff_at.Statement.{statement}
@@ -89,13 +89,13 @@ sub-fold-aside : tie.Need-sub-fold-aside
 sub-fold-aside c =
     let k = leftOf c in
     let st = startOf k in
-    omega (arith, last-low (stateAt k) (st .pre .0 .okay) (st .args .from .0) (k .log-decided .result) (k .log-decided .ensures))
+    omega (arith, decided-low (numbersIn (st .args .index)) (st .pre .0 .numbers) (k .log-decided .result) (k .log-decided .ensures))
 
 fold-aside-requires : tie.Need-fold-aside-requires
 fold-aside-requires c κs =
     let k = leftOf (c .before) in
     let st = startOf k in
-    fold-needs (stateAt k) (st .pre .0 .okay) (k .log-decided .result) (last-high (stateAt k) (st .pre .0 .okay) (st .args .from .0) (k .log-decided .result) (k .log-decided .ensures)) (now (st .args .out)) (st .pre .1)
+    fold-needs (stateAt k) (st .pre .0 .okay) (k .log-decided .result) (decided-high (numbersIn (st .args .index)) (st .pre .0 .numbers) (k .log-decided .result) (k .log-decided .ensures)) (now (st .args .out)) (st .pre .1)
 
 enum-known-r-2 : tie.Need-enum-known-r-2
 enum-known-r-2 c = search needs

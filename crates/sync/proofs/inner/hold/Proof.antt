@@ -3,9 +3,9 @@ use mathlib.Core.Path.{sym, ap, _∙_}
 use denote.Ref.{now}
 use Rattle.state_cache.specs.State.{Raw, raw, numbersIn}
 use Rattle.state_cache.proofs.Small.{sound-small}
-use Rattle.compaction.proofs.Folding.{fold-needs}
+use Rattle.compaction.proofs.Folding.{decided-low, decided-high, fold-needs}
 use Rattle.sync.specs.Requests.{plainBy}
-use Rattle.sync.proofs.Holding.{held-shows, hold-plain, hold-complete, hold-delta, decided-low, decided-high}
+use Rattle.sync.proofs.Holding.{held-shows, hold-plain, hold-complete, hold-delta}
 use borrow.Author.Needs.{needs}
 use Rattle.sync.proofs.inner.hold.Statement.{statement}
 use Rattle.sync.proofs.inner.hold.Tie as tie

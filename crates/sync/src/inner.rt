@@ -302,9 +302,9 @@ pub fn sync_at(
         };
     };
     let next = take_suffix(marked, log, log_sync, suffix, n, keys);
-    let last = state_cache::inner::accepted(next);
+    let accepted = state_cache::inner::accepted(next);
     AcceptedAt {
-        answer: Accepted::At(LogIndex(last)),
+        answer: Accepted::At(LogIndex(accepted)),
         index: next,
     }
 }

@@ -43,7 +43,7 @@ fn is_plain(kind: SnapshotType) -> bool
     }
 }
 
-// Whether all that is lent is in form. A snapshot or a stop-sign that is not lent is not judged, but for the snapshot's length.
+// Whether all that is lent is in form. A log part, a snapshot or a stop-sign that is not lent is not judged; the slices' lengths are.
 pub fn request_formed(held: bool, log_sync: LogSync, incoming: &[u64], suffix: &[u64]) -> bool
     ensures { λ r. ⌜ r ≡ requestFormed held «log_sync» (now (incoming .entry)) (now (suffix .entry)) ⌝ }
 {

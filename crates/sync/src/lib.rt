@@ -31,8 +31,8 @@ pub struct LogSync {
     pub stopsign: StopSign,
 }
 
-// Takes over a leader's round and decided index, and its log where `held` says that there is a log part: else nothing more is looked at
-// than whether the slices are as long as they should be.
+// Takes over a leader's round and decided index, and its log where `held` says that there is a log part: without one the slices'
+// lengths are looked at and nothing more. All of it stands or nothing changes.
 pub fn sync_log(
     index: IndexRecord,
     log: &mut [u64],

@@ -14,16 +14,24 @@ use Rattle.entry.proofs.SliceLaws.{stored-entries}
 use Rattle.snapshot.specs.Folds.{foldOnto, merge}
 use Rattle.snapshot.specs.Calls.{Outcome, outcome, written}
 use Rattle.snapshot.specs.Inner.{Aside}
+use Rattle.model.specs.Numbers.{Numbers, endOf, logDecided}
 use Rattle.model.specs.Log.{Log, orEmpty, foldedTo}
-use Rattle.model.proofs.Forms.{formed-of, shot-held}
+use Rattle.model.proofs.Forms.{Sound, ranges, formed-of, shot-held}
 use Rattle.state_cache.specs.State.{Raw, formed, logOf, Ready}
 use Rattle.state_cache.proofs.Stands.{stands-of, log-formed, ready-of}
+
+-- log-decided is in the run
+pub decided-low : (n : Numbers) → Sound n → (last : ℕ) → last ≡ logDecided n → n .compacted ≤ last
+decided-low n f last l = rw l (ranges n f .low)
+
+pub decided-high : (n : Numbers) → Sound n → (last : ℕ) → last ≡ logDecided n → last ≤ n .compacted + n .retained
+decided-high n f last l = rw l (unfold endOf in ranges n f .high)
 
 module _ (r : Raw) (ok : formed r ≡ true) where
   abbrev s : Log
   s = logOf r
 
-  shot-is : entriesOf (r .index .keys) (r .snapshot) ≡ orEmpty (s .run .held)
+  pub shot-is : entriesOf (r .index .keys) (r .snapshot) ≡ orEmpty (s .run .held)
   shot-is =
       let st = stands-of r ok in
       ap₂ entriesOf (sym (st .run .shot-keys)) (sym (st .snapshot))

@@ -16,7 +16,7 @@ use Rattle.model.specs.Append.{appendGuards, fills, appended}
 use Rattle.model.specs.Backend.{opsFormed}
 use Rattle.model.specs.Compact.{target, targetOf, trimGuards, snapshotGuards, movedTo, snapshotTo}
 use Rattle.model.specs.Diff.{Given, plain, complete, delta}
-use Rattle.model.specs.Sync.{partFormed, deltaOnto, runThen, partGuards, partSynced}
+use Rattle.model.specs.Sync.{partFormed, deltaOnto, runThen, partNumberGuards, partGuards, partSynced}
 use Rattle.model.specs.Calls.{Call, append, decide, trim, snapshot, sync, write, malformed, decideGuards, syncGuards, further, guards, synced, effect, stateAfter}
 use Rattle.model.specs.History.{syncedHistory, grown, Stands, Truthful, Event, next, told, AllTruthful, fresh}
 use Rattle.model.specs.Cases.{put, del}
@@ -48,7 +48,7 @@ trace =
     ∷ [])
 
 pub premise-met : AllTruthful trace (fresh 0)
-unfolding AllTruthful Truthful Stands allOf signFormed first insert foldOnto fold merge climbs rising endOf acceptedOf stopDecided logDecided numbersFormed foldedTo shotFormed wellFormed freshLog appendGuards fills appended target targetOf trimGuards snapshotGuards movedTo snapshotTo opsFormed partFormed deltaOnto runThen partGuards partSynced malformed decideGuards syncGuards further guards synced effect stateAfter syncedHistory grown next told fresh
+unfolding AllTruthful Truthful Stands allOf signFormed first insert foldOnto fold merge climbs rising endOf acceptedOf stopDecided logDecided numbersFormed foldedTo shotFormed wellFormed freshLog appendGuards fills appended target targetOf trimGuards snapshotGuards movedTo snapshotTo opsFormed partFormed deltaOnto runThen partNumberGuards partGuards partSynced malformed decideGuards syncGuards further guards synced effect stateAfter syncedHistory grown next told fresh
 premise-met =
     (λ q. tt, (λ q. tt, (λ q. tt, (λ q. tt, (λ q. never 2 3 q, (λ q. (refl, refl), (λ q. never 11 0 q, (λ q. (refl, refl), tt))))))))
   where
@@ -60,9 +60,9 @@ abbrev runAt : ℕ → List Change → List Change → Run
 runAt c r h = record { compacted = c; retained = r; held = some h }
 
 pub delta-held : told toDelta (fresh 0) .log .run ≡ runAt 5 (put 5 500 ∷ []) (put 4 200 ∷ put 6 600 ∷ put 7 700 ∷ del 9 ∷ [])
-unfolding allOf signFormed first insert foldOnto fold merge climbs rising endOf acceptedOf stopDecided logDecided numbersFormed foldedTo shotFormed wellFormed freshLog appendGuards fills appended target targetOf trimGuards snapshotGuards movedTo snapshotTo opsFormed partFormed deltaOnto runThen partGuards partSynced malformed decideGuards syncGuards further guards synced effect stateAfter syncedHistory grown next told fresh
+unfolding allOf signFormed first insert foldOnto fold merge climbs rising endOf acceptedOf stopDecided logDecided numbersFormed foldedTo shotFormed wellFormed freshLog appendGuards fills appended target targetOf trimGuards snapshotGuards movedTo snapshotTo opsFormed partFormed deltaOnto runThen partNumberGuards partGuards partSynced malformed decideGuards syncGuards further guards synced effect stateAfter syncedHistory grown next told fresh
 delta-held = refl
 
 pub complete-held : told trace (fresh 0) .log .run ≡ runAt 6 (put 4 400 ∷ []) (put 1 10 ∷ del 4 ∷ [])
-unfolding allOf signFormed first insert foldOnto fold merge climbs rising endOf acceptedOf stopDecided logDecided numbersFormed foldedTo shotFormed wellFormed freshLog appendGuards fills appended target targetOf trimGuards snapshotGuards movedTo snapshotTo opsFormed partFormed deltaOnto runThen partGuards partSynced malformed decideGuards syncGuards further guards synced effect stateAfter syncedHistory grown next told fresh
+unfolding allOf signFormed first insert foldOnto fold merge climbs rising endOf acceptedOf stopDecided logDecided numbersFormed foldedTo shotFormed wellFormed freshLog appendGuards fills appended target targetOf trimGuards snapshotGuards movedTo snapshotTo opsFormed partFormed deltaOnto runThen partNumberGuards partGuards partSynced malformed decideGuards syncGuards further guards synced effect stateAfter syncedHistory grown next told fresh
 complete-held = refl

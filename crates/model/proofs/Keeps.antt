@@ -25,7 +25,7 @@ use Rattle.model.specs.Append.{appendGuards, appendStopGuards, setStopGu
 use Rattle.model.specs.Backend.{Op, Lent, Midst, step, steps, stepGuards, lastGuards, opGuards, midst, writeGuards, written}
 use Rattle.model.specs.Compact.{target, targetOf, snapshotGuards, movedTo, trimmedTo, snapshotTo}
 use Rattle.model.specs.Diff.{Given, plain, complete, delta}
-use Rattle.model.specs.Sync.{Part, partFormed, deltaOnto, runThen, partGuards, roundGuards, partSynced}
+use Rattle.model.specs.Sync.{Part, partFormed, deltaOnto, runThen, partNumberGuards, partGuards, roundGuards, partSynced}
 use Rattle.model.specs.Calls.{Call, query, append, appendNow, flush, flushEntries, appendStop, setStop, setPromise, decide, trim, snapshot, sync, reload, write, malformed, decideGuards, syncGuards, further, guards, synced, effect, after, stateAfter}
 use Rattle.model.proofs.Forms.{log-min, Formed, formed-of, of-formed, shot-held, shot-merge, of-shot, shot-folded}
 
@@ -242,7 +242,7 @@ module _ (s : Log) (f : Formed s) where
       → runThen p s .compacted ≤ max d (s .marks .decided)
       → length (runThen p s .retained) + length (s .tail .batched) ≤ entryRoom
       → Clear (partGuards d p s) → Formed (partSynced b d p s)
-  unfolding partSynced partGuards acceptedOf endOf
+  unfolding partSynced partNumberGuards partGuards acceptedOf endOf
   part-formed b d p fr fh fz ends low room clr = record {
     numbers = record {
       low = low;
@@ -262,7 +262,7 @@ module _ (s : Log) (f : Formed s) where
   -- by its snapshot
   part-cases : (b : Ballot) (d i : ℕ) (g : Given) (es : List Change) (z : Option StopSign) → partFormed (part i g es z) ≡ true
       → Clear (partGuards d (part i g es z) s) → Formed (partSynced b d (part i g es z) s)
-  unfolding partFormed partGuards runThen endOf
+  unfolding partFormed partNumberGuards partGuards runThen endOf
   part-cases b d i plain es z w clr =
       let v : formed es ≡ true = and-left (formed es) (ifGiven signFormed z) w in
       let low : s .run .compacted ≤ i = ltb-false i (s .run .compacted) (or-left (ltb i (s .run .compacted)) (ltb (endOf (numbersOf s)) i) (clr 7)) in

@@ -10,7 +10,7 @@ use Rattle.model.specs.Append.{appendGuards, appendStopGuards, setStopGu
 use Rattle.model.specs.Backend.{Op, appendEntries, appendOnPrefix, setDecided, setCompacted, trim as opTrim, setPromise as opPromise, setRound, setSign, setSnapshot, Lent, Midst, midst, step, stepGuards, lastGuards, opGuards, writeGuards}
 use Rattle.model.specs.Compact.{trimGuards, snapshotGuards, createGuards}
 use Rattle.model.specs.Diff.{diffGuards}
-use Rattle.model.specs.Sync.{partGuards, roundGuards}
+use Rattle.model.specs.Sync.{partNumberGuards, partGuards, roundGuards}
 use Rattle.model.specs.Calls.{Query, read, readDecided, getSuffix, create, diff, lookup, getEntries, Call, query, append, appendNow, flush, flushEntries, appendStop, setStop, setPromise, decide, trim, snapshot, sync, reload, write, decideGuards, syncGuards, queryGuards, further, guards}
 use Rattle.model.specs.Orders.{queryOrder, opOrder, opsOrder, orderOf}
 
@@ -65,7 +65,7 @@ call-order (decide i) s = unfold decideGuards in refl
 call-order (trim i) s = unfold trimGuards in refl
 call-order (snapshot i) s = unfold snapshotGuards in refl
 call-order (sync b d none) s = unfold syncGuards roundGuards in refl
-call-order (sync b d (some p)) s = unfold syncGuards partGuards in refl
+call-order (sync b d (some p)) s = unfold syncGuards partNumberGuards partGuards in refl
 call-order reload s = refl
 call-order (write l ops) s = unfold writeGuards in ops-order (numbersOf s) l ops (midst s)
 

@@ -24,7 +24,7 @@ use Rattle.model.specs.Log.{Run, Log, numbersOf, orEmpty, foldedTo, well
 use Rattle.model.specs.Append.{joined, batchWith, fills, appended, appendedNow, flushed, stopAppended, stopSet}
 use Rattle.model.specs.Compact.{targetOf, movedTo, snapshotTo}
 use Rattle.model.specs.Diff.{Given, plain, complete, delta}
-use Rattle.model.specs.Sync.{deltaOnto, runThen, partGuards, partSynced}
+use Rattle.model.specs.Sync.{deltaOnto, runThen, partNumberGuards, partGuards, partSynced}
 use Rattle.model.specs.Calls.{Call, query, append, appendNow, flush, flushEntries, appendStop, setStop, setPromise, decide, trim, snapshot, sync, reload, write, syncGuards, further, guards, synced, effect, after, stateAfter}
 use Rattle.model.specs.History.{syncedHistory, grown, Stands, Truthful, Event, Told, historyAfter, next, told, AllTruthful, fresh}
 use Rattle.model.proofs.Forms.{Ranges, ranges, formed-of}
@@ -90,7 +90,7 @@ replaced-agrees x es c i n e =
 part-agrees : (d i : ℕ) (g : Given) (es : List Change) (z : Option StopSign) (x : List Change) (s : Log) (h : List Change)
     → Ranges (numbersOf s) → Clear (partGuards d (part i g es z) s) → Stands (part i g es z) x s → Agrees (s .run) h
     → Agrees (runThen (part i g es z) s) (syncedHistory (part i g es z) x s h)
-unfolding partGuards Stands runThen syncedHistory endOf
+unfolding partNumberGuards partGuards Stands runThen syncedHistory endOf
 part-agrees d i plain es z x s h w clr t a =
     cut-agrees (s .run) h a i es
     (ltb-false i (s .run .compacted) (or-left (ltb i (s .run .compacted)) (ltb (endOf (numbersOf s)) i) (clr 7)))

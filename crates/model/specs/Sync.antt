@@ -33,6 +33,16 @@ plain? plain = true
 plain? (complete c) = false
 plain? (delta d) = false
 
+-- what its refusals look at, all but the fold's
+pub record PartNumbers : Type 0 where
+  pub idx : ℕ
+  pub plain : Bool
+  pub count : ℕ
+  pub stop : Bool
+
+abbrev pub partNumbers : Part → PartNumbers
+partNumbers p = record { idx = p .idx; plain = plain? (p .snapshot); count = length (p .suffix); stop = given (p .stop) }
+
 -- "a delta's base is folded to the log-decided index held before the call"
 unfoldable pub deltaOnto : List Change → Log → List Change
 deltaOnto d s = merge (foldedTo (logDecided (numbersOf s)) (s .run)) d
@@ -50,15 +60,28 @@ runThen p s =
       | delta d ↦ record { compacted = p .idx; retained = p .suffix; held = some (deltaOnto d s) }
     ]
 
--- "decided becomes the larger"; the accepted index and the retained entries after the call
+-- "decided becomes the larger"; the accepted index after the call, and how many of the retained entries stay
 abbrev pub decidedThen : ℕ → Numbers → ℕ
 decidedThen d n = max d (n .decided)
 
-abbrev pub acceptedThen : Part → ℕ
-acceptedThen p = p .idx + length (p .suffix) + (if given (p .stop) then 1 else 0)
+abbrev pub acceptedThen : PartNumbers → ℕ
+acceptedThen a = a .idx + a .count + (if a .stop then 1 else 0)
 
-abbrev pub retainedThen : Part → Numbers → ℕ
-retainedThen p n = (if plain? (p .snapshot) then p .idx - n .compacted else 0) + length (p .suffix)
+abbrev pub keptThen : PartNumbers → Numbers → ℕ
+keptThen a n = if a .plain then a .idx - n .compacted else 0
+
+-- "Sync with log part: 4, 5, 7, 10, 9, 1, 6, 2, 8": those that look at numbers, and then the fold's
+unfoldable pub partNumberGuards : ℕ → PartNumbers → Numbers → List Guard
+partNumberGuards d a n =
+    guard 4 (acceptedOf n) (stopDecided n)
+    ∷ guard 5 (n .decided) (ltb (a .idx) (n .decided))
+    ∷ guard 7 (endOf n) (a .plain && (ltb (a .idx) (n .compacted) || ltb (endOf n) (a .idx)))
+    ∷ guard 10 (n .batched) (a .stop && ltb 0 (n .batched))
+    ∷ guard 9 (acceptedOf n) (ltb lastIndex (acceptedThen a + n .batched))
+    ∷ guard 1 0 (ltb entryRoom (keptThen a n + a .count + n .batched))
+    ∷ guard 6 (acceptedThen a) (ltb (acceptedThen a) (decidedThen d n))
+    ∷ guard 2 (decidedThen d n) (not (a .plain) && ltb (decidedThen d n) (a .idx))
+    ∷ []
 
 -- refusal 8's fold: only a delta makes one
 abbrev pub foldThen : Given → Log → List Change
@@ -66,20 +89,8 @@ foldThen plain s = []
 foldThen (complete c) s = []
 foldThen (delta d) s = deltaOnto d s
 
--- "Sync with log part: 4, 5, 7, 10, 9, 1, 6, 2, 8"
 unfoldable pub partGuards : ℕ → Part → Log → List Guard
-partGuards d p s =
-    let n : Numbers = numbersOf s in
-    guard 4 (acceptedOf n) (stopDecided n)
-    ∷ guard 5 (n .decided) (ltb (p .idx) (n .decided))
-    ∷ guard 7 (endOf n) (plain? (p .snapshot) && (ltb (p .idx) (n .compacted) || ltb (endOf n) (p .idx)))
-    ∷ guard 10 (n .batched) (given (p .stop) && ltb 0 (n .batched))
-    ∷ guard 9 (acceptedOf n) (ltb lastIndex (acceptedThen p + n .batched))
-    ∷ guard 1 0 (ltb entryRoom (retainedThen p n + n .batched))
-    ∷ guard 6 (acceptedThen p) (ltb (acceptedThen p) (decidedThen d n))
-    ∷ guard 2 (decidedThen d n) (not (plain? (p .snapshot)) && ltb (decidedThen d n) (p .idx))
-    ∷ overRoom (foldThen (p .snapshot) s)
-    ∷ []
+partGuards d p s = partNumberGuards d (partNumbers p) (numbersOf s) ++ (overRoom (foldThen (p .snapshot) s) ∷ [])
 
 -- "without: 6"
 unfoldable pub roundGuards : ℕ → Numbers → List Guard

@@ -1,0 +1,151 @@
+-- `diff::inner::diff_at` meets its contract: a delta past compacted, else nothing or the fold onto the held snapshot.
+use native.Mathlib.Omega.{arith}
+use borrow.Author.Tests.{not-true, not-false}
+use denote.Ref.{now}
+use Rattle.state_cache.specs.State.{Raw, raw, numbersIn}
+use Rattle.state_cache.proofs.Small.{sound-small}
+use Rattle.compaction.proofs.Folding.{decided-low, decided-high, fold-needs}
+use Rattle.diff.proofs.Giving.{start-low, part-inside, part-shows}
+use Rattle.diff.proofs.Telling.{diff-nothing, complete-over, complete-wrote, delta-over, delta-wrote}
+use borrow.Author.Needs.{needs}
+use Rattle.diff.proofs.inner.diff_at.Statement.{statement}
+use Rattle.diff.proofs.inner.diff_at.Tie as tie
+
+abbrev startOf : tie.After-log-decided → tie.Start
+startOf k = k .before .before .before .before
+
+abbrev stateAt : tie.After-log-decided → Raw
+stateAt k = let st = startOf k in raw (st .args .index) (now (st .args .log)) (now (st .args .shot))
+
+abbrev knownOf : tie.After-least → tie.After-log-decided
+knownOf m = m .before .before .before
+
+abbrev leftOf : tie.Else2 → tie.After-log-decided
+leftOf g = g .before .before .before .before
+
+log-decided-requires : tie.Need-log-decided-requires
+log-decided-requires c κs = sound-small _ (c .before .before .before .pre .0 .numbers)
+
+least-requires : tie.Need-least-requires
+least-requires c κs = search needs
+
+sub-fold-part : tie.Need-sub-fold-part
+sub-fold-part c =
+    let k = knownOf c in
+    let st = startOf k in
+    omega (arith, start-low (stateAt k) (st .pre .0 .okay) (st .args .from .0) (k .log-decided .result) (k .log-decided .ensures) (c .before .if1 .taken) (c .least .result) (c .least .ensures), c .least .ensures)
+
+sub-fold-part-2 : tie.Need-sub-fold-part-2
+sub-fold-part-2 c = search needs
+
+fold-part-requires : tie.Need-fold-part-requires
+fold-part-requires c κs =
+    let m = c .before in
+    let k = knownOf m in
+    let st = startOf k in (
+      part-inside (stateAt k) (st .pre .0 .okay) (st .args .from .0) (k .log-decided .result) (k .log-decided .ensures) (m .before .if1 .taken) (m .least .result) (m .least .ensures),
+      (
+        part-shows (stateAt k) (st .pre .0 .okay) (st .args .from .0) (k .log-decided .result) (k .log-decided .ensures) (m .before .if1 .taken) (m .least .result) (m .least .ensures),
+        st .pre .1,
+      ),
+    )
+
+enum-known-r : tie.Need-enum-known-r
+enum-known-r c = search needs
+
+enum-told : tie.Need-enum-told
+enum-told c = search needs
+
+same-length : tie.Need-same-length
+same-length c = search needs
+
+returns : tie.Need-returns
+returns c =
+    let f = c .before .before .before .before in
+    let m = f .before .before in
+    let k = knownOf m in
+    let st = startOf k in
+    delta-over (stateAt k) (st .args .from .0) (now (st .args .out)) (st .pre .0 .okay) (k .log-decided .result) (k .log-decided .ensures) (m .before .if1 .taken) (m .least .result) (m .least .ensures) (f .fold-part .result) (f .fold-part .last .1 .1 .1 .0) (f .fold-part .ensures) _ (c .enum-told .given .1)
+
+same-length-2 : tie.Need-same-length-2
+same-length-2 c = search needs
+
+returns-2 : tie.Need-returns-2
+returns-2 c =
+    let f = c .before .before .before .before .before in
+    let m = f .before .before in
+    let k = knownOf m in
+    let st = startOf k in
+    delta-wrote (stateAt k) (st .args .from .0) (now (st .args .out)) (st .pre .0 .okay) (k .log-decided .result) (k .log-decided .ensures) (m .before .if1 .taken) (m .least .result) (m .least .ensures) (f .fold-part .result) (f .fold-part .last .1 .1 .1 .0) (f .fold-part .ensures) _ (c .before .r .given .1)
+
+returns-3 : tie.Need-returns-3
+returns-3 c =
+    let e = c .before .before in
+    let k = e .before .before in
+    let st = startOf k in
+    diff-nothing (stateAt k) (st .args .from .0) (now (st .args .out)) (st .pre .0 .okay) (k .log-decided .result) (k .log-decided .ensures) (e .if1 .left) (not-true _ (c .if2 .taken))
+
+sub-fold-aside : tie.Need-sub-fold-aside
+sub-fold-aside c =
+    let k = leftOf c in
+    let st = startOf k in
+    omega (arith, decided-low (numbersIn (st .args .index)) (st .pre .0 .numbers) (k .log-decided .result) (k .log-decided .ensures))
+
+fold-aside-requires : tie.Need-fold-aside-requires
+fold-aside-requires c κs =
+    let k = leftOf (c .before) in
+    let st = startOf k in
+    fold-needs (stateAt k) (st .pre .0 .okay) (k .log-decided .result) (decided-high (numbersIn (st .args .index)) (st .pre .0 .numbers) (k .log-decided .result) (k .log-decided .ensures)) (now (st .args .out)) (st .pre .1)
+
+enum-known-r-2 : tie.Need-enum-known-r-2
+enum-known-r-2 c = search needs
+
+enum-told-2 : tie.Need-enum-told-2
+enum-told-2 c = search needs
+
+same-length-3 : tie.Need-same-length-3
+same-length-3 c = search needs
+
+returns-4 : tie.Need-returns-4
+returns-4 c =
+    let f = c .before .before .before .before in
+    let g = f .before .before in
+    let k = leftOf g in
+    let st = startOf k in
+    complete-over (stateAt k) (st .args .from .0) (now (st .args .out)) (st .pre .0 .okay) (k .log-decided .result) (k .log-decided .ensures) (g .before .before .if1 .left) (not-false _ (g .if2 .left)) (f .fold-aside .result) (f .fold-aside .last .1 .1 .1 .1 .0) (f .fold-aside .ensures) _ (c .enum-told2 .given .1)
+
+same-length-4 : tie.Need-same-length-4
+same-length-4 c = search needs
+
+returns-5 : tie.Need-returns-5
+returns-5 c =
+    let f = c .before .before .before .before .before in
+    let g = f .before .before in
+    let k = leftOf g in
+    let st = startOf k in
+    complete-wrote (stateAt k) (st .args .from .0) (now (st .args .out)) (st .pre .0 .okay) (k .log-decided .result) (k .log-decided .ensures) (g .before .before .if1 .left) (not-false _ (g .if2 .left)) (f .fold-aside .result) (f .fold-aside .last .1 .1 .1 .1 .0) (f .fold-aside .ensures) _ (c .before .r2 .given .1)
+
+pub diff-at-spec : {M : Type 1} → statement M
+diff-at-spec =
+    tie.close
+    (tie.spec
+    log-decided-requires
+    least-requires
+    sub-fold-part
+    sub-fold-part-2
+    fold-part-requires
+    enum-known-r
+    enum-told
+    same-length
+    returns
+    same-length-2
+    returns-2
+    returns-3
+    sub-fold-aside
+    fold-aside-requires
+    enum-known-r-2
+    enum-told-2
+    same-length-3
+    returns-4
+    same-length-4
+    returns-5)

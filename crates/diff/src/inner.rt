@@ -1,0 +1,67 @@
+// What a diff does once the state is known to be well formed: not for a user, whose call is in lib.rt.
+use super::Diff;
+use entry::LogIndex;
+use entry::Refusal;
+use snapshot::Folded;
+use state_cache::IndexRecord;
+ghost use Prim.Native.Nat.{_*_, _≤_, min};
+ghost use mathlib.Core.Path.{_≡_};
+ghost use mathlib.Core.Bool.{true};
+ghost use mathlib.Core.List.{[]};
+ghost use lib.ListN.{length, drop};
+ghost use Rattle.entry.specs.Limits.{width, snapshotWords};
+ghost use Rattle.snapshot.specs.Calls.{outcome, folded};
+ghost use Rattle.snapshot.specs.Inner.{Shows, foldedOut};
+ghost use Rattle.model.specs.Calls.{query, diff};
+ghost use Rattle.state_cache.specs.State.{raw, Ready};
+ghost use Rattle.state_cache.specs.Run.{run};
+ghost use Rattle.diff.specs.Replies.{diffSaid, outAfter};
+
+fn least(a: u64, b: u64) -> u64
+    ensures { λ r. ⌜ r ≡ min a b ⌝ }
+{
+    if a <= b { a } else { b }
+}
+
+// Folds the n entries from the first-th on and writes the fold out.
+fn fold_part(log: &[u64], first: usize, n: usize, out: &mut [u64]) -> Folded
+    requires { ⌜ (first * width ≤ length (now log)) × (Shows n (drop (first * width) (now log)) × (length (now out) ≡ snapshotWords)) ⌝ }
+    ensures { λ r. ⌜ outcome (folded r) (now (out .exit)) ≡ foldedOut 0 [] n (drop (first * width) (now (log .entry))) (now (out .entry)) ⌝ }
+{
+    let at = first * entry::WIDTH;
+    let mut empty = [0u64; entry::SNAPSHOT_WORDS];
+    snapshot::inner::fold_out(&mut empty, 0, &log[at..], n, out)
+}
+
+// Refusal 8, or the diff written out. Where nothing is retained below log-decided, the fold onto the held snapshot is a copy of it.
+pub fn diff_at(
+    index: IndexRecord,
+    log: &[u64],
+    shot: &[u64],
+    from: LogIndex,
+    out: &mut [u64],
+) -> Diff
+    requires { ⌜ Ready (raw index (now log) (now shot)) × (length (now out) ≡ snapshotWords) ⌝ }
+    ensures { λ r. ⌜ diffSaid (now (out .exit)) r ≡ run (query (diff (from .0))) true (raw index (now (log .entry)) (now (shot .entry))) .answer ⌝ }
+    ensures { λ r. ⌜ now (out .exit) ≡ outAfter (run (query (diff (from .0))) true (raw index (now (log .entry)) (now (shot .entry))) .answer) (now (out .entry)) ⌝ }
+{
+    let low = index.compacted.0;
+    let last = state_cache::inner::log_decided(index);
+    let log_decided = LogIndex(last);
+    if low < from.0 {
+        let start = least(from.0, last);
+        let r = fold_part(log, (start - low) as usize, (last - start) as usize, out);
+        let Folded::Keys(keys) = r else {
+            return Diff::Refused(Refusal::TooManyKeys);
+        };
+        return Diff::Delta { keys, log_decided };
+    }
+    if !(index.snapshot_held | (low < last)) {
+        return Diff::Nothing { log_decided };
+    }
+    let r = snapshot::inner::fold_aside(shot, index.keys, log, (last - low) as usize, out);
+    let Folded::Keys(keys) = r else {
+        return Diff::Refused(Refusal::TooManyKeys);
+    };
+    Diff::Complete { keys, log_decided }
+}

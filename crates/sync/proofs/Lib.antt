@@ -1,0 +1,5 @@
+pub mod Checking
+pub mod Holding
+pub mod Taking
+pub mod Syncing
+pub mod Asking

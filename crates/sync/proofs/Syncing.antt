@@ -1,0 +1,275 @@
+-- A sync with a log part on a lent state: its refusals, and the state after it.
+use Prim.Native.Nat.{ℕ, _+_, _-_, _*_, _/_, _%_, _≤_, max}
+use mathlib.Core.Path.{_≡_, refl, sym, ap, ap₂, _∙_}
+use mathlib.Core.Bool.{Bool, true, false, _||_, not}
+use mathlib.Core.List.{List, [], _∷_, _++_, append-assoc}
+use mathlib.Core.Option.{none, some}
+use native.Mathlib.Omega.{arith}
+use borrow.Author.Tests.{ltb-false, le-ltb, eqb-true}
+use lib.Dec.{ltb}
+use lib.ListN.{length, take, length-append}
+use lib.Seq.{take-all, length-take-le}
+use Rattle.words.specs.If.{if_then_else_}
+use Rattle.words.specs.Coded.{wordsOf}
+use Rattle.words.proofs.CodedLaws.{spliced-sync, words-entries, entries-length}
+use Rattle.entry.specs.Limits.{width, entryRoom, keyRoom, lastIndex, logWords, snapshotWords}
+use Rattle.entry.specs.Change.{Change, changeCode, entriesOf, entriesIn, stored}
+use Rattle.entry.specs.Guards.{Guard, passes, refuses, first, refused, replied}
+use Rattle.entry.specs.Refusals.{numberOf, carriedOf}
+use Rattle.entry.specs.declared.Ballot.{Ballot}
+use Rattle.entry.specs.declared.Refusal.{Refusal}
+use Rattle.entry.proofs.ChangeLaws.{changeOk}
+use Rattle.entry.proofs.GuardLaws.{Clear, clear, passed, clear-all, passing, stopping, found}
+use Rattle.snapshot.specs.Folds.{foldOnto, merge}
+use Rattle.snapshot.specs.Calls.{outcome as shotOutcome, folded, overRoom}
+use Rattle.snapshot.specs.Inner.{Holds}
+use Rattle.snapshot.specs.declared.Folded.{Folded}
+use Rattle.snapshot.specs.declared.Folded.the-variants.{Keys, Refused}
+use Rattle.model.specs.Numbers.{Numbers, acceptedOf, logDecided}
+use Rattle.model.specs.Log.{Log, given, orEmpty, foldedTo}
+use Rattle.model.specs.Sync.{Part, PartNumbers, partNumbers, plain?, partNumberGuards, partGuards, foldThen, deltaOnto, runThen, partSynced}
+use Rattle.model.specs.Calls.{Call, sync, malformed, further, syncGuards, synced, effect, replyOf}
+use Rattle.state_cache.specs.State.{Raw, raw, numbersIn, formed, logOf, Small}
+use Rattle.state_cache.specs.Run.{outcome, run}
+use Rattle.state_cache.specs.declared.IndexRecord.{IndexRecord}
+use Rattle.state_cache.proofs.Stands.{Stands, stands-of, numbers-are, log-formed}
+use Rattle.state_cache.proofs.Runs.{call-refused, call-stands}
+use Rattle.state_cache.proofs.Changes.{log-spliced}
+use Rattle.internal_storage.specs.Replies.{asked}
+use Rattle.internal_storage.proofs.Effects.{numbers}
+use Rattle.compaction.proofs.Folding.{decided-high, shot-is, fold-is, fold-wrote, fold-left}
+use Rattle.sync.specs.Requests.{givenBy, plainBy, partBy, numbersBy}
+use Rattle.sync.specs.Records.{marked, keptBy, syncedIndex, Fits, Taken, Syncs}
+use Rattle.sync.specs.Shots.{shotThen, shotOver}
+use Rattle.sync.specs.declared.LogSync.{LogSync}
+use Rattle.sync.specs.declared.SnapshotType.{SnapshotType}
+use Rattle.sync.specs.declared.SnapshotType.the-variants.{Plain, Complete, Delta}
+use Rattle.sync.proofs.Checking.{kept-few}
+
+-- the first refusal of two lists
+first-left : (gs hs : List Guard) (n k : ℕ) → refuses n k ≡ first gs → refuses n k ≡ first (gs ++ hs)
+unfolding first
+first-left [] hs n k e = let z : _≡_ {A = ℕ} 0 1 = cc in absurd (omega arith)
+first-left (g ∷ gs) hs n k e = go (g .applies) e (λ q. first-left gs hs n k q)
+  where
+    go : (t : Bool) → refuses n k ≡ (if t then refuses (g .number) (g .carried) else first gs) → (refuses n k ≡ first gs → refuses n k ≡ first (gs ++ hs))
+        → refuses n k ≡ (if t then refuses (g .number) (g .carried) else first (gs ++ hs))
+    go true q ih = q
+    go false q ih = ih q
+
+first-right : (gs hs : List Guard) → passes ≡ first gs → first (gs ++ hs) ≡ first hs
+unfolding first
+first-right [] hs e = refl
+first-right (g ∷ gs) hs e = go (g .applies) e (λ q. first-right gs hs q)
+  where
+    go : (t : Bool) → passes ≡ (if t then refuses (g .number) (g .carried) else first gs) → (passes ≡ first gs → first (gs ++ hs) ≡ first hs)
+        → (if t then refuses (g .number) (g .carried) else first (gs ++ hs)) ≡ first hs
+    go true q ih = let z : _≡_ {A = ℕ} 0 1 = cc in absurd (omega arith)
+    go false q ih = ih q
+
+given-by : {A : Type 0} (b : Bool) (a : A) → given (if b then some a else none) ≡ b
+given-by true a = refl
+given-by false a = refl
+
+plain-by : (k : SnapshotType) (t : List Change) → plain? (givenBy k t) ≡ plainBy k
+plain-by Plain t = refl
+plain-by Complete t = refl
+plain-by Delta t = refl
+
+or-not : (h : Bool) → (h || false) ≡ h
+or-not true = refl
+or-not false = refl
+
+or-true : (h : Bool) → (h || true) ≡ true
+or-true true = refl
+or-true false = refl
+
+module _ (r : Raw) (x : LogSync) (incoming suffix : List ℕ) (w : Syncs r x incoming suffix) (b : Ballot) (d : ℕ) where
+  abbrev s : Log
+  s = logOf r
+
+  abbrev n : ℕ
+  n = length suffix / width
+
+  abbrev kind : SnapshotType
+  kind = x .«decided_snapshot»
+
+  abbrev c : Call
+  c = sync b d (some (partBy x incoming suffix))
+
+  abbrev gs : List Guard
+  gs = partNumberGuards d (numbersBy x n) (numbersIn (r .index))
+
+  ok : formed r ≡ true
+  ok = w .ready .okay
+
+  st : Stands s r
+  st = stands-of r ok
+
+  -- ---- refusals
+
+  asks : partNumbers (partBy x incoming suffix) ≡ numbersBy x n
+  asks = fields _ _ _ (plain-by kind (entriesOf (x .keys) incoming)) (entries-length changeCode n suffix) (given-by (x .«stop_held») (x .stopsign))
+    where
+      fields : (t : Bool) (k : ℕ) (g : Bool) → t ≡ plainBy kind → k ≡ n → g ≡ x .«stop_held»
+          → _≡_ {A = PartNumbers} (record { idx = x .«sync_idx» .0; plain = t; count = k; stop = g }) (numbersBy x n)
+      fields t k g e q u = rw (e, q, u)
+
+  abbrev last-guard : List Guard
+  last-guard = overRoom (foldThen (givenBy kind (entriesOf (x .keys) incoming)) s) ∷ []
+
+  guards-are : first (further c s) ≡ first (gs ++ last-guard)
+  unfolding further syncGuards partGuards
+  guards-are = ap₂ (λ (a : PartNumbers) (m : Numbers). first (partNumberGuards d a m ++ last-guard)) asks (numbers r ok)
+
+  fine : malformed c ≡ false
+  unfolding malformed
+  fine = rw (w .fine)
+
+  pub sync-refused : (m k : ℕ) → refuses m k ≡ first gs → outcome (refused m k) r ≡ run c true r
+  sync-refused m k e = call-refused c r ok fine m k (first-left gs last-guard m k e ∙ sym guards-are)
+
+  module _ (pass : passes ≡ first gs) where
+    clr : Clear gs
+    clr = clear gs (passed gs (sym pass))
+
+    pub fits : Fits x n (marked b d (r .index)) (r .log) suffix
+    unfolding partNumberGuards
+    fits = record {
+      up = omega (arith, w .ready .numbers .low, ltb-false (x .«sync_idx» .0) (r .index .decided .0) (clr 5));
+      few = kept-few (x .«sync_idx» .0) (numbersIn (r .index)) (plainBy kind) (plainBy kind) (keptBy x n (r .index)) refl refl (clr 7);
+      room = ltb-false entryRoom (keptBy x n (r .index) + n + r .index .batched) (clr 1);
+      laid-out = w .ready .log;
+      whole = omega (arith, eqb-true (length suffix % width) 0 (w .whole));
+    }
+
+    -- the accepted index after it fits
+    pub fits-small : (keys : ℕ) (z : IndexRecord) → z ≡ syncedIndex x n keys (marked b d (r .index)) → Small (numbersIn z)
+    unfolding partNumberGuards
+    fits-small keys z e =
+        rw e
+        (record {
+          few = omega (arith, fits .room);
+          waiting = omega (arith, fits .room);
+          low = low (plainBy kind);
+        })
+      where
+        high : x .«sync_idx» .0 ≤ lastIndex
+        high = omega (arith, ltb-false lastIndex (x .«sync_idx» .0 + n + (if x .«stop_held» then 1 else 0) + r .index .batched) (clr 9))
+
+        low : (t : Bool) → (if t then r .index .compacted else x .«sync_idx») .0 ≤ lastIndex
+        low true = omega (arith, fits .up, high)
+        low false = high
+
+    -- ---- the snapshot then held
+
+    abbrev held : List Change
+    held = entriesOf (r .index .keys) (r .snapshot)
+
+    abbrev decided : List Change
+    decided = entriesOf (logDecided (numbersIn (r .index)) - r .index .compacted .0) (r .log)
+
+    abbrev lent : List Change
+    lent = entriesOf (x .keys) incoming
+
+    delta-is : deltaOnto lent s ≡ foldOnto (foldOnto held decided) lent
+    unfolding deltaOnto merge
+    delta-is =
+        let last : ℕ = logDecided (numbersIn (r .index)) in
+        ap (λ (t : List Change). foldOnto t lent)
+        (ap (λ (m : Numbers). foldedTo (logDecided m) (s .run)) (numbers r ok) ∙ sym (fold-is r ok last (decided-high (numbersIn (r .index)) (w .ready .numbers) last refl)))
+
+    few-keys : (k : ℕ) (ws : List ℕ) → Holds snapshotWords k ws → ltb keyRoom (length (entriesOf k ws)) ≡ false
+    few-keys k ws h = le-ltb keyRoom (length (entriesOf k ws)) (omega (arith, entries-length changeCode k ws, h .laid .fits))
+
+    -- 8 comes of a delta alone
+    tested : (k : SnapshotType) → (plainBy k ≡ false → Holds snapshotWords (x .keys) incoming) → (t : Bool) → ltb keyRoom (length (shotThen k held decided lent)) ≡ t
+        → ltb keyRoom (length (foldThen (givenBy k lent) s)) ≡ t
+    tested Plain h t e = le-ltb keyRoom 0 (omega arith) ∙ sym (few-keys (r .index .keys) (r .snapshot) (w .ready .snapshot)) ∙ e
+    tested Complete h t e = le-ltb keyRoom 0 (omega arith) ∙ sym (few-keys (x .keys) incoming (h refl)) ∙ e
+    tested Delta h t e = ap (λ (u : List Change). ltb keyRoom (length u)) delta-is ∙ e
+
+    module _ (a : Folded) (exit : List ℕ) (f : shotOutcome (folded a) exit ≡ shotOver (shotThen kind held decided lent) (r .snapshot)) where
+      abbrev shot : List Change
+      shot = shotThen kind held decided lent
+
+      pub sync-over : (y : Refusal) → a ≡ Refused y → outcome (refused 8 0) (raw (r .index) (r .log) exit) ≡ run c true r
+      sync-over y e =
+          let q = fold-left shot (r .snapshot) exit (numberOf y) (carriedOf y) (ltb keyRoom (length shot)) (ap (λ (v : Folded). shotOutcome (folded v) exit) (sym e) ∙ f) in
+          ap (λ (ws : List ℕ). outcome (refused 8 0) (raw (r .index) (r .log) ws)) (q .1)
+          ∙ call-refused c r ok fine 8 0
+          (found {gs = last-guard} (stopping (tested kind (w .lent) true (q .0)) refl) ∙ sym (first-right gs last-guard pass) ∙ sym guards-are)
+
+      -- ---- the state after it
+
+      module _ (keys : ℕ) (e : a ≡ Keys keys) (z : IndexRecord) (words : List ℕ) (m : Taken x n keys (marked b d (r .index)) (r .log) suffix z words) where
+        wrote : (ltb keyRoom (length shot) ≡ false) × (keys ≡ length shot) × (exit ≡ stored snapshotWords shot)
+        wrote = fold-wrote shot (r .snapshot) exit keys (ltb keyRoom (length shot)) (ap (λ (v : Folded). shotOutcome (folded v) exit) (sym e) ∙ f)
+
+        pass-all : passes ≡ first (further c s)
+        pass-all = found {gs = last-guard} (passing (tested kind (w .lent) false (wrote .0)) clear-all) ∙ sym (first-right gs last-guard pass) ∙ sym guards-are
+
+        abbrev new : List Change
+        new = entriesIn suffix
+
+        coded : suffix ≡ wordsOf changeCode new
+        coded = sym (words-entries changeCode changeOk n suffix (omega (arith, fits .whole)) ∙ take-all (n * width) suffix (omega (arith, fits .whole)))
+
+        -- the run, by the snapshot's kind
+        abbrev partAs : SnapshotType → Part
+        partAs k = record { idx = x .«sync_idx» .0; snapshot = givenBy k lent; suffix = new; stop = asked (x .«stop_held») (x .stopsign) }
+
+        abbrev keptAs : SnapshotType → ℕ
+        keptAs k = if plainBy k then x .«sync_idx» .0 - r .index .compacted .0 else 0
+
+        starts : (k : SnapshotType) → runThen (partAs k) s .compacted ≡ (if plainBy k then r .index .compacted else x .«sync_idx») .0
+        unfolding runThen
+        starts Plain = st .run .start
+        starts Complete = refl
+        starts Delta = refl
+
+        keeps : (k : SnapshotType) → runThen (partAs k) s .retained ≡ take (keptAs k) (s .run .retained) ++ new
+        unfolding runThen
+        keeps Plain = ap (λ (j : ℕ). take (x .«sync_idx» .0 - j) (s .run .retained) ++ new) (st .run .start)
+        keeps Complete = refl
+        keeps Delta = refl
+
+        holds : (k : SnapshotType) → given (runThen (partAs k) s .held) ≡ (r .index .«snapshot_held» || not (plainBy k))
+        unfolding runThen
+        holds Plain = st .run .shot ∙ sym (or-not (r .index .«snapshot_held»))
+        holds Complete = sym (or-true (r .index .«snapshot_held»))
+        holds Delta = sym (or-true (r .index .«snapshot_held»))
+
+        shows : (k : SnapshotType) → orEmpty (runThen (partAs k) s .held) ≡ shotThen k held decided lent
+        unfolding runThen
+        shows Plain = sym (shot-is r ok)
+        shows Complete = refl
+        shows Delta = delta-is
+
+        few : keptAs kind ≤ length (s .run .retained)
+        few = omega (arith, fits .few, st .run .count)
+
+        stands : Stands (partSynced b d (partBy x incoming suffix) s) (raw z words exit)
+        unfolding partSynced
+        stands = rw (m .index) (record {
+          run = record {
+            start = starts kind;
+            count =
+                ap length (keeps kind) ∙ length-append (take (keptAs kind) (s .run .retained)) new
+                ∙ ap₂ (λ (i j : ℕ). i + j) (length-take-le (keptAs kind) (s .run .retained) few) (entries-length changeCode n suffix);
+            shot = holds kind;
+            shot-keys = ap length (shows kind) ∙ sym (wrote .1);
+          };
+          tail = record { count = st .tail .count; sized = st .tail .sized; stopped = given-by (x .«stop_held») (x .stopsign); sign = refl };
+          marks = record { index = ap (max d) (st .marks .index); promised = st .marks .promised; rounded = refl };
+          log =
+              ap (λ (es : List Change). stored logWords (es ++ s .tail .batched)) (keeps kind)
+              ∙ ap (stored logWords) (append-assoc (take (keptAs kind) (s .run .retained)) new (s .tail .batched) ∙ sym (spliced-sync (keptAs kind) (s .run .retained) (s .tail .batched) new few))
+              ∙ rw (st .run .count) (sym (m .words ∙ log-spliced s r st (log-formed r ok) (keptAs kind) (r .index .retained - keptAs kind) suffix new coded));
+          snapshot = ap (stored snapshotWords) (shows kind) ∙ sym (wrote .2);
+        })
+
+        pub sync-stands : (y : ℕ) → y ≡ acceptedOf (numbersIn z) → outcome (replied y) (raw z words exit) ≡ run c true r
+        unfolding effect replyOf synced
+        sync-stands y q =
+            call-stands c r ok fine pass-all y (raw z words exit) (q ∙ ap acceptedOf (sym (numbers-are (partSynced b d (partBy x incoming suffix) s) (raw z words exit) stands))) stands

@@ -1,0 +1,130 @@
+-- `sync::inner::sync_at` meets its contract: the first refusal of numbers, then 8, or the snapshot, the suffix and the record.
+use Prim.Native.Nat.{_/_}
+use mathlib.Core.Path.{_≡_, sym, ap, _∙_}
+use denote.Ref.{now}
+use lib.ListN.{length}
+use Rattle.entry.specs.Limits.{width}
+use Rattle.entry.specs.Guards.{passes, first}
+use Rattle.model.specs.Sync.{partNumberGuards}
+use Rattle.state_cache.specs.State.{Raw, raw, numbersIn}
+use Rattle.internal_storage.specs.Replies.{verdictOf}
+use Rattle.sync.specs.Requests.{numbersBy}
+use Rattle.sync.specs.Records.{marked, Taken}
+use Rattle.sync.proofs.Syncing.{sync-refused, fits, fits-small, sync-over, sync-stands}
+use borrow.Author.Needs.{needs}
+use Rattle.sync.proofs.inner.sync_at.Statement.{statement}
+use Rattle.sync.proofs.inner.sync_at.Tie as tie
+
+abbrev stateAt : tie.Start → Raw
+stateAt c = raw (c .args .index) (now (c .args .log)) (now (c .args .shot))
+
+abbrev startOf : tie.After-enum-told → tie.Start
+startOf t = t .before .before .before .before .before .before .before
+
+-- no refusal of numbers applies
+pass : (t : tie.After-enum-told)
+    → passes ≡ first (partNumberGuards (startOf t .args .decided-idx .0) (numbersBy (startOf t .args .log-sync) (length (now (startOf t .args .suffix)) / width)) (numbersIn (startOf t .args .index)))
+pass t = ap verdictOf (sym (t .enum-told .given .1)) ∙ t .before .before .check-sync .ensures
+
+abbrev markOf : tie.After-hold → tie.After-mark
+markOf h = h .before .before .before
+
+abbrev toldOf : tie.After-hold → tie.After-enum-told
+toldOf h = markOf h .before
+
+abbrev holdOf : tie.After-take-suffix → tie.After-hold
+holdOf m = m .before .before .before .before .before .before .before
+
+-- the record that the suffix is put into is the marked one
+took : (m : tie.After-take-suffix) → let st = startOf (toldOf (holdOf m)) in
+    Taken (st .args .log-sync) (length (now (st .args .suffix)) / width) (m .before .before .before .r .given .0 .0) (marked (st .args .accepted-round) (st .args .decided-idx .0) (st .args .index)) (now (st .args .log)) (now (st .args .suffix)) (m .take-suffix .result) (m .take-suffix .last .1 .0)
+took m = rw (markOf (holdOf m) .mark .ensures) at (m .take-suffix .ensures)
+
+check-sync-requires : tie.Need-check-sync-requires
+check-sync-requires c κs = search needs
+
+enum-known-check : tie.Need-enum-known-check
+enum-known-check c = search needs
+
+returns : tie.Need-returns
+returns c =
+    let k = c .before .before .before in
+    let st = k .before .before .before .before .before in
+    sync-refused (stateAt st) (st .args .log-sync) (now (st .args .incoming)) (now (st .args .suffix)) (st .pre) (st .args .accepted-round) (st .args .decided-idx .0) _ _ (ap verdictOf (sym (c .before .check .given .1)) ∙ k .check-sync .ensures)
+
+enum-told : tie.Need-enum-told
+enum-told c = search needs
+
+mark-requires : tie.Need-mark-requires
+mark-requires c κs = search needs
+
+hold-requires : tie.Need-hold-requires
+hold-requires c κs = search needs
+
+enum-known-r : tie.Need-enum-known-r
+enum-known-r c = search needs
+
+enum-told-2 : tie.Need-enum-told-2
+enum-told-2 c = search needs
+
+same-length : tie.Need-same-length
+same-length c = search needs
+
+same-length-2 : tie.Need-same-length-2
+same-length-2 c = search needs
+
+returns-2 : tie.Need-returns-2
+returns-2 c =
+    let h = c .before .before .before .before in
+    let t = toldOf h in
+    let st = startOf t in
+    sync-over (stateAt st) (st .args .log-sync) (now (st .args .incoming)) (now (st .args .suffix)) (st .pre) (st .args .accepted-round) (st .args .decided-idx .0) (pass t) (h .hold .result) (h .hold .last .1 .1 .0) (h .hold .ensures) _ (c .enum-told2 .given .1)
+
+take-suffix-requires : tie.Need-take-suffix-requires
+take-suffix-requires c κs =
+    let h = c .before .before .before .before .before .before in
+    let t = toldOf h in
+    let st = startOf t in
+    rw (markOf h .mark .ensures) (fits (stateAt st) (st .args .log-sync) (now (st .args .incoming)) (now (st .args .suffix)) (st .pre) (st .args .accepted-round) (st .args .decided-idx .0) (pass t))
+
+accepted-requires : tie.Need-accepted-requires
+accepted-requires c κs =
+    let m = c .before .before in
+    let t = toldOf (holdOf m) in
+    let st = startOf t in
+    fits-small (stateAt st) (st .args .log-sync) (now (st .args .incoming)) (now (st .args .suffix)) (st .pre) (st .args .accepted-round) (st .args .decided-idx .0) (pass t) _ (m .take-suffix .result) (took m .index)
+
+same-length-3 : tie.Need-same-length-3
+same-length-3 c = search needs
+
+same-length-4 : tie.Need-same-length-4
+same-length-4 c = search needs
+
+returns-3 : tie.Need-returns-3
+returns-3 c =
+    let m = c .before .before .before in
+    let h = holdOf m in
+    let t = toldOf h in
+    let st = startOf t in
+    sync-stands (stateAt st) (st .args .log-sync) (now (st .args .incoming)) (now (st .args .suffix)) (st .pre) (st .args .accepted-round) (st .args .decided-idx .0) (pass t) (h .hold .result) (h .hold .last .1 .1 .0) (h .hold .ensures) _ (m .before .before .before .r .given .1) (m .take-suffix .result) (m .take-suffix .last .1 .0) (took m) (c .accepted .result) (c .accepted .ensures)
+
+pub sync-at-spec : {M : Type 1} → statement M
+sync-at-spec =
+    tie.close
+    (tie.spec
+    check-sync-requires
+    enum-known-check
+    returns
+    enum-told
+    mark-requires
+    hold-requires
+    enum-known-r
+    enum-told-2
+    same-length
+    same-length-2
+    returns-2
+    take-suffix-requires
+    accepted-requires
+    same-length-3
+    same-length-4
+    returns-3)

@@ -1,0 +1,3 @@
+pub mod Requests
+pub mod Records
+pub mod Shots

@@ -1,0 +1,310 @@
+// What a sync does once the state is known to be well formed: not for a user, whose call is in lib.rt.
+use super::LogSync;
+use super::SnapshotType;
+use entry::Ballot;
+use entry::LogIndex;
+use entry::Refusal;
+use entry::StopSign;
+use internal_storage::Check;
+use snapshot::Folded;
+use state_cache::Accepted;
+use state_cache::AcceptedAt;
+use state_cache::IndexRecord;
+ghost use Prim.Native.Nat.{_+_, _-_, _≤_, max};
+ghost use mathlib.Core.Path.{_≡_};
+ghost use mathlib.Core.Bool.{true, false};
+ghost use mathlib.Core.Option.{some};
+ghost use lib.Dec.{ltb};
+ghost use Rattle.words.specs.If.{if_then_else_};
+ghost use Rattle.entry.specs.Guards.{first};
+ghost use Rattle.entry.specs.Limits.{snapshotWords, lastIndex};
+ghost use Rattle.entry.specs.Change.{entriesOf};
+ghost use Rattle.snapshot.specs.Folds.{foldOnto};
+ghost use Rattle.snapshot.specs.Calls.{outcome as shotOutcome, folded};
+ghost use Rattle.snapshot.specs.Inner.{Holds, Shows, Aside};
+ghost use Rattle.model.specs.Numbers.{acceptedOf, logDecided};
+ghost use Rattle.model.specs.Sync.{partNumberGuards, roundGuards};
+ghost use Rattle.model.specs.Calls.{sync as syncCall};
+ghost use Rattle.model.proofs.Forms.{Sound};
+ghost use Rattle.state_cache.specs.State.{raw, numbersIn, oneIf, signOr, Ready};
+ghost use Rattle.state_cache.specs.Run.{outcome, run, accepted};
+ghost use Rattle.internal_storage.specs.Replies.{verdictOf, indexed, byNumbers, asked};
+ghost use Rattle.sync.specs.Requests.{plainBy, partBy, numbersBy, requestFormed};
+ghost use Rattle.sync.specs.Records.{marked, Fits, Taken, Syncs};
+ghost use Rattle.sync.specs.Shots.{shotThen, shotOver};
+
+fn is_plain(kind: SnapshotType) -> bool
+    ensures { λ r. ⌜ r ≡ plainBy kind ⌝ }
+{
+    match kind {
+        SnapshotType::Plain => true,
+        SnapshotType::Complete => false,
+        SnapshotType::Delta => false,
+    }
+}
+
+// Whether all that is lent is in form. A log part, a snapshot or a stop-sign that is not lent is not judged; the slices' lengths are.
+pub fn request_formed(held: bool, log_sync: LogSync, incoming: &[u64], suffix: &[u64]) -> bool
+    ensures { λ r. ⌜ r ≡ requestFormed held «log_sync» (now (incoming .entry)) (now (suffix .entry)) ⌝ }
+{
+    let kind = log_sync.decided_snapshot;
+    let plain = is_plain(kind);
+    let sized = incoming.len() == entry::SNAPSHOT_WORDS;
+    let words = suffix.len();
+    let whole = words % entry::WIDTH == 0;
+    let shot = snapshot::snapshot_formed(incoming, log_sync.keys);
+    let fine = entry::inner::places_formed(suffix, words / entry::WIDTH);
+    let stop = entry::sign_formed(log_sync.stopsign);
+    (sized & (whole & (!held | (plain | shot)))) & (!held | (fine & (!log_sync.stop_held | stop)))
+}
+
+fn larger(a: u64, b: u64) -> u64
+    ensures { λ r. ⌜ r ≡ max a b ⌝ }
+{
+    if a < b { b } else { a }
+}
+
+fn one_if(b: bool) -> u64
+    ensures { λ r. ⌜ r ≡ oneIf b ⌝ }
+{
+    if b { 1 } else { 0 }
+}
+
+// Whether the accepted index that a sync leaves, and the batch after it, pass the largest index. No sum is made that might not fit.
+fn past_last(idx: u64, n: usize, more: u64) -> bool
+    requires { ⌜ more ≤ lastIndex ⌝ }
+    ensures { λ r. ⌜ r ≡ ltb lastIndex (idx + n + more) ⌝ }
+{
+    if entry::LAST_INDEX - more < idx {
+        return true;
+    }
+    entry::LAST_INDEX - more - idx < n as u64
+}
+
+// How many of the retained entries stay: of a plain sync those below its index.
+fn kept_of(plain: bool, idx: u64, low: u64) -> u64
+    requires { ⌜ low ≤ idx ⌝ }
+    ensures { λ r. ⌜ r ≡ (if plain then idx - low else 0) ⌝ }
+{
+    if plain { idx - low } else { 0 }
+}
+
+// Refusals 4, 5, 7, 10, 9, 1, 6 and 2, of a log part with n entries.
+fn check_sync(index: IndexRecord, decided_idx: LogIndex, log_sync: LogSync, n: usize) -> Check
+    requires { ⌜ Sound (numbersIn index) ⌝ }
+    ensures { λ r. ⌜ verdictOf r ≡ first (partNumberGuards («decided_idx» .0) (numbersBy «log_sync» n) (numbersIn index)) ⌝ }
+{
+    let decided = index.decided;
+    let low = index.compacted.0;
+    let waiting = index.batched;
+    let idx = log_sync.sync_idx.0;
+    let stop = log_sync.stop_held;
+    let kind = log_sync.decided_snapshot;
+    let plain = is_plain(kind);
+    let end = state_cache::inner::end(index);
+    let last = state_cache::inner::accepted(index);
+    let one = one_if(stop);
+    let next = larger(decided_idx.0, decided.0);
+    if state_cache::inner::stop_decided(index) {
+        return Check::Refused(Refusal::Stopped(LogIndex(last)));
+    }
+    if idx < decided.0 {
+        return Check::Refused(Refusal::BelowDecided(decided));
+    }
+    if plain & ((idx < low) | (end < idx)) {
+        return Check::Refused(Refusal::OutsideRun(LogIndex(end)));
+    }
+    if stop & (0 < waiting) {
+        return Check::Refused(Refusal::BatchHeld(waiting));
+    }
+    if past_last(idx, n, one + waiting as u64) {
+        return Check::Refused(Refusal::PastLastIndex(LogIndex(last)));
+    }
+    let kept = kept_of(plain, idx, low) as usize;
+    if entry::ENTRIES - (kept + waiting) < n {
+        return Check::Refused(Refusal::NoRoom);
+    }
+    let then = idx + n as u64 + one;
+    if then < next {
+        return Check::Refused(Refusal::AboveAccepted(LogIndex(then)));
+    }
+    if !plain & (next < idx) {
+        return Check::Refused(Refusal::AboveDecided(LogIndex(next)));
+    }
+    Check::Passed
+}
+
+// The record with the round and the larger decided index.
+fn mark(index: IndexRecord, accepted_round: Ballot, decided_idx: LogIndex) -> IndexRecord
+    ensures { λ r. ⌜ r ≡ marked «accepted_round» («decided_idx» .0) index ⌝ }
+{
+    let decided = LogIndex(larger(decided_idx.0, index.decided.0));
+    let mut next = index;
+    next.decided = decided;
+    next.accepted_round = accepted_round;
+    next
+}
+
+// A sync without log part: refusal 6, or the marks alone. No word moves.
+pub fn round_at(index: IndexRecord, accepted_round: Ballot, decided_idx: LogIndex) -> AcceptedAt
+    requires { ⌜ Sound (numbersIn index) ⌝ }
+    ensures { λ r. ⌜ indexed (accepted (r .answer)) (r .index) ≡ byNumbers (first (roundGuards («decided_idx» .0) (numbersIn index))) (acceptedOf (numbersIn index)) (marked «accepted_round» («decided_idx» .0) index) index ⌝ }
+{
+    let last = state_cache::inner::accepted(index);
+    let next = mark(index, accepted_round, decided_idx);
+    if last < next.decided.0 {
+        return AcceptedAt {
+            answer: Accepted::Refused(Refusal::AboveAccepted(LogIndex(last))),
+            index,
+        };
+    }
+    AcceptedAt {
+        answer: Accepted::At(LogIndex(last)),
+        index: next,
+    }
+}
+
+// Folds the first n entries, and then m more, onto a snapshot in its place. The fold is made aside, so that one with too many keys
+// writes nothing; where the first part has too many so has the whole, since keys are only added.
+fn fold_twice(
+    shot: &mut [u64],
+    kept: usize,
+    entries: &[u64],
+    n: usize,
+    more: &[u64],
+    m: usize,
+) -> Folded
+    requires { ⌜ Aside kept (now shot) n (now entries) (now shot) × Shows m (now more) ⌝ }
+    ensures { λ r. ⌜ shotOutcome (folded r) (now (shot .exit)) ≡ shotOver (foldOnto (foldOnto (entriesOf kept (now (shot .entry))) (entriesOf n (now (entries .entry)))) (entriesOf m (now (more .entry)))) (now (shot .entry)) ⌝ }
+{
+    let mut scratch = [0u64; entry::SNAPSHOT_WORDS];
+    words::copy_words(shot, &mut scratch);
+    let r = snapshot::inner::fold_onto(&mut scratch, kept, entries, n);
+    let Folded::Keys(keys) = r else {
+        return Folded::Refused(Refusal::TooManyKeys);
+    };
+    snapshot::inner::fold_out(&mut scratch, keys, more, m, shot)
+}
+
+// Puts the snapshot that is then held in the place of the one held before. A delta goes onto all that was decided before the call.
+fn hold(
+    index: IndexRecord,
+    log: &[u64],
+    shot: &mut [u64],
+    kind: SnapshotType,
+    incoming: &[u64],
+    keys: usize,
+) -> Folded
+    requires { ⌜ Ready (raw index (now log) (now shot)) × (plainBy kind ≡ false → Holds snapshotWords keys (now incoming)) ⌝ }
+    ensures { λ r. ⌜ shotOutcome (folded r) (now (shot .exit)) ≡ shotOver (shotThen kind (entriesOf (index .keys) (now (shot .entry))) (entriesOf (logDecided (numbersIn index) - index .compacted .0) (now (log .entry))) (entriesOf keys (now (incoming .entry)))) (now (shot .entry)) ⌝ }
+{
+    match kind {
+        SnapshotType::Plain => Folded::Keys(index.keys),
+        SnapshotType::Complete => {
+            words::copy_words(incoming, shot);
+            Folded::Keys(keys)
+        }
+        SnapshotType::Delta => {
+            let decided = state_cache::inner::log_decided(index);
+            let n = (decided - index.compacted.0) as usize;
+            fold_twice(shot, index.keys, log, n, incoming, keys)
+        }
+    }
+}
+
+// The stop-sign of a record: blank where none is held.
+fn sign_or_blank(held: bool, stop: StopSign) -> StopSign
+    ensures { λ r. ⌜ r ≡ signOr (asked held stop) ⌝ }
+{
+    if held {
+        return stop;
+    }
+    let blank = state_cache::inner::fresh_index(0);
+    blank.stop
+}
+
+// Where the run then starts: a snapshot stands for all entries below the sync's index.
+fn start_of(plain: bool, low: LogIndex, idx: LogIndex) -> LogIndex
+    ensures { λ r. ⌜ r ≡ (if plain then low else idx) ⌝ }
+{
+    if plain {
+        return low;
+    }
+    idx
+}
+
+// Puts the suffix in the place of the retained entries from the sync's index on, of a snapshot in the place of all. The batch stays
+// behind it.
+fn take_suffix(
+    index: IndexRecord,
+    log: &mut [u64],
+    log_sync: LogSync,
+    suffix: &[u64],
+    n: usize,
+    keys: usize,
+) -> IndexRecord
+    requires { ⌜ Fits «log_sync» n index (now log) (now suffix) ⌝ }
+    ensures { λ r. ⌜ Taken «log_sync» n keys index (now (log .entry)) (now (suffix .entry)) r (now (log .exit)) ⌝ }
+{
+    let low = index.compacted;
+    let idx = log_sync.sync_idx;
+    let kind = log_sync.decided_snapshot;
+    let plain = is_plain(kind);
+    let kept = kept_of(plain, idx.0, low.0) as usize;
+    let start = start_of(plain, low, idx);
+    let stop = sign_or_blank(log_sync.stop_held, log_sync.stopsign);
+    words::splice(
+        log,
+        (index.retained + index.batched) * entry::WIDTH,
+        kept * entry::WIDTH,
+        (index.retained - kept) * entry::WIDTH,
+        suffix,
+    );
+    let mut next = index;
+    next.compacted = start;
+    next.retained = kept + n;
+    next.snapshot_held = index.snapshot_held | !plain;
+    next.keys = keys;
+    next.stop_held = log_sync.stop_held;
+    next.stop = stop;
+    next
+}
+
+// A sync with a log part on a well-formed log. All refusals are decided before a word is written.
+pub fn sync_at(
+    index: IndexRecord,
+    log: &mut [u64],
+    shot: &mut [u64],
+    accepted_round: Ballot,
+    decided_idx: LogIndex,
+    log_sync: LogSync,
+    incoming: &[u64],
+    suffix: &[u64],
+) -> AcceptedAt
+    requires { ⌜ Syncs (raw index (now log) (now shot)) «log_sync» (now incoming) (now suffix) ⌝ }
+    ensures { λ r. ⌜ outcome (accepted (r .answer)) (raw (r .index) (now (log .exit)) (now (shot .exit))) ≡ run (syncCall «accepted_round» («decided_idx» .0) (some (partBy «log_sync» (now (incoming .entry)) (now (suffix .entry))))) true (raw index (now (log .entry)) (now (shot .entry))) ⌝ }
+{
+    let n = suffix.len() / entry::WIDTH;
+    let check = check_sync(index, decided_idx, log_sync, n);
+    if let Check::Refused(refusal) = check {
+        return AcceptedAt {
+            answer: Accepted::Refused(refusal),
+            index,
+        };
+    }
+    let marked = mark(index, accepted_round, decided_idx);
+    let kind = log_sync.decided_snapshot;
+    let r = hold(index, log, shot, kind, incoming, log_sync.keys);
+    let Folded::Keys(keys) = r else {
+        return AcceptedAt {
+            answer: Accepted::Refused(Refusal::TooManyKeys),
+            index,
+        };
+    };
+    let next = take_suffix(marked, log, log_sync, suffix, n, keys);
+    let accepted = state_cache::inner::accepted(next);
+    AcceptedAt {
+        answer: Accepted::At(LogIndex(accepted)),
+        index: next,
+    }
+}

@@ -4,7 +4,7 @@ use entry::LogIndex;
 use entry::Refusal;
 use snapshot::Folded;
 use state_cache::IndexRecord;
-ghost use Prim.Native.Nat.{_*_, _≤_, min};
+ghost use Prim.Native.Nat.{_*_, _≤_};
 ghost use mathlib.Core.Path.{_≡_};
 ghost use mathlib.Core.Bool.{true};
 ghost use mathlib.Core.List.{[]};
@@ -16,12 +16,6 @@ ghost use Rattle.model.specs.Calls.{query, diff};
 ghost use Rattle.state_cache.specs.State.{raw, Ready};
 ghost use Rattle.state_cache.specs.Run.{run};
 ghost use Rattle.diff.specs.Replies.{diffSaid, outAfter};
-
-fn least(a: u64, b: u64) -> u64
-    ensures { λ r. ⌜ r ≡ min a b ⌝ }
-{
-    if a <= b { a } else { b }
-}
 
 // Folds the n entries from the first-th on and writes the fold out.
 fn fold_part(log: &[u64], first: usize, n: usize, out: &mut [u64]) -> Folded
@@ -49,7 +43,7 @@ pub fn diff_at(
     let last = state_cache::inner::log_decided(index);
     let log_decided = LogIndex(last);
     if low < from.0 {
-        let start = least(from.0, last);
+        let start = state_cache::inner::least(from.0, last);
         let r = fold_part(log, (start - low) as usize, (last - start) as usize, out);
         let Folded::Keys(keys) = r else {
             return Diff::Refused(Refusal::TooManyKeys);

@@ -8,9 +8,7 @@ use Rattle.entry.proofs.RefusalLaws.{refusal-known}
 use Rattle.model.specs.Append.{Flushed}
 use Rattle.state_cache.proofs.Unique.{Known, Unique, unique, apart, index-known}
 use Rattle.internal_storage.specs.Replies.{appended, acceptedIdx}
-use Rattle.internal_storage.specs.declared.Appended.{Appended}
 use Rattle.internal_storage.specs.declared.Appended.the-variants.{Held, Flushed as AppendFlushed, Refused}
-use Rattle.internal_storage.specs.declared.AcceptedIdx.{AcceptedIdx}
 use Rattle.internal_storage.specs.declared.AcceptedIdx.the-variants.{Held as IdxHeld, At, Refused as IdxRefused}
 
 -- entries held are none flushed

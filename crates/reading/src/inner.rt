@@ -8,7 +8,7 @@ use entry::BlockPlace;
 use snapshot::Found;
 use snapshot::inner::Spot;
 use state_cache::IndexRecord;
-ghost use Prim.Native.Nat.{_-_, _*_, _<_, _≤_, min};
+ghost use Prim.Native.Nat.{_-_, _*_, _<_, _≤_};
 ghost use mathlib.Core.Path.{_≡_};
 ghost use mathlib.Core.Bool.{true, false};
 ghost use mathlib.Core.Option.{some};
@@ -215,12 +215,6 @@ fn monus(a: u64, b: u64) -> u64
     if b <= a { a - b } else { 0 }
 }
 
-fn least(a: u64, b: u64) -> u64
-    ensures { λ r. ⌜ r ≡ min a b ⌝ }
-{
-    if a <= b { a } else { b }
-}
-
 // The run from an index of a kind up to another.
 fn run_of(index: IndexRecord, entry: IndexEntry, from: u64, to: u64) -> ShownRun
     requires { ⌜ Small (numbersIn index) × entryIs (numbersIn index) from entry ⌝ }
@@ -228,8 +222,8 @@ fn run_of(index: IndexRecord, entry: IndexEntry, from: u64, to: u64) -> ShownRun
 {
     let low = index.compacted.0;
     let start = monus(from, low);
-    let end = least(monus(to, low), index.retained as u64);
-    let known = least(end, monus(index.decided.0, low));
+    let end = state_cache::inner::least(monus(to, low), index.retained as u64);
+    let known = state_cache::inner::least(end, monus(index.decided.0, low));
     let last = state_cache::inner::accepted(index);
     let decided = state_cache::inner::stop_decided(index);
     let marker = marker_of(index, entry);

@@ -8,6 +8,7 @@ use entry::LogIndex;
 use entry::StopSign;
 ghost use mathlib.Core.Path.{_≡_};
 ghost use mathlib.Core.Bool.{true};
+ghost use Prim.Native.Nat.{min};
 ghost use Rattle.model.specs.Log.{freshLog};
 ghost use Rattle.model.specs.Calls.{reload};
 ghost use Rattle.model.specs.Numbers.{endOf, acceptedOf, stopDecided, logDecided, numbersFormed};
@@ -18,6 +19,12 @@ pub fn one_if(b: bool) -> u64
     ensures { λ x. ⌜ x ≡ oneIf b ⌝ }
 {
     if b { 1 } else { 0 }
+}
+
+pub fn least(a: u64, b: u64) -> u64
+    ensures { λ r. ⌜ r ≡ min a b ⌝ }
+{
+    if a <= b { a } else { b }
 }
 
 // The index after the last retained entry.

@@ -26,7 +26,7 @@ ghost use Rattle.model.specs.Numbers.{acceptedOf, logDecided};
 ghost use Rattle.model.specs.Sync.{partNumberGuards, roundGuards};
 ghost use Rattle.model.specs.Calls.{sync as syncCall};
 ghost use Rattle.model.proofs.Forms.{Sound};
-ghost use Rattle.state_cache.specs.State.{raw, numbersIn, oneIf, signOr, Ready};
+ghost use Rattle.state_cache.specs.State.{raw, numbersIn, signOr, Ready};
 ghost use Rattle.state_cache.specs.Run.{outcome, run, accepted};
 ghost use Rattle.internal_storage.specs.Replies.{verdictOf, indexed, byNumbers, asked};
 ghost use Rattle.sync.specs.Requests.{plainBy, partBy, numbersBy, requestFormed};
@@ -64,12 +64,6 @@ fn larger(a: u64, b: u64) -> u64
     if a < b { b } else { a }
 }
 
-fn one_if(b: bool) -> u64
-    ensures { λ r. ⌜ r ≡ oneIf b ⌝ }
-{
-    if b { 1 } else { 0 }
-}
-
 // Whether the accepted index that a sync leaves, and the batch after it, pass the largest index. No sum is made that might not fit.
 fn past_last(idx: u64, n: usize, more: u64) -> bool
     requires { ⌜ more ≤ lastIndex ⌝ }
@@ -103,7 +97,7 @@ fn check_sync(index: IndexRecord, decided_idx: LogIndex, log_sync: LogSync, n: u
     let plain = is_plain(kind);
     let end = state_cache::inner::end(index);
     let last = state_cache::inner::accepted(index);
-    let one = one_if(stop);
+    let one = state_cache::inner::one_if(stop);
     let next = larger(decided_idx.0, decided.0);
     if state_cache::inner::stop_decided(index) {
         return Check::Refused(Refusal::Stopped(LogIndex(last)));

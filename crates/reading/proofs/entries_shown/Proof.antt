@@ -1,5 +1,4 @@
 -- `reading::entries_shown` meets its contract: each arm knows its reply.
-use Prim.Native.Nat.{ℕ}
 use mathlib.Core.Path.{sym, ap, _∙_}
 use denote.Ref.{now}
 use Rattle.reading.specs.Replies.{shownPart}
@@ -8,9 +7,6 @@ use Rattle.reading.proofs.Showing.{no-part}
 use borrow.Author.Needs.{needs}
 use Rattle.reading.proofs.entries_shown.Statement.{statement}
 use Rattle.reading.proofs.entries_shown.Tie as tie
-use Rattle.reading.proofs.entries_shown.Reads as reads
-use Rattle.reading.proofs.entries_shown.Lts as lts
-use Rattle.reading.proofs.entries_of.Reads as entries-of-reads
 
 enum-told : tie.Need-enum-told
 enum-told c = search needs

@@ -13,13 +13,6 @@ use Rattle.compaction.proofs.Shots.{upto-in, shot-refused, shot-idle, s
 use borrow.Author.Needs.{needs}
 use Rattle.compaction.proofs.inner.snapshot_at.Statement.{statement}
 use Rattle.compaction.proofs.inner.snapshot_at.Tie as tie
-use Rattle.compaction.proofs.inner.snapshot_at.Reads as reads
-use Rattle.compaction.proofs.inner.snapshot_at.Lts as lts
-use Rattle.compaction.proofs.inner.fold_over.Reads as fold-over-reads
-use Rattle.compaction.proofs.inner.move_to.Reads as move-to-reads
-use Rattle.compaction.proofs.inner.passes.Reads as passes-reads
-use Rattle.compaction.proofs.inner.past_decided.Reads as past-decided-reads
-use Rattle.compaction.proofs.inner.target_of.Reads as target-of-reads
 
 abbrev stateAt : tie.Start → Raw
 stateAt c = raw (c .args .index) (now (c .args .log)) (now (c .args .shot))

@@ -1,7 +1,7 @@
 -- `internal_storage::append::append_entry_with_batching` meets its contract: the append of its two words.
 use Prim.Native.Nat.{ℕ}
 use mathlib.Core.Path.{ap, _∙_}
-use mathlib.Core.List.{List, [], _∷_}
+use mathlib.Core.List.{[], _∷_}
 use denote.Ref.{now}
 use Rattle.entry.specs.Change.{entriesIn, wholeIn}
 use Rattle.model.specs.Calls.{append}

@@ -1,5 +1,5 @@
 -- `internal_storage::append::word_of` meets its contract: by what is said, and by whether a place is in form.
-use mathlib.Core.Path.{_≡_, sym, ap, _∙_}
+use mathlib.Core.Path.{sym, ap, _∙_}
 use mathlib.Core.Bool.{Bool}
 use borrow.Author.Tests.{lt-ltb, le-ltb}
 use Rattle.words.specs.If.{if_then_else_}

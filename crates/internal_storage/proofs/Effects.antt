@@ -22,7 +22,7 @@ use Rattle.entry.specs.declared.StopSign.{StopSign}
 use Rattle.entry.proofs.ChangeLaws.{changeOk}
 use Rattle.entry.proofs.GuardLaws.{passed}
 use Rattle.model.specs.Numbers.{Numbers, acceptedOf}
-use Rattle.model.specs.Log.{Log, numbersOf, given, waiting, withTail}
+use Rattle.model.specs.Log.{Log, numbersOf, waiting, withTail}
 use Rattle.model.specs.Append.{Flushed, appendGuards, appendStopGuards, setStopGuards, joined, batchWith, fills, appended, appendedNow, flushed, stopAppended, stopSet, appendReply, flushReply}
 use Rattle.model.specs.Calls.{Call, Reply, append, appendNow, flush, flushEntries, appendStop, setStop, setPromise, decide, malformed, further, effect, replyOf}
 use Rattle.model.proofs.Forms.{Sound}
@@ -31,14 +31,10 @@ use Rattle.state_cache.proofs.Small.{sound-small}
 use Rattle.state_cache.specs.Run.{Outcome, outcome, run}
 use Rattle.state_cache.specs.declared.IndexRecord.{IndexRecord}
 use Rattle.state_cache.specs.Fields.{withEntries, withStop, withDecided, withPromise}
-use Rattle.state_cache.proofs.Stands.{Stands, stands-of, numbers-are, log-formed}
+use Rattle.state_cache.proofs.Stands.{Stands, stands-of, numbers-are, log-formed, given-by}
 use Rattle.state_cache.proofs.Runs.{call-refused, call-stands}
 use Rattle.state_cache.proofs.Changes.{held-length, log-spliced}
 use Rattle.internal_storage.specs.Replies.{appended as appendedIs, Indexed, indexed, byNumbers, flushedAt, heldAt, batchedWith, allFlushed, flushSays, asked, indexOnly, withIndexOnly}
-
-given-by : {A : Type 0} (b : Bool) (x : A) → given (if b then some x else none) ≡ b
-given-by true x = refl
-given-by false x = refl
 
 sign-by : (b : Bool) (g : StopSign) → (b ≡ false → g ≡ noSign) → signOr (if b then some g else none) ≡ g
 sign-by true g e = refl

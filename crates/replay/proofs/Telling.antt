@@ -1,6 +1,6 @@
 -- Bytes put one after another, and the lines of what a read shows.
 use Prim.Native.Nat.{ℕ, _+_, _*_, _/_, _≤_}
-use mathlib.Core.Path.{_≡_, refl, sym, ap, _∙_}
+use mathlib.Core.Path.{_≡_, sym, ap, _∙_}
 use mathlib.Core.Bool.{Bool, true, false, _&&_}
 use mathlib.Core.List.{List, [], _++_, append-assoc}
 use mathlib.Core.Option.{Option, none, some}
@@ -12,11 +12,11 @@ use Rattle.words.proofs.CodedLaws.{entries-length}
 use Rattle.entry.specs.Limits.{width, largestBatch, logWords, snapshotWords}
 use Rattle.entry.specs.Guards.{Answer, refused, replied}
 use Rattle.entry.specs.Change.{entriesOf, changeCode}
-use Rattle.entry.specs.declared.StopSign.{StopSign}
 use Rattle.model.specs.Append.{Flushed}
 use Rattle.model.specs.Log.{given, freshLog}
 use Rattle.model.specs.Numbers.{acceptedOf}
 use Rattle.model.specs.Calls.{Query, QueryReply, query}
+use Rattle.state_cache.proofs.Stands.{given-by}
 use Rattle.state_cache.specs.State.{Raw, raw, rawOf, indexOf, oneIf}
 use Rattle.state_cache.specs.Run.{Outcome, outcome, run, freshCall, ofNumbers}
 use Rattle.state_cache.proofs.Unique.{apart}
@@ -36,10 +36,6 @@ two t₀ a b p q = q ∙ ap (λ (t : List ℕ). t ++ b) p ∙ append-assoc t₀ 
 pub one-few : (b : Bool) → oneIf b ≤ 1
 one-few true = omega arith
 one-few false = omega arith
-
-given-if : (b : Bool) (g : StopSign) → given (if b then some g else none) ≡ b
-given-if true g = refl
-given-if false g = refl
 
 -- a snapshot's line counts the keys that its marker names
 pub shot-line : (i keys : ℕ) (snapshot : List ℕ) → lineOf (Snapshot i keys) ≡ lineOf (Snapshot i (length (entriesOf keys snapshot)))
@@ -69,7 +65,7 @@ shown-is {t₁ = t₁} {t₂ = t₂} t₀ run index log snapshot entries m lines
     let en : lines ≡ n = el ∙ ap (λ (k : ℕ). k + length entries / width + oneIf (run .stop)) em
     ∙ ap (λ (ws : List ℕ). oneIf (given (markerSaid snapshot (run .marker))) + length ws / width + oneIf (run .stop)) e
     ∙ ap (λ (k : ℕ). oneIf (given (markerSaid snapshot (run .marker))) + k + oneIf (run .stop)) (sym (entries-length changeCode (length part-is / width) part-is))
-    ∙ ap (λ (b : Bool). oneIf (given (markerSaid snapshot (run .marker))) + length (entriesOf (length part-is / width) part-is) + oneIf b) (sym (given-if (run .stop) (index .stop))) in
+    ∙ ap (λ (b : Bool). oneIf (given (markerSaid snapshot (run .marker))) + length (entriesOf (length part-is / width) part-is) + oneIf b) (sym (given-by (run .stop) (index .stop))) in
     let head : List ℕ = lineOf (Run n) in
     let mark : List ℕ = markerText (markerSaid snapshot (run .marker)) in
     let body : List ℕ = entryLines (run .decided) (entriesOf (length part-is / width) part-is) in

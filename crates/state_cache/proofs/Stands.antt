@@ -139,7 +139,7 @@ sign-blank g e =
     fields a b n h l m p q s t u v = rw (p, q, s, t, u, v)
 
 -- what is held by a flag
-given-by : {A : Type 0} (b : Bool) (x : A) → given (if b then some x else none) ≡ b
+pub given-by : {A : Type 0} (b : Bool) (x : A) → given (if b then some x else none) ≡ b
 given-by true x = refl
 given-by false x = refl
 

@@ -3,7 +3,7 @@ use Prim.Native.Nat.{ℕ, _+_, _-_, _*_, _/_, _%_, _≤_, max}
 use mathlib.Core.Path.{_≡_, refl, sym, ap, ap₂, _∙_}
 use mathlib.Core.Bool.{Bool, true, false, _||_, not}
 use mathlib.Core.List.{List, [], _∷_, _++_, append-assoc}
-use mathlib.Core.Option.{none, some}
+use mathlib.Core.Option.{some}
 use native.Mathlib.Omega.{arith}
 use borrow.Author.Tests.{ltb-false, le-ltb, eqb-true}
 use lib.Dec.{ltb}
@@ -32,7 +32,7 @@ use Rattle.model.specs.Calls.{Call, sync, malformed, further, syncGuards, synce
 use Rattle.state_cache.specs.State.{Raw, raw, numbersIn, formed, logOf, Small}
 use Rattle.state_cache.specs.Run.{outcome, run}
 use Rattle.state_cache.specs.declared.IndexRecord.{IndexRecord}
-use Rattle.state_cache.proofs.Stands.{Stands, stands-of, numbers-are, log-formed}
+use Rattle.state_cache.proofs.Stands.{Stands, stands-of, numbers-are, log-formed, given-by}
 use Rattle.state_cache.proofs.Runs.{call-refused, call-stands}
 use Rattle.state_cache.proofs.Changes.{log-spliced}
 use Rattle.internal_storage.specs.Replies.{asked}
@@ -66,10 +66,6 @@ first-right (g ∷ gs) hs e = go (g .applies) e (λ q. first-right gs hs q)
         → (if t then refuses (g .number) (g .carried) else first (gs ++ hs)) ≡ first hs
     go true q ih = let z : _≡_ {A = ℕ} 0 1 = cc in absurd (omega arith)
     go false q ih = ih q
-
-given-by : {A : Type 0} (b : Bool) (a : A) → given (if b then some a else none) ≡ b
-given-by true a = refl
-given-by false a = refl
 
 plain-by : (k : SnapshotType) (t : List Change) → plain? (givenBy k t) ≡ plainBy k
 plain-by Plain t = refl

@@ -3,3 +3,4 @@ pub mod Amid
 pub mod Goings
 pub mod Lasts
 pub mod Turns
+pub mod Gathered

@@ -1,10 +1,10 @@
 -- The request of an operation list, read off its arguments.
-use Prim.Native.Nat.{ℕ}
+use Prim.Native.Nat.{ℕ, _+_}
 use mathlib.Core.Bool.{Bool, false, _&&_, _||_, not}
-use mathlib.Core.List.{List, map}
+use mathlib.Core.List.{List, [], _∷_, map}
 use mathlib.Core.Option.{Option, none, some}
-use lib.Dec.{leb, eqb}
-use lib.ListN.{length, take, replicate}
+use lib.Dec.{ltb, leb, eqb}
+use lib.ListN.{length, take, set, replicate}
 use Rattle.words.specs.If.{if_then_else_}
 use Rattle.entry.specs.Limits.{snapshotWords}
 use Rattle.entry.specs.Change.{entriesOf, entriesIn, wholeIn}
@@ -71,3 +71,16 @@ askedKeys given n = if given then n else 0
 
 abbrev pub askedWords : Bool → List ℕ → List ℕ
 askedWords given ws = if given then ws else replicate snapshotWords 0
+
+-- a lent slice of operations as a list by value: each is put in turn, and the ninth is counted and not kept
+abbrev pub noOps : OpList
+noOps = record { count = 0; ops = replicate 8 noOp }
+
+unfoldable pub putOf : OpList → CodeOp → OpList
+putOf l o =
+    if ltb (l .count) 8 then record { count = l .count + 1; ops = set (l .ops) (l .count) o }
+    else record { count = 9; ops = l .ops }
+
+unfoldable pub putAll : OpList → List CodeOp → OpList
+putAll l [] = l
+putAll l (o ∷ os) = putAll (putOf l o) os

@@ -3,6 +3,7 @@ use super::Lent;
 use super::Op;
 use super::OpKind;
 use super::OpList;
+use entry::Ballot;
 use entry::LogIndex;
 use entry::Refusal;
 use entry::StopSign;
@@ -22,7 +23,7 @@ ghost use Rattle.model.specs.Backend.{appendOnPrefix, trim, supplied, opsFormed
 ghost use Rattle.model.specs.Calls.{write};
 ghost use Rattle.state_cache.specs.State.{raw, numbersIn, Small};
 ghost use Rattle.state_cache.specs.Run.{outcome, run, settled};
-ghost use Rattle.backend.specs.Ops.{opOf, opsIn, lentOf, onlyEntries, askedSign, askedKeys, askedWords, incomingFormed, wholeList};
+ghost use Rattle.backend.specs.Ops.{opOf, opsIn, lentOf, onlyEntries, askedSign, askedKeys, askedWords, incomingFormed, wholeList, noOps, putOf, putAll};
 ghost use Rattle.backend.specs.Midst.{midstOf, Held, rejoined, roomGuards, Goes, Lends, Listed, Wrote};
 
 // Whether what an operation needs is lent.
@@ -413,4 +414,49 @@ pub fn write_at(
         answer: Settled::Done,
         index: next,
     }
+}
+
+fn empty() -> OpList
+    ensures { λ r. ⌜ r ≡ noOps ⌝ }
+{
+    let ballot = Ballot {
+        config_id: 0,
+        n: 0,
+        priority: 0,
+        pid: 0,
+    };
+    let o = Op {
+        kind: OpKind::AppendEntries,
+        index: LogIndex(0),
+        ballot,
+        given: false,
+    };
+    let ops = [o; 8];
+    OpList { count: 0, ops }
+}
+
+// One operation more; the ninth is counted and not kept.
+fn put(list: OpList, o: Op) -> OpList
+    ensures { λ r. ⌜ r ≡ putOf list o ⌝ }
+{
+    let n = list.count;
+    let mut ops = list.ops;
+    if n < 8 {
+        ops[n] = o;
+        return OpList { count: n + 1, ops };
+    }
+    OpList { count: 9, ops }
+}
+
+// The lent operations as a value: each is put in turn.
+pub fn gather(ops: &[Op]) -> OpList
+    ensures { λ r. ⌜ r ≡ putAll noOps (now (ops .entry)) ⌝ }
+{
+    let mut list = empty();
+    let mut i: usize = 0;
+    while i < ops.len() {
+        list = put(list, ops[i]);
+        i += 1;
+    }
+    list
 }

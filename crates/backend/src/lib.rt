@@ -8,11 +8,11 @@ use state_cache::IndexRecord;
 use state_cache::Settled;
 use state_cache::SettledAt;
 ghost use mathlib.Core.Path.{_≡_};
-ghost use mathlib.Core.Bool.{_&&_};
+ghost use mathlib.Core.List.{map};
 ghost use Rattle.model.specs.Calls.{write};
 ghost use Rattle.state_cache.specs.State.{raw};
 ghost use Rattle.state_cache.specs.Run.{outcome, run, settled};
-ghost use Rattle.backend.specs.Ops.{opsIn, lentOf, wholeList};
+ghost use Rattle.backend.specs.Ops.{opOf, opsIn, lentOf, wholeLent, wholeList};
 
 pub mod inner;
 
@@ -77,4 +77,20 @@ pub fn write_list(
         };
     }
     inner::write_at(index, log, snapshot, entries, incoming, lent, list)
+}
+
+// The same with the operations as a lent slice: they are gathered into a list.
+pub fn write_atomically(
+    index: IndexRecord,
+    log: &mut [u64],
+    snapshot: &mut [u64],
+    entries: &[u64],
+    incoming: &[u64],
+    lent: Lent,
+    ops: &[Op],
+) -> SettledAt
+    ensures { λ r. ⌜ outcome (settled (r .answer)) (raw (r .index) (now (log .exit)) (now (snapshot .exit))) ≡ run (write (lentOf lent (now (entries .entry)) (now (incoming .entry))) (map opOf (now (ops .entry)))) (wholeLent lent (now (entries .entry)) (now (incoming .entry))) (raw index (now (log .entry)) (now (snapshot .entry))) ⌝ }
+{
+    let list = inner::gather(ops);
+    write_list(index, log, snapshot, entries, incoming, lent, list)
 }

@@ -1,18 +1,17 @@
 -- A lent slice of operations gathered into a list by value: up to eight are the list's, and a ninth makes it no request.
 use Prim.Native.Nat.{ℕ, suc, _+_, _≤_, _<_}
 use mathlib.Core.Path.{_≡_, refl, sym, ap, ap₂, _∙_}
-use mathlib.Core.Bool.{Bool, true, false, _&&_, not}
+use mathlib.Core.Bool.{Bool, true, false, _&&_}
 use mathlib.Core.List.{List, [], _∷_, _++_, append-nil, append-assoc, map}
 use native.Mathlib.Omega.{arith}
 use native.Mathlib.Numerals.{add-one}
 use borrow.Author.Tests.{lt-ltb, le-ltb, le-leb, lt-leb}
-use lib.Dec.{ltb, leb}
-use lib.ListN.{length, take, set, replicate, length-append, length-set, length-map, length-replicate}
+use lib.Dec.{leb}
+use lib.ListN.{length, take, set, length-append, length-set, length-map, length-replicate}
 use lib.Seq.{take-suc-set}
-use Rattle.words.specs.If.{if_then_else_}
 use Rattle.words.proofs.Tests.{reach, reached, short}
 use Rattle.entry.specs.Guards.{refused}
-use Rattle.model.specs.Backend.{Op, Lent, opsFormed}
+use Rattle.model.specs.Backend.{Lent, opsFormed}
 use Rattle.model.specs.Calls.{write, malformed}
 use Rattle.state_cache.specs.State.{Raw, formed}
 use Rattle.state_cache.specs.Run.{outcome, run}

@@ -2,7 +2,7 @@
 use Prim.Native.Nat.{ℕ, _+_, _-_, _*_, _/_, _≤_, _<_, min, max}
 use mathlib.Core.Path.{_≡_, refl, sym, ap, ap₂, _∙_}
 use mathlib.Core.Bool.{Bool, true, false, _&&_, _||_, not, true≢false}
-use mathlib.Core.List.{List, [], _∷_, _++_}
+use mathlib.Core.List.{List, [], _++_}
 use mathlib.Core.Option.{Option, none, some}
 use native.Mathlib.Omega.{arith}
 use borrow.Author.Tests.{lt-ltb, le-ltb}
@@ -13,19 +13,19 @@ use Rattle.words.specs.If.{if_then_else_}
 use Rattle.words.specs.All.{allOf}
 use Rattle.words.specs.Words.{laid, spliced}
 use Rattle.words.specs.Coded.{wordsOf, entriesAt}
-use Rattle.words.proofs.Tests.{and-left, and-right}
+use Rattle.words.proofs.Tests.{and-right}
 use Rattle.words.proofs.CodedLaws.{entries-length}
 use Rattle.entry.specs.Limits.{width, entryRoom, snapshotWords}
-use Rattle.entry.specs.Change.{Change, changeCode, entriesOf, entriesIn, sliceFormed, stored}
+use Rattle.entry.specs.Change.{Change, changeCode, entriesOf, entriesIn, sliceFormed}
 use Rattle.entry.specs.Sign.{signFormed, signBlank, blank, noSign}
-use Rattle.entry.specs.Guards.{Guard, guard, Verdict, passes, refuses, first, Answer, refused, replied, settle}
+use Rattle.entry.specs.Guards.{Guard, Verdict, passes, refuses, first, Answer, refused, replied, settle}
 use Rattle.entry.specs.Refusals.{numberOf, carriedOf}
 use Rattle.entry.specs.declared.Ballot.{Ballot}
 use Rattle.entry.specs.declared.LogIndex.{LogIndex}
 use Rattle.entry.specs.declared.StopSign.{StopSign}
 use Rattle.entry.specs.declared.Refusal.{Refusal}
 use Rattle.entry.specs.declared.Refusal.the-variants.{NoRoom, OutsideRun}
-use Rattle.entry.proofs.GuardLaws.{Finds, clear-all, passing, stopping, found, first-goes-on}
+use Rattle.entry.proofs.GuardLaws.{clear-all, passing, stopping, found, first-goes-on}
 use Rattle.entry.proofs.SliceLaws.{laid-of, stored-laid}
 use Rattle.snapshot.specs.Folds.{rising}
 use Rattle.snapshot.specs.Calls.{snapshotFormed}
@@ -35,7 +35,6 @@ use Rattle.model.specs.Numbers.{Numbers, endOf}
 use Rattle.model.specs.Log.{given, ifGiven, retaining, withRun as logWithRun}
 use Rattle.model.specs.Backend.{Op, appendEntries, appendOnPrefix, setDecided, setCompacted, trim, setPromise, setRound, setSign, setSnapshot, Lent, supplied, Midst, step, stepGuards}
 use Rattle.state_cache.specs.State.{Raw, raw, signHeld, logOf}
-use Rattle.state_cache.specs.Run.{settled}
 use Rattle.state_cache.specs.Fields.{withEntries, withStop, withDecided, withPromise, withRun}
 use Rattle.state_cache.specs.declared.IndexRecord.{IndexRecord}
 use Rattle.state_cache.specs.declared.Settled.{Settled}

@@ -2,36 +2,31 @@
 -- well formed exactly if its log is.
 use Prim.Native.Nat.{ℕ, _+_, _≤_, _<_}
 use mathlib.Core.Path.{_≡_, refl, sym, ap, _∙_}
-use mathlib.Core.Bool.{Bool, true, false, _&&_, _||_, not, true≢false}
-use mathlib.Core.List.{List, []}
-use mathlib.Core.Option.{some, none}
+use mathlib.Core.Bool.{Bool, true, false, _&&_, not}
+use mathlib.Core.List.{List}
 use native.Mathlib.Omega.{arith}
 use borrow.Author.Tests.{lt-ltb, le-ltb, eq-eqb, not-false}
-use lib.Dec.{ltb, eqb}
+use lib.Dec.{eqb}
 use lib.ListN.{length}
-use Rattle.words.specs.If.{if_then_else_}
 use Rattle.words.proofs.Tests.{and-left, and-right, both-true}
 use Rattle.words.proofs.CodedLaws.{entries-length}
 use Rattle.entry.specs.Limits.{lastIndex, entryRoom, logWords, snapshotWords}
-use Rattle.entry.specs.Change.{Change, changeCode, entriesOf, stored, storedIn, Laid}
+use Rattle.entry.specs.Change.{Change, changeCode, entriesOf, storedIn, Laid}
 use Rattle.entry.specs.Guards.{Guard, Verdict, passes, refuses, first, Answer, refused, replied, settle}
 use Rattle.entry.proofs.GuardLaws.{Finds, clear-all, passing, stopping, found, passed}
 use Rattle.entry.proofs.SliceLaws.{laid-stored, stored-laid}
 use Rattle.snapshot.specs.Folds.{rising}
 use Rattle.snapshot.specs.Calls.{snapshotFormed}
 use Rattle.model.specs.Numbers.{Numbers, endOf, acceptedOf, numbersFormed}
-use Rattle.model.specs.Log.{given, numbersOf, wellFormed}
+use Rattle.model.specs.Log.{numbersOf, wellFormed}
 use Rattle.model.specs.Backend.{lastGuards}
-use Rattle.state_cache.specs.State.{Raw, raw, numbersIn, Small, signHeld, shotHeld, formed, logOf}
+use Rattle.state_cache.specs.State.{Raw, numbersIn, signHeld, shotHeld, formed, logOf}
 use Rattle.state_cache.proofs.Small.{accepted-le}
 use Rattle.state_cache.proofs.Stands.{log-formed}
 use Rattle.backend.specs.Midst.{midstOf, Held}
+use Rattle.backend.proofs.Requests.{given-by}
 
 -- the numbers of the log that a record and words stand for are the record's
-given-by : {A : Type 0} (b : Bool) (x : A) → given (if b then some x else none) ≡ b
-given-by true x = refl
-given-by false x = refl
-
 pub numbers-of : (r : Raw) → numbersOf (logOf r) ≡ numbersIn (r .index)
 unfolding logOf
 numbers-of r = fields _ _ _ (entries-length changeCode _ _) (entries-length changeCode _ _) (given-by (r .index .«stop_held») (r .index .stop))
@@ -92,9 +87,6 @@ module _ (n : Numbers) (start : ℕ) (r : Raw) (h : Held r) where
   pub compacted-past : lastIndex < r .index .compacted .0 → lastIndex < acceptedOf (numbersIn (r .index)) + r .index .batched
   unfolding acceptedOf endOf
   compacted-past over = omega arith
-
-  pub last-small : r .index .compacted .0 ≤ lastIndex → Small (numbersIn (r .index))
-  last-small low = record { few = omega (arith, h .log .fits); waiting = omega (arith, h .log .fits); low = low }
 
   pub last-fits : r .index .compacted .0 ≤ lastIndex → acceptedOf (numbersIn (r .index)) + r .index .batched ≤ lastIndex + entryRoom + 1
   unfolding endOf

@@ -37,7 +37,7 @@ use Rattle.backend.specs.declared.Lent.{Lent as CodeLent}
 use Rattle.backend.specs.Ops.{ofKind, opOf, noOp, opsIn, lentOf, incomingFormed, wholeLent, wholeList}
 use Rattle.backend.specs.Midst.{Lends, Listed}
 
-given-by : {A : Type 0} (b : Bool) (x : A) → given (if b then some x else none) ≡ b
+pub given-by : {A : Type 0} (b : Bool) (x : A) → given (if b then some x else none) ≡ b
 given-by true x = refl
 given-by false x = refl
 

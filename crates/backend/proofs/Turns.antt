@@ -25,7 +25,7 @@ use Rattle.state_cache.specs.Run.{outcome, run, settled}
 use Rattle.state_cache.specs.declared.IndexRecord.{IndexRecord}
 use Rattle.state_cache.specs.declared.Settled.{Settled}
 use Rattle.state_cache.specs.declared.Settled.the-variants.{Done, Refused}
-use Rattle.state_cache.proofs.Stands.{Stands, stands-of}
+use Rattle.state_cache.proofs.Stands.{stands-of}
 use Rattle.state_cache.proofs.Runs.{call-refused, call-stands}
 use Rattle.backend.specs.declared.Op.{Op as CodeOp}
 use Rattle.backend.specs.declared.inner.Stepped.{Stepped}

@@ -1,13 +1,10 @@
 -- `backend::inner::judge_last` meets its contract: refusal 9, with no sum that could wrap, then 12 both ways.
-use Prim.Native.Nat.{_+_, _≤_}
-use mathlib.Core.Path.{_≡_, sym, _∙_}
+use mathlib.Core.Path.{sym, _∙_}
 use native.Mathlib.Omega.{arith}
 use borrow.Author.Tests.{ne-eqb, not-true, not-false}
 use denote.Ref.{now}
-use Rattle.entry.specs.Limits.{lastIndex}
-use Rattle.model.specs.Numbers.{acceptedOf}
 use Rattle.state_cache.specs.State.{Raw, raw, numbersIn}
-use Rattle.backend.proofs.Lasts.{compacted-past, last-small, last-fits, last-past, last-apart, last-unformed, last-stands}
+use Rattle.backend.proofs.Lasts.{compacted-past, last-fits, last-past, last-apart, last-unformed, last-stands}
 use borrow.Author.Needs.{needs}
 use Rattle.backend.proofs.inner.judge_last.Statement.{statement}
 use Rattle.backend.proofs.inner.judge_last.Tie as tie

@@ -1,5 +1,4 @@
 -- `backend::inner::put_on_prefix` meets its contract: refusal 7 on either side of the run, then as at a place of the run.
-use native.Mathlib.Omega.{arith}
 use denote.Ref.{now}
 use Rattle.state_cache.specs.State.{Raw, raw, numbersIn}
 use Rattle.backend.proofs.Goings.{prefix-below, prefix-above, prefix-goes}

@@ -1,5 +1,5 @@
 -- `backend::inner::request_formed` meets its contract: over eight operations, or all tests joined.
-use mathlib.Core.Path.{_≡_, sym, _∙_}
+use mathlib.Core.Path.{_≡_}
 use lib.ListN.{length, length-map}
 use denote.Ref.{now}
 use Rattle.backend.proofs.Requests.{too-many, request-is}

@@ -1,11 +1,11 @@
 -- `backend::inner::run_ops` meets its contract: what is left of the list, from the state so far, comes to what the whole list does.
 use Prim.Native.Nat.{_-_, _≤_}
-use mathlib.Core.Path.{_≡_, sym, ap, _∙_}
-use mathlib.Core.List.{List, map}
+use mathlib.Core.Path.{_≡_, sym, _∙_}
+use mathlib.Core.List.{map}
 use native.Mathlib.Omega.{arith}
 use denote.Ref.{now}
 use lib.ListN.{length, take, drop, length-map}
-use Rattle.model.specs.Backend.{Lent, Op}
+use Rattle.model.specs.Backend.{Lent}
 use Rattle.state_cache.specs.State.{Raw, raw, numbersIn}
 use Rattle.state_cache.proofs.Small.{sound-small}
 use Rattle.backend.specs.Ops.{opOf, opsIn, lentOf}

@@ -1,5 +1,5 @@
 -- `backend::inner::write_at` meets its contract: the list runs on copies, which are written back where it stands.
-use mathlib.Core.Path.{_≡_, sym, ap, ap₂, _∙_}
+use mathlib.Core.Path.{sym, ap, ap₂, _∙_}
 use mathlib.Core.List.{List}
 use Prim.Native.Nat.{ℕ}
 use denote.Ref.{now}

@@ -1,0 +1,305 @@
+-- What each operation comes to, from the record and the words that the code leaves.
+use Prim.Native.Nat.{ℕ, _+_, _-_, _*_, _/_, _≤_, _<_, min, max}
+use mathlib.Core.Path.{_≡_, refl, sym, ap, ap₂, _∙_}
+use mathlib.Core.Bool.{Bool, true, false, _&&_, _||_, not, true≢false}
+use mathlib.Core.List.{List, [], _++_}
+use mathlib.Core.Option.{Option, none, some}
+use native.Mathlib.Omega.{arith}
+use borrow.Author.Tests.{lt-ltb, le-ltb}
+use lib.Dec.{ltb, eqb}
+use lib.ListN.{length, take, drop, replicate}
+use lib.Seq.{take-all}
+use Rattle.words.specs.If.{if_then_else_}
+use Rattle.words.specs.All.{allOf}
+use Rattle.words.specs.Words.{laid, spliced}
+use Rattle.words.specs.Coded.{wordsOf, entriesAt}
+use Rattle.words.proofs.Tests.{and-right}
+use Rattle.words.proofs.CodedLaws.{entries-length}
+use Rattle.entry.specs.Limits.{width, entryRoom, snapshotWords}
+use Rattle.entry.specs.Change.{Change, changeCode, entriesOf, entriesIn, sliceFormed}
+use Rattle.entry.specs.Sign.{signFormed, signBlank, blank, noSign}
+use Rattle.entry.specs.Guards.{Guard, Verdict, passes, refuses, first, Answer, refused, replied, settle}
+use Rattle.entry.specs.Refusals.{numberOf, carriedOf}
+use Rattle.entry.specs.declared.Ballot.{Ballot}
+use Rattle.entry.specs.declared.LogIndex.{LogIndex}
+use Rattle.entry.specs.declared.StopSign.{StopSign}
+use Rattle.entry.specs.declared.Refusal.{Refusal}
+use Rattle.entry.specs.declared.Refusal.the-variants.{NoRoom, OutsideRun}
+use Rattle.entry.proofs.GuardLaws.{clear-all, passing, stopping, found, first-goes-on}
+use Rattle.entry.proofs.SliceLaws.{laid-of, stored-laid}
+use Rattle.snapshot.specs.Folds.{rising}
+use Rattle.snapshot.specs.Calls.{snapshotFormed}
+use Rattle.snapshot.specs.Inner.{Holds}
+use Rattle.snapshot.proofs.Calling.{snapshot-holds}
+use Rattle.model.specs.Numbers.{Numbers, endOf}
+use Rattle.model.specs.Log.{given, ifGiven, retaining, withRun as logWithRun}
+use Rattle.model.specs.Backend.{Op, appendEntries, appendOnPrefix, setDecided, setCompacted, trim, setPromise, setRound, setSign, setSnapshot, Lent, supplied, Midst, step, stepGuards}
+use Rattle.state_cache.specs.State.{Raw, raw, signHeld, logOf}
+use Rattle.state_cache.specs.Fields.{withEntries, withStop, withDecided, withPromise, withRun}
+use Rattle.state_cache.specs.declared.IndexRecord.{IndexRecord}
+use Rattle.state_cache.specs.declared.Settled.{Settled}
+use Rattle.state_cache.specs.declared.Settled.the-variants.{Done, Refused}
+use Rattle.backend.specs.declared.Op.{Op as CodeOp}
+use Rattle.backend.specs.declared.OpKind.{OpKind}
+use Rattle.backend.specs.declared.OpKind.the-variants.{SetStopsign, SetSnapshot}
+use Rattle.backend.specs.declared.Lent.{Lent as CodeLent}
+use Rattle.backend.specs.declared.inner.Stepped.{Stepped}
+use Rattle.backend.specs.Ops.{ofKind, opOf, lentOf, onlyEntries, incomingFormed, askedSign, askedKeys, askedWords}
+use Rattle.backend.specs.Midst.{midstOf, Held, rejoined, roomGuards, Goes, Lends}
+use Rattle.backend.proofs.Amid.{kept-count, batch-count, put-log, put-held, trim-log, trim-held}
+
+abbrev stepped : Settled → ℕ → IndexRecord → Stepped
+stepped a start x = record { answer = a; start = start; index = x }
+
+no-reply : (n k : ℕ) → _≡_ {A = Answer (Unit {0})} (refused n k) (replied tt) → ⊥
+no-reply n k e = let z : _≡_ {A = ℕ} 0 1 = cc in omega arith
+
+-- refused, or done with nothing to refuse
+module _ (gs : List Guard) (next : Midst) (start : ℕ) (x : IndexRecord) (log shot : List ℕ) where
+  goes-refused : (f : Refusal) → refuses (numberOf f) (carriedOf f) ≡ first gs → Goes gs next (stepped (Refused f) start x) log shot
+  goes-refused f e = record { verdict = ap (λ (v : Verdict). settle v tt) e; after = λ q. absurd (no-reply _ _ q) }
+
+  goes-done : passes ≡ first gs → midstOf start (raw x log shot) ≡ next → Held (raw x log shot) → Goes gs next (stepped Done start x) log shot
+  goes-done e p h = record { verdict = ap (λ (v : Verdict). settle v tt) e; after = λ q. (p, h) }
+
+-- the same by other names
+goes-as : (gs gs′ : List Guard) (next next′ : Midst) (s : Stepped) (log shot : List ℕ) → first gs ≡ first gs′ → next ≡ next′ → Goes gs next s log shot → Goes gs′ next′ s log shot
+goes-as gs gs′ next next′ s log shot e p g = record {
+  verdict = g .verdict ∙ ap (λ (v : Verdict). settle v tt) e;
+  after = λ q. (g .after q .0 ∙ p, g .after q .1);
+}
+
+pub goes-of : (n : Numbers) (l : Lent) (m : Midst) (o : CodeOp) (k : OpKind) (s : Stepped) (log shot : List ℕ) → o .kind ≡ k
+    → Goes (stepGuards n l (ofKind k o) m) (step l (ofKind k o) m) s log shot → Goes (stepGuards n l (opOf o) m) (step l (opOf o) m) s log shot
+goes-of n l m o k s log shot e g =
+    let p : ofKind k o ≡ opOf o = ap (λ (j : OpKind). ofKind j o) (sym e) in
+    goes-as _ _ _ _ s log shot (ap (λ (q : Op). first (stepGuards n l q m)) p) (ap (λ (q : Op). step l q m) p) g
+
+-- no stop-sign, and no snapshot
+blank-none : signBlank noSign ≡ true
+unfolding signBlank blank allOf
+blank-none = refl
+
+empty-holds : Holds snapshotWords 0 (replicate snapshotWords 0)
+unfolding laid wordsOf rising allOf entriesAt
+empty-holds = record { laid = laid-of snapshotWords 0 (replicate snapshotWords 0) (stored-laid snapshotWords [] (omega arith) refl); rises = refl }
+
+module _ (start : ℕ) (r : Raw) (h : Held r) where
+  abbrev m : Midst
+  m = midstOf start r
+
+  -- ---- entries put into the run
+
+  module _ (at : ℕ) (entries : List ℕ) where
+    abbrev es : List Change
+    es = entriesIn entries
+
+    counted : length es ≡ length entries / width
+    counted = entries-length changeCode (length entries / width) entries
+
+    abbrev wanted : ℕ
+    wanted = at + length (logOf r .tail .batched) + length es
+
+    room-is : wanted ≡ at + r .index .batched + length entries / width
+    unfolding logOf
+    room-is = omega (arith, counted, batch-count r h)
+
+    pub put-refused : (words : List ℕ) → entryRoom < at + r .index .batched + length entries / width
+        → Goes (roomGuards at (length es) m) (rejoined at es m) (stepped (Refused NoRoom) start (r .index)) words (r .snapshot)
+    put-refused words over =
+        goes-refused (roomGuards at (length es) m) (rejoined at es m) start (r .index) words (r .snapshot) NoRoom
+        (found {gs = roomGuards at (length es) m} {v = refuses 1 0} (stopping (lt-ltb entryRoom wanted (omega (arith, room-is, over))) refl))
+
+    pub put-goes : (words : List ℕ) → at + r .index .batched + length entries / width ≤ entryRoom → at ≤ r .index .retained → sliceFormed entries ≡ true
+        → words ≡ laid (length (r .log)) (spliced (at * width) ((r .index .retained - at) * width) entries (take ((r .index .retained + r .index .batched) * width) (r .log)))
+        → Goes (roomGuards at (length es) m) (rejoined at es m) (stepped Done start (withEntries (at + length entries / width) (r .index .batched) (r .index))) words (r .snapshot)
+    put-goes words fits inside whole e =
+        let k : at + length entries / width ≡ at + length es = omega (arith, counted) in
+        goes-done (roomGuards at (length es) m) (rejoined at es m) start (withEntries (at + length entries / width) (r .index .batched) (r .index)) words (r .snapshot)
+        (found {gs = roomGuards at (length es) m} {v = passes} (passing (le-ltb entryRoom wanted (omega (arith, room-is, fits))) clear-all))
+        (ap (λ (g : _). record { start = start; log = g }) (put-log r h at entries words inside whole e _ k (omega (arith, fits))))
+        (put-held r h at entries words inside whole e _ k (omega (arith, fits)))
+
+  -- at an index of the run: refusal 7 first
+  module _ (n : Numbers) (i : ℕ) (entries words : List ℕ) where
+    abbrev l : Lent
+    l = onlyEntries entries
+
+    outside : (end : ℕ) → end ≡ endOf n → (ltb i start || ltb (start + length (logOf r .run .retained)) i) ≡ true
+        → Goes (stepGuards n l (appendOnPrefix i) m) (step l (appendOnPrefix i) m) (stepped (Refused (OutsideRun (record { 0 = end }))) start (r .index)) words (r .snapshot)
+    unfolding stepGuards
+    outside end p e =
+        goes-refused (stepGuards n l (appendOnPrefix i) m) (step l (appendOnPrefix i) m) start (r .index) words (r .snapshot) (OutsideRun (record { 0 = end }))
+        (found {gs = stepGuards n l (appendOnPrefix i) m} {v = refuses 7 end} (stopping e p))
+
+    pub prefix-below : (end : ℕ) → end ≡ endOf n → i < start
+        → Goes (stepGuards n l (appendOnPrefix i) m) (step l (appendOnPrefix i) m) (stepped (Refused (OutsideRun (record { 0 = end }))) start (r .index)) words (r .snapshot)
+    prefix-below end p low = outside end p (rw (lt-ltb i start low))
+
+    pub prefix-above : (end : ℕ) → end ≡ endOf n → start ≤ i → r .index .retained < i - start
+        → Goes (stepGuards n l (appendOnPrefix i) m) (step l (appendOnPrefix i) m) (stepped (Refused (OutsideRun (record { 0 = end }))) start (r .index)) words (r .snapshot)
+    unfolding logOf
+    prefix-above end p low high =
+        outside end p (rw (le-ltb i start low, lt-ltb (start + length (logOf r .run .retained)) i (omega (arith, kept-count r h))))
+
+    pub prefix-goes : (s : Stepped) → start ≤ i → i - start ≤ r .index .retained → Goes (roomGuards (i - start) (length (entriesIn entries)) m) (rejoined (i - start) (entriesIn entries) m) s words (r .snapshot)
+        → Goes (stepGuards n l (appendOnPrefix i) m) (step l (appendOnPrefix i) m) s words (r .snapshot)
+    unfolding stepGuards step logOf
+    prefix-goes s low high g =
+        goes-as _ _ _ _ s words (r .snapshot)
+        (sym (first-goes-on 7 (endOf n) (ltb i start || ltb (start + length (logOf r .run .retained)) i) (roomGuards (i - start) (length (entriesIn entries)) m)
+        (rw (le-ltb i start low, le-ltb (start + length (logOf r .run .retained)) i (omega (arith, kept-count r h))))))
+        refl g
+
+  -- ---- entries dropped
+
+  pub trim-idle : (i : ℕ) → i ≤ start → Goes [] (step (onlyEntries []) (trim i) m) (stepped Done start (r .index)) (r .log) (r .snapshot)
+  unfolding step first
+  trim-idle i low =
+      goes-done [] (step (onlyEntries []) (trim i) m) start (r .index) (r .log) (r .snapshot) refl
+      (same (max start i) (i - start) (omega arith) (omega arith)) h
+    where
+      same : (a k : ℕ) → a ≡ start → k ≡ 0
+          → m ≡ record { start = a; log = logWithRun (retaining (drop k (logOf r .run .retained)) (logOf r .run)) (logOf r) }
+      same a k p q = rw (p, q)
+
+  pub trim-goes : (i gone : ℕ) (words : List ℕ) → start < i → gone ≡ min (i - start) (r .index .retained)
+      → words ≡ laid (length (r .log)) (spliced 0 (gone * width) [] (take ((r .index .retained + r .index .batched) * width) (r .log)))
+      → Goes [] (step (onlyEntries []) (trim i) m) (stepped Done i (withEntries (r .index .retained - gone) (r .index .batched) (r .index))) words (r .snapshot)
+  unfolding step first
+  trim-goes i gone words up least e =
+      let p : i ≡ max start i = omega arith in
+      goes-done [] (step (onlyEntries []) (trim i) m) i (withEntries (r .index .retained - gone) (r .index .batched) (r .index)) words (r .snapshot) refl
+      (ap₂ (λ (a : ℕ) (g : _). record { start = a; log = g }) p (trim-log r h (i - start) gone words least e))
+      (trim-held r h (i - start) gone words least e)
+
+  -- ---- the operations
+
+  module _ (n : Numbers) (l : Lent) where
+    pub append-goes : (s : Stepped) (words : List ℕ) → Goes (roomGuards (r .index .retained) (length (l .entries)) m) (rejoined (r .index .retained) (l .entries) m) s words (r .snapshot)
+        → Goes (stepGuards n l appendEntries m) (step l appendEntries m) s words (r .snapshot)
+    unfolding stepGuards step logOf
+    append-goes s words g =
+        goes-as _ _ _ _ s words (r .snapshot)
+        (ap (λ (k : ℕ). first (roomGuards k (length (l .entries)) m)) (sym (kept-count r h)))
+        (ap (λ (run : List Change). record { start = start; log = logWithRun (retaining (run ++ l .entries) (logOf r .run)) (logOf r) }) (take-all (r .index .retained) (logOf r .run .retained) (omega (arith, kept-count r h))))
+        g
+
+    pub on-prefix-goes : (entries : List ℕ) (i : ℕ) (s : Stepped) (words : List ℕ) → l .entries ≡ entriesIn entries
+        → Goes (stepGuards n (onlyEntries entries) (appendOnPrefix i) m) (step (onlyEntries entries) (appendOnPrefix i) m) s words (r .snapshot)
+        → Goes (stepGuards n l (appendOnPrefix i) m) (step l (appendOnPrefix i) m) s words (r .snapshot)
+    unfolding stepGuards step
+    on-prefix-goes entries i s words e g = rw e g
+
+    pub promise-goes : (b : Ballot) → Goes (stepGuards n l (setPromise b) m) (step l (setPromise b) m) (stepped Done start (withPromise b (r .index))) (r .log) (r .snapshot)
+    unfolding stepGuards step logOf first signHeld
+    promise-goes b =
+        goes-done [] (step l (setPromise b) m) start (withPromise b (r .index)) (r .log) (r .snapshot) refl refl
+        (record { log = h .log; snapshot = h .snapshot; none-held = h .none-held; sign = h .sign })
+
+    pub decided-goes : (i : LogIndex) → Goes (stepGuards n l (setDecided (i .0)) m) (step l (setDecided (i .0)) m) (stepped Done start (withDecided i (r .index))) (r .log) (r .snapshot)
+    unfolding stepGuards step logOf first signHeld
+    decided-goes i =
+        goes-done [] (step l (setDecided (i .0)) m) start (withDecided i (r .index)) (r .log) (r .snapshot) refl refl
+        (record { log = h .log; snapshot = h .snapshot; none-held = h .none-held; sign = h .sign })
+
+    abbrev withRound : Ballot → IndexRecord → IndexRecord
+    withRound b x = record {
+      «batch_size» = x .«batch_size»;
+      retained = x .retained;
+      batched = x .batched;
+      compacted = x .compacted;
+      decided = x .decided;
+      promise = x .promise;
+      «accepted_round» = b;
+      «snapshot_held» = x .«snapshot_held»;
+      keys = x .keys;
+      «stop_held» = x .«stop_held»;
+      stop = x .stop;
+    }
+
+    pub round-goes : (b : Ballot) → Goes (stepGuards n l (setRound b) m) (step l (setRound b) m) (stepped Done start (withRound b (r .index))) (r .log) (r .snapshot)
+    unfolding stepGuards step logOf first signHeld
+    round-goes b =
+        goes-done [] (step l (setRound b) m) start (withRound b (r .index)) (r .log) (r .snapshot) refl refl
+        (record { log = h .log; snapshot = h .snapshot; none-held = h .none-held; sign = h .sign })
+
+    pub compacted-goes : (i : LogIndex)
+        → Goes (stepGuards n l (setCompacted (i .0)) m) (step l (setCompacted (i .0)) m) (stepped Done start (withRun i (r .index .retained) (r .index .«snapshot_held») (r .index .keys) (r .index))) (r .log) (r .snapshot)
+    unfolding stepGuards step logOf first signHeld
+    compacted-goes i =
+        goes-done [] (step l (setCompacted (i .0)) m) start (withRun i (r .index .retained) (r .index .«snapshot_held») (r .index .keys) (r .index)) (r .log) (r .snapshot) refl refl
+        (record { log = h .log; snapshot = h .snapshot; none-held = h .none-held; sign = h .sign })
+
+    pub trimmed-goes : (i : ℕ) (s : Stepped) (words : List ℕ) → Goes [] (step (onlyEntries []) (trim i) m) s words (r .snapshot)
+        → Goes (stepGuards n l (trim i) m) (step l (trim i) m) s words (r .snapshot)
+    unfolding stepGuards step
+    trimmed-goes i s words g = g
+
+  -- what is lent is set where one is given, since the operation is supplied
+  module _ (n : Numbers) (b : CodeLent) (entries incoming : List ℕ) (f : Lends b entries incoming) where
+    abbrev lent : Lent
+    lent = lentOf b entries incoming
+
+    sign-goes : (t : Bool) → supplied lent (setSign t) ≡ true
+        → Goes (stepGuards n lent (setSign t) m) (step lent (setSign t) m) (stepped Done start (withStop t (askedSign t (b .stop)) (r .index))) (r .log) (r .snapshot)
+    unfolding stepGuards step first
+    sign-goes t e =
+        goes-done [] (step lent (setSign t) m) start (withStop t (askedSign t (b .stop)) (r .index)) (r .log) (r .snapshot) refl
+        (unfold logOf in ap (λ (g : Option StopSign). record { start = start; log = record { run = logOf r .run; tail = record { batched = logOf r .tail .batched; size = logOf r .tail .size; sign = g }; marks = logOf r .marks } })
+        (set t (b .«stop_lent») e))
+        (record { log = h .log; snapshot = h .snapshot; none-held = h .none-held; sign = unfold signHeld in fine t (b .«stop_lent») e (f .sign) })
+      where
+        set : (t u : Bool) → (not t || given (if u then some (b .stop) else none)) ≡ true
+            → (if t then some (askedSign t (b .stop)) else none) ≡ (if t then (if u then some (b .stop) else none) else none)
+        set true true e = refl
+        set true false e = absurd (true≢false (sym e))
+        set false u e = refl
+
+        fine : (t u : Bool) → (not t || given (if u then some (b .stop) else none)) ≡ true → ifGiven signFormed (if u then some (b .stop) else none) ≡ true
+            → ((t && signFormed (askedSign t (b .stop))) || (not t && signBlank (askedSign t (b .stop)))) ≡ true
+        fine true true e q = rw q
+        fine true false e q = absurd (true≢false (sym e))
+        fine false u e q = blank-none
+
+    shot-goes : (t : Bool) → supplied lent (setSnapshot t) ≡ true
+        → Goes (stepGuards n lent (setSnapshot t) m) (step lent (setSnapshot t) m) (stepped Done start (withRun (r .index .compacted) (r .index .retained) t (askedKeys t (b .keys)) (r .index))) (r .log) (askedWords t incoming)
+    unfolding stepGuards step first
+    shot-goes t e =
+        goes-done [] (step lent (setSnapshot t) m) start (withRun (r .index .compacted) (r .index .retained) t (askedKeys t (b .keys)) (r .index)) (r .log) (askedWords t incoming) refl
+        (unfold logOf in ap (λ (g : Option (List Change)). record { start = start; log = record { run = record { compacted = logOf r .run .compacted; retained = logOf r .run .retained; held = g }; tail = logOf r .tail; marks = logOf r .marks } })
+        (set t (b .«snapshot_lent») e))
+        (record { log = h .log; snapshot = fine t (b .«snapshot_lent») e (unfold incomingFormed in and-right (eqb (length incoming) snapshotWords) (not (b .«snapshot_lent») || snapshotFormed (b .keys) incoming) (f .shot)); none-held = kept t; sign = unfold signHeld in h .sign })
+      where
+        set : (t u : Bool) → (not t || given (if u then some (entriesOf (b .keys) incoming) else none)) ≡ true
+            → (if t then some (entriesOf (askedKeys t (b .keys)) (askedWords t incoming)) else none) ≡ (if t then (if u then some (entriesOf (b .keys) incoming) else none) else none)
+        set true true e = refl
+        set true false e = absurd (true≢false (sym e))
+        set false u e = refl
+
+        fine : (t u : Bool) → (not t || given (if u then some (entriesOf (b .keys) incoming) else none)) ≡ true → (not u || snapshotFormed (b .keys) incoming) ≡ true
+            → Holds snapshotWords (askedKeys t (b .keys)) (askedWords t incoming)
+        fine true true e q = snapshot-holds (b .keys) incoming q
+        fine true false e q = absurd (true≢false (sym e))
+        fine false u e q = empty-holds
+
+        kept : (t : Bool) → (t || eqb (askedKeys t (b .keys)) 0) ≡ true
+        kept true = refl
+        kept false = refl
+
+    -- as the code leaves them
+    module _ (o : CodeOp) where
+      is-supplied : (k : OpKind) → o .kind ≡ k → supplied lent (opOf o) ≡ true → supplied lent (ofKind k o) ≡ true
+      is-supplied k e q = ap (λ (j : OpKind). supplied lent (ofKind j o)) (sym e) ∙ q
+
+      pub sign-done : o .kind ≡ SetStopsign → supplied lent (opOf o) ≡ true → (g : StopSign) → g ≡ askedSign (o .given) (b .stop)
+          → Goes (stepGuards n lent (opOf o) m) (step lent (opOf o) m) (stepped Done start (withStop (o .given) g (r .index))) (r .log) (r .snapshot)
+      sign-done e q g p =
+          goes-of n lent m o SetStopsign (stepped Done start (withStop (o .given) g (r .index))) (r .log) (r .snapshot) e
+          (rw p (sign-goes (o .given) (is-supplied SetStopsign e q)))
+
+      pub shot-done : o .kind ≡ SetSnapshot → supplied lent (opOf o) ≡ true → (k : ℕ) (words : List ℕ) → k ≡ askedKeys (o .given) (b .keys) → words ≡ askedWords (o .given) incoming
+          → Goes (stepGuards n lent (opOf o) m) (step lent (opOf o) m) (stepped Done start (withRun (r .index .compacted) (r .index .retained) (o .given) k (r .index))) (r .log) words
+      shot-done e q k words p w =
+          goes-of n lent m o SetSnapshot (stepped Done start (withRun (r .index .compacted) (r .index .retained) (o .given) k (r .index))) (r .log) words e
+          (rw (p, w) (shot-goes (o .given) (is-supplied SetSnapshot e q)))

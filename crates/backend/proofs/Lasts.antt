@@ -1,0 +1,125 @@
+-- What is judged after the last operation: refusal 9, then 12. In the midst of a list the words are always in form, so the state is
+-- well formed exactly if its log is.
+use Prim.Native.Nat.{ℕ, _+_, _≤_, _<_}
+use mathlib.Core.Path.{_≡_, refl, sym, ap, _∙_}
+use mathlib.Core.Bool.{Bool, true, false, _&&_, not}
+use mathlib.Core.List.{List}
+use native.Mathlib.Omega.{arith}
+use borrow.Author.Tests.{lt-ltb, le-ltb, eq-eqb, not-false}
+use lib.Dec.{eqb}
+use lib.ListN.{length}
+use Rattle.words.proofs.Tests.{and-left, and-right, both-true}
+use Rattle.words.proofs.CodedLaws.{entries-length}
+use Rattle.entry.specs.Limits.{lastIndex, entryRoom, logWords, snapshotWords}
+use Rattle.entry.specs.Change.{Change, changeCode, entriesOf, storedIn, Laid}
+use Rattle.entry.specs.Guards.{Guard, Verdict, passes, refuses, first, Answer, refused, replied, settle}
+use Rattle.entry.proofs.GuardLaws.{Finds, clear-all, passing, stopping, found, passed}
+use Rattle.entry.proofs.SliceLaws.{laid-stored, stored-laid}
+use Rattle.snapshot.specs.Folds.{rising}
+use Rattle.snapshot.specs.Calls.{snapshotFormed}
+use Rattle.model.specs.Numbers.{Numbers, endOf, acceptedOf, numbersFormed}
+use Rattle.model.specs.Log.{numbersOf, wellFormed}
+use Rattle.model.specs.Backend.{lastGuards}
+use Rattle.state_cache.specs.State.{Raw, numbersIn, signHeld, shotHeld, formed, logOf}
+use Rattle.state_cache.proofs.Small.{accepted-le}
+use Rattle.state_cache.proofs.Stands.{log-formed}
+use Rattle.backend.specs.Midst.{midstOf, Held}
+use Rattle.backend.proofs.Requests.{given-by}
+
+-- the numbers of the log that a record and words stand for are the record's
+pub numbers-of : (r : Raw) → numbersOf (logOf r) ≡ numbersIn (r .index)
+unfolding logOf
+numbers-of r = fields _ _ _ (entries-length changeCode _ _) (entries-length changeCode _ _) (given-by (r .index .«stop_held») (r .index .stop))
+  where
+    fields : (a b : ℕ) (t : Bool) → a ≡ r .index .retained → b ≡ r .index .batched → t ≡ r .index .«stop_held»
+        → _≡_ {A = Numbers} (record {
+          compacted = r .index .compacted .0;
+          decided = r .index .decided .0;
+          retained = a;
+          batched = b;
+          size = r .index .«batch_size»;
+          stop = t;
+        }) (numbersIn (r .index))
+    fields a b t p q e = rw (p, q, e)
+
+stored-of : (words n : ℕ) (ws : List ℕ) → Laid words n ws → storedIn words n ws ≡ true
+stored-of words n ws l =
+    let es : List Change = entriesOf n ws in
+    let k : length es ≡ n = entries-length changeCode n ws in
+    ap (λ (j : ℕ). storedIn words j ws) (sym k) ∙ ap (storedIn words (length es)) (laid-stored words n ws l)
+    ∙ stored-laid words es (omega (arith, l .fits)) (l .fine)
+
+pub formed-is : (r : Raw) → Held r → formed r ≡ wellFormed (logOf r)
+formed-is r h = go (formed r) (wellFormed (logOf r)) refl refl
+  where
+    back : wellFormed (logOf r) ≡ true → formed r ≡ true
+    back e =
+        unfold formed shotHeld snapshotFormed in
+        both-true (numbersFormed (numbersIn (r .index))) _ (unfold wellFormed in ap numbersFormed (sym (numbers-of r)) ∙ and-left (numbersFormed (numbersOf (logOf r))) _ e)
+        (both-true (signHeld (r .index)) _ (h .sign)
+        (both-true (storedIn logWords (r .index .retained + r .index .batched) (r .log)) _ (stored-of logWords _ (r .log) (h .log))
+        (both-true (storedIn snapshotWords (r .index .keys) (r .snapshot) && rising (entriesOf (r .index .keys) (r .snapshot))) _
+        (both-true (storedIn snapshotWords (r .index .keys) (r .snapshot)) _ (stored-of snapshotWords _ (r .snapshot) (h .snapshot .laid)) (h .snapshot .rises))
+        (h .none-held))))
+
+    go : (a b : Bool) → formed r ≡ a → wellFormed (logOf r) ≡ b → formed r ≡ wellFormed (logOf r)
+    go true b p q = p ∙ sym (log-formed r p)
+    go false true p q = back q ∙ sym q
+    go false false p q = p ∙ sym q
+
+module _ (n : Numbers) (start : ℕ) (r : Raw) (h : Held r) where
+  abbrev gs : List Guard
+  gs = lastGuards n (midstOf start r)
+
+  abbrev asked : ℕ
+  asked = acceptedOf (numbersOf (logOf r)) + length (logOf r .tail .batched)
+
+  asked-is : asked ≡ acceptedOf (numbersIn (r .index)) + r .index .batched
+  asked-is = ap (λ (k : Numbers). acceptedOf k + k .batched) (numbers-of r)
+
+  abbrev Says : Answer (Unit {0}) → Type 0
+  Says a = a ≡ settle (first gs) tt
+
+  judged : (v : Verdict) → Finds gs v → Says (settle v tt)
+  judged v f = ap (λ (w : Verdict). settle w tt) (found f)
+
+  -- where compacted alone is past the largest index, no sum is taken
+  pub compacted-past : lastIndex < r .index .compacted .0 → lastIndex < acceptedOf (numbersIn (r .index)) + r .index .batched
+  unfolding acceptedOf endOf
+  compacted-past over = omega arith
+
+  pub last-fits : r .index .compacted .0 ≤ lastIndex → acceptedOf (numbersIn (r .index)) + r .index .batched ≤ lastIndex + entryRoom + 1
+  unfolding endOf
+  last-fits low = omega (arith, accepted-le (numbersIn (r .index)), h .log .fits)
+
+  pub last-past : (last : ℕ) → last ≡ acceptedOf n → lastIndex < acceptedOf (numbersIn (r .index)) + r .index .batched → Says (refused 9 last)
+  unfolding lastGuards
+  last-past last p over = judged (refuses 9 last) (stopping (lt-ltb lastIndex asked (omega (arith, asked-is, over))) p)
+
+  module _ (inside : acceptedOf (numbersIn (r .index)) + r .index .batched ≤ lastIndex) where
+    last-ill : (eqb start (r .index .compacted .0) && wellFormed (logOf r)) ≡ false → Says (refused 12 0)
+    unfolding lastGuards logOf
+    last-ill e = judged (refuses 12 0) (passing (le-ltb lastIndex asked (omega (arith, asked-is, inside))) (stopping (ap not e) refl))
+
+    pub last-apart : eqb start (r .index .compacted .0) ≡ false → Says (refused 12 0)
+    last-apart e = last-ill (rw e)
+
+    pub last-unformed : formed r ≡ false → Says (refused 12 0)
+    last-unformed e = last-ill (go (eqb start (r .index .compacted .0)))
+      where
+        go : (t : Bool) → (t && wellFormed (logOf r)) ≡ false
+        go true = sym (formed-is r h) ∙ e
+        go false = refl
+
+    pub last-stands : start ≡ r .index .compacted .0 → formed r ≡ true → Says (replied tt)
+    unfolding lastGuards logOf
+    last-stands p e =
+        judged passes (passing (le-ltb lastIndex asked (omega (arith, asked-is, inside)))
+        (passing (ap not (both-true (eqb start (r .index .compacted .0)) _ (eq-eqb start (r .index .compacted .0) p) (log-formed r e))) clear-all))
+
+  -- a list that stands leaves a well-formed state
+  pub last-formed : first gs ≡ passes → formed r ≡ true
+  unfolding lastGuards
+  last-formed e =
+      formed-is r h
+      ∙ and-right (eqb start (logOf r .run .compacted)) (wellFormed (logOf r)) (not-false (eqb start (logOf r .run .compacted) && wellFormed (logOf r)) (passed gs e .1 .0))

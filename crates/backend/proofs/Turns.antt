@@ -1,0 +1,166 @@
+-- The operations one after the other: what is left of a list, from the state so far, comes to what the whole list does.
+use Prim.Native.Nat.{ℕ, suc, _+_, _≤_, _<_}
+use mathlib.Core.Path.{_≡_, refl, sym, ap, _∙_}
+use mathlib.Core.Bool.{Bool, true, false, _&&_, not}
+use mathlib.Core.List.{List, [], _∷_, _++_, map}
+use native.Mathlib.Omega.{arith}
+use native.Mathlib.Numerals.{add-one}
+use lib.Dec.{leb}
+use lib.ListN.{length, take, drop, getD, drop-of-length-le}
+use Rattle.words.specs.If.{if_then_else_}
+use Rattle.words.specs.All.{allOf}
+use Rattle.words.proofs.Tests.{and-right}
+use Rattle.words.proofs.Alls.{all-head, all-drop}
+use Rattle.entry.specs.Guards.{Guard, Verdict, passes, refuses, first, Answer, refused, replied, refusedBy, settle}
+use Rattle.entry.specs.Change.{formed as entriesFormed}
+use Rattle.entry.specs.Sign.{signFormed}
+use Rattle.entry.specs.Refusals.{numberOf, carriedOf}
+use Rattle.entry.specs.declared.Refusal.{Refusal}
+use Rattle.model.specs.Numbers.{Numbers}
+use Rattle.model.specs.Log.{ifGiven, shotFormed}
+use Rattle.model.specs.Backend.{Op, Lent, supplied, opsFormed, Midst, step, steps, stepGuards, lastGuards, opGuards, midst, writeGuards, written}
+use Rattle.model.specs.Calls.{write, malformed, further, effect, replyOf}
+use Rattle.state_cache.specs.State.{Raw, raw, numbersIn, formed, logOf}
+use Rattle.state_cache.specs.Run.{outcome, run, settled}
+use Rattle.state_cache.specs.declared.IndexRecord.{IndexRecord}
+use Rattle.state_cache.specs.declared.Settled.{Settled}
+use Rattle.state_cache.specs.declared.Settled.the-variants.{Done, Refused}
+use Rattle.state_cache.proofs.Stands.{stands-of}
+use Rattle.state_cache.proofs.Runs.{call-refused, call-stands}
+use Rattle.backend.specs.declared.Op.{Op as CodeOp}
+use Rattle.backend.specs.declared.inner.Stepped.{Stepped}
+use Rattle.backend.specs.Ops.{opOf, noOp}
+use Rattle.backend.specs.declared.Lent.{Lent as CodeLent}
+use Rattle.backend.specs.declared.OpList.{OpList}
+use Rattle.backend.specs.Midst.{midstOf, Held, Goes, Listed, Wrote}
+use Rattle.backend.proofs.Requests.{ops-length, op-cons}
+use Rattle.backend.proofs.Lasts.{numbers-of, last-formed}
+
+-- a verdict is known by what it settles
+settle-refused : (v : Verdict) (n k : ℕ) → _≡_ {A = Answer (Unit {0})} (refused n k) (settle v tt) → v ≡ refuses n k
+settle-refused passes n k e = let z : _≡_ {A = ℕ} 0 1 = cc in absurd (omega arith)
+settle-refused (refuses a b) n k e = cc
+
+settle-replied : (v : Verdict) → _≡_ {A = Answer (Unit {0})} (replied tt) (settle v tt) → v ≡ passes
+settle-replied passes e = refl
+settle-replied (refuses a b) e = let z : _≡_ {A = ℕ} 0 1 = cc in absurd (omega arith)
+
+-- the first refusal of two lists, one after the other
+first-left : (gs hs : List Guard) (n k : ℕ) → first gs ≡ refuses n k → first (gs ++ hs) ≡ refuses n k
+unfolding first
+first-left [] hs n k e = let z : _≡_ {A = ℕ} 0 1 = cc in absurd (omega arith)
+first-left (g ∷ gs) hs n k e = go (λ q. first-left gs hs n k q) (g .applies) e
+  where
+    go : (first gs ≡ refuses n k → first (gs ++ hs) ≡ refuses n k) → (t : Bool) → (if t then refuses (g .number) (g .carried) else first gs) ≡ refuses n k
+        → (if t then refuses (g .number) (g .carried) else first (gs ++ hs)) ≡ refuses n k
+    go ih true q = q
+    go ih false q = ih q
+
+first-right : (gs hs : List Guard) → first gs ≡ passes → first (gs ++ hs) ≡ first hs
+unfolding first
+first-right [] hs e = refl
+first-right (g ∷ gs) hs e = go (λ q. first-right gs hs q) (g .applies) e
+  where
+    go : (first gs ≡ passes → first (gs ++ hs) ≡ first hs) → (t : Bool) → (if t then refuses (g .number) (g .carried) else first gs) ≡ passes
+        → (if t then refuses (g .number) (g .carried) else first (gs ++ hs)) ≡ first hs
+    go ih true q = let z : _≡_ {A = ℕ} 0 1 = cc in absurd (omega arith)
+    go ih false q = ih q
+
+-- what is left of a list comes to a verdict, and to a state
+pub record Left (n : Numbers) (l : Lent) (ops : List Op) (m : Midst) (asked : Verdict) (end : Midst) : Type 0 where
+  pub verdict : first (opGuards n l ops m) ≡ asked
+  pub after : steps l ops m ≡ end
+
+module _ (n : Numbers) (l : Lent) (codes : List CodeOp) (count : ℕ) (few : count ≤ 8) (eight : length codes ≡ 8) (asked : Verdict) (end : Midst) where
+  abbrev ops : List Op
+  ops = map opOf (take count codes)
+
+  module _ (m : Midst) (i : ℕ) (left : Left n l (drop i ops) m asked end) where
+    module _ (h : i < count) where
+      abbrev o : Op
+      o = opOf (getD codes i noOp)
+
+      cons : drop i ops ≡ o ∷ drop (suc i) ops
+      cons = op-cons codes count few eight i noOp h
+
+      pub is-supplied : allOf (supplied l) ops ≡ true → supplied l o ≡ true
+      is-supplied e = all-head (supplied l) o (drop (suc i) ops) (rw (← cons) (all-drop (supplied l) i ops e))
+
+      module _ (s : Stepped) (log shot : List ℕ) (g : Goes (stepGuards n l o m) (step l o m) s log shot) where
+        pub turn-refused : (f : Refusal) → s .answer ≡ Refused f → asked ≡ refuses (numberOf f) (carriedOf f)
+        unfolding opGuards
+        turn-refused f e =
+            sym (left .verdict) ∙ ap (λ (os : List Op). first (opGuards n l os m)) cons
+            ∙ first-left (stepGuards n l o m) (opGuards n l (drop (suc i) ops) (step l o m)) (numberOf f) (carriedOf f)
+            (settle-refused (first (stepGuards n l o m)) (numberOf f) (carriedOf f) (ap settled (sym e) ∙ g .verdict))
+
+        pub turn-held : s .answer ≡ Done → Held (raw (s .index) log shot)
+        turn-held e = g .after (ap settled e) .1
+
+        pub turn-left : s .answer ≡ Done → Left n l (drop (i + 1) ops) (midstOf (s .start) (raw (s .index) log shot)) asked end
+        unfolding opGuards steps
+        turn-left e =
+            rw (add-one i, g .after (ap settled e) .0)
+            (record {
+              verdict =
+                  sym (first-right (stepGuards n l o m) (opGuards n l (drop (suc i) ops) (step l o m)) (settle-replied (first (stepGuards n l o m)) (ap settled (sym e) ∙ g .verdict)))
+                  ∙ ap (λ (os : List Op). first (opGuards n l os m)) (sym cons) ∙ left .verdict;
+              after = ap (λ (os : List Op). steps l os m) (sym cons) ∙ left .after;
+            })
+
+    pub ended : count ≤ i → Left n l [] m asked end
+    ended h = rw (drop-of-length-le ops {i = i} (omega (arith, ops-length codes count few eight))) at left
+
+-- the whole list, on a well-formed state
+module _ (r : Raw) (l : Lent) (ops : List Op) where
+  abbrev pub asked : Verdict
+  asked = first (writeGuards l ops (logOf r))
+
+  abbrev pub end : Midst
+  end = steps l ops (midst (logOf r))
+
+  pub all-left : Left (numbersIn (r .index)) l ops (midstOf (r .index .compacted .0) r) asked end
+  unfolding writeGuards logOf
+  all-left = record { verdict = ap (λ (n : Numbers). first (opGuards n l ops (midst (logOf r)))) (sym (numbers-of r)); after = refl }
+
+  pub wrote-refused : (f : Refusal) (x : Raw) → asked ≡ refuses (numberOf f) (carriedOf f) → Wrote r l ops (Refused f) x
+  wrote-refused f x e = record { verdict = ap (λ (v : Verdict). settle v tt) (sym e); after = λ q. absurd (never q) }
+    where
+      never : _≡_ {A = Answer (Unit {0})} (refusedBy f) (replied tt) → ⊥
+      never q = let z : _≡_ {A = ℕ} 0 1 = cc in omega arith
+
+  pub wrote : (n : Numbers) (start : ℕ) (x : Raw) (a : Settled) → Held x → Left n l [] (midstOf start x) asked end
+      → settled a ≡ settle (first (lastGuards n (midstOf start x))) tt → Wrote r l ops a x
+  unfolding opGuards steps written
+  wrote n start x a h left e = record {
+    verdict = e ∙ ap (λ (v : Verdict). settle v tt) (left .verdict);
+    after = λ q. (last-formed n start x h (settle-replied _ (sym q ∙ e)), ap (λ (m : Midst). m .log) (left .after));
+  }
+
+  module _ (ok : formed r ≡ true) (fine : opsFormed l ops ≡ true) (a : Settled) (x : Raw) (w : Wrote r l ops a x) where
+    pub write-refused : (f : Refusal) → a ≡ Refused f → outcome (refusedBy f) r ≡ run (write l ops) true r
+    unfolding malformed further
+    write-refused f e =
+        call-refused (write l ops) r ok (ap not fine) (numberOf f) (carriedOf f) (sym (settle-refused asked (numberOf f) (carriedOf f) (ap settled (sym e) ∙ w .verdict)))
+
+    pub write-stands : a ≡ Done → outcome (replied tt) x ≡ run (write l ops) true r
+    unfolding malformed further effect replyOf
+    write-stands e =
+        let p = w .after (ap settled e) in
+        call-stands (write l ops) r ok (ap not fine) (sym (settle-replied asked (ap settled (sym e) ∙ w .verdict))) tt x refl (rw (p .1) at (stands-of x (p .0)))
+
+pub ops-supplied : (l : Lent) (ops : List Op) → opsFormed l ops ≡ true → allOf (supplied l) ops ≡ true
+unfolding opsFormed
+ops-supplied l ops e =
+    let e₁ = and-right (leb 1 (length ops) && leb (length ops) 8) _ e in
+    let e₂ = and-right (entriesFormed (l .entries)) _ e₁ in
+    let e₃ = and-right (ifGiven shotFormed (l .snapshot)) _ e₂ in
+    and-right (ifGiven signFormed (l .sign)) _ e₃
+
+-- on copies of the words
+module _ (i : IndexRecord) (log log′ shot shot′ : List ℕ) (p : log′ ≡ log) (q : shot′ ≡ shot) where
+  pub listed-copy : (b : CodeLent) (entries incoming : List ℕ) (list : OpList) → Listed (raw i log shot) b entries incoming list → Listed (raw i log′ shot′) b entries incoming list
+  listed-copy b entries incoming list g = rw (p, q) g
+
+  pub wrote-copy : (l : Lent) (ops : List Op) (a : Settled) (x : Raw) → Wrote (raw i log′ shot′) l ops a x → Wrote (raw i log shot) l ops a x
+  wrote-copy l ops a x w = rw (p, q) at w

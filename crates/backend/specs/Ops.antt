@@ -1,0 +1,86 @@
+-- The request of an operation list, read off its arguments.
+use Prim.Native.Nat.{ℕ, _+_}
+use mathlib.Core.Bool.{Bool, false, _&&_, _||_, not}
+use mathlib.Core.List.{List, [], _∷_, map}
+use mathlib.Core.Option.{none, some}
+use lib.Dec.{ltb, leb, eqb}
+use lib.ListN.{length, take, set, replicate}
+use Rattle.words.specs.If.{if_then_else_}
+use Rattle.entry.specs.Limits.{snapshotWords}
+use Rattle.entry.specs.Change.{entriesOf, entriesIn, wholeIn}
+use Rattle.entry.specs.Sign.{noSign}
+use Rattle.entry.specs.declared.StopSign.{StopSign}
+use Rattle.snapshot.specs.Calls.{snapshotFormed}
+use Rattle.model.specs.Log.{noBallot}
+use Rattle.model.specs.Backend.{Op, appendEntries, appendOnPrefix, setDecided, setCompacted, trim, setPromise, setRound, setSign, setSnapshot, Lent}
+use Rattle.backend.specs.declared.Op.{Op as CodeOp}
+use Rattle.backend.specs.declared.OpKind.{OpKind}
+use Rattle.backend.specs.declared.OpKind.the-variants.{AppendEntries, AppendOnPrefix, SetPromise, SetDecidedIndex, SetAcceptedRound, SetCompactedIdx, Trim, SetStopsign, SetSnapshot}
+use Rattle.backend.specs.declared.OpList.{OpList}
+use Rattle.backend.specs.declared.Lent.{Lent as CodeLent}
+
+abbrev pub ofKind : OpKind → CodeOp → Op
+ofKind AppendEntries o = appendEntries
+ofKind AppendOnPrefix o = appendOnPrefix (o .index .0)
+ofKind SetPromise o = setPromise (o .ballot)
+ofKind SetDecidedIndex o = setDecided (o .index .0)
+ofKind SetAcceptedRound o = setRound (o .ballot)
+ofKind SetCompactedIdx o = setCompacted (o .index .0)
+ofKind Trim o = trim (o .index .0)
+ofKind SetStopsign o = setSign (o .given)
+ofKind SetSnapshot o = setSnapshot (o .given)
+
+abbrev pub opOf : CodeOp → Op
+opOf o = ofKind (o .kind) o
+
+-- what stands past the end of a list
+abbrev pub noOp : CodeOp
+noOp = record { kind = AppendEntries; index = record { 0 = 0 }; ballot = noBallot; given = false }
+
+abbrev pub opsIn : OpList → List Op
+opsIn l = map opOf (take (l .count) (l .ops))
+
+-- what is lent beside it: the entries, the snapshot's words and the rest
+abbrev pub lentOf : CodeLent → List ℕ → List ℕ → Lent
+lentOf b entries incoming = record {
+  entries = entriesIn entries;
+  snapshot = if b .«snapshot_lent» then some (entriesOf (b .keys) incoming) else none;
+  sign = if b .«stop_lent» then some (b .stop) else none;
+}
+
+abbrev pub onlyEntries : List ℕ → Lent
+onlyEntries entries = record { entries = entriesIn entries; snapshot = none; sign = none }
+
+-- "any snapshot slice not of 1,024 words"; its form is judged where a snapshot is lent
+unfoldable pub incomingFormed : CodeLent → List ℕ → Bool
+incomingFormed b ws = eqb (length ws) snapshotWords && (not (b .«snapshot_lent») || snapshotFormed (b .keys) ws)
+
+-- the words and the count that make a request
+unfoldable pub wholeLent : CodeLent → List ℕ → List ℕ → Bool
+wholeLent b entries incoming = wholeIn entries && incomingFormed b incoming
+
+abbrev pub wholeList : CodeLent → List ℕ → List ℕ → OpList → Bool
+wholeList b entries incoming l = wholeLent b entries incoming && leb (l .count) 8
+
+-- what an operation that may say none sets: the stop-sign, the snapshot's key count and its words
+abbrev pub askedSign : Bool → StopSign → StopSign
+askedSign given g = if given then g else noSign
+
+abbrev pub askedKeys : Bool → ℕ → ℕ
+askedKeys given n = if given then n else 0
+
+abbrev pub askedWords : Bool → List ℕ → List ℕ
+askedWords given ws = if given then ws else replicate snapshotWords 0
+
+-- a lent slice of operations as a list by value: each is put in turn, and the ninth is counted and not kept
+abbrev pub noOps : OpList
+noOps = record { count = 0; ops = replicate 8 noOp }
+
+unfoldable pub putOf : OpList → CodeOp → OpList
+putOf l o =
+    if ltb (l .count) 8 then record { count = l .count + 1; ops = set (l .ops) (l .count) o }
+    else record { count = 9; ops = l .ops }
+
+unfoldable pub putAll : OpList → List CodeOp → OpList
+putAll l [] = l
+putAll l (o ∷ os) = putAll (putOf l o) os

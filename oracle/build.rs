@@ -1,0 +1,25 @@
+// Names the Rust that is judged: the files of OMNIPAXOS_SRC, or of ../../shared/docs/src from this folder. They are compiled where they
+// stand, unchanged.
+use std::{env, fs, path::PathBuf};
+
+fn main() {
+    println!("cargo:rerun-if-env-changed=OMNIPAXOS_SRC");
+    let here = PathBuf::from(env::var("CARGO_MANIFEST_DIR").unwrap());
+    let src = env::var("OMNIPAXOS_SRC")
+        .map(PathBuf::from)
+        .unwrap_or_else(|_| here.join("../../shared/docs/src"));
+    let src = src
+        .canonicalize()
+        .unwrap_or_else(|e| panic!("{}: {e}; set OMNIPAXOS_SRC", src.display()));
+    println!("cargo:rerun-if-changed={}", src.display());
+    let text = format!(
+        "#[path = {:?}]\npub mod ballot_leader_election;\n#[path = {:?}]\npub mod storage;\n",
+        src.join("ballot_leader_election.rs"),
+        src.join("storage/mod.rs"),
+    );
+    fs::write(
+        PathBuf::from(env::var("OUT_DIR").unwrap()).join("judged.rs"),
+        text,
+    )
+    .unwrap();
+}

@@ -5,7 +5,7 @@ use mathlib.Core.Bool.{Bool, true, false, _&&_, _||_, not, true≢false}
 use mathlib.Core.List.{List, [], _++_}
 use mathlib.Core.Option.{Option, none, some}
 use native.Mathlib.Omega.{arith}
-use borrow.Author.Tests.{lt-ltb, le-ltb}
+use borrow.Author.Tests.{lt-ltb, le-ltb, ltb-true, ltb-false}
 use lib.Dec.{ltb, eqb}
 use lib.ListN.{length, take, drop, replicate}
 use lib.Seq.{take-all}
@@ -13,7 +13,7 @@ use Rattle.words.specs.If.{if_then_else_}
 use Rattle.words.specs.All.{allOf}
 use Rattle.words.specs.Words.{laid, spliced}
 use Rattle.words.specs.Coded.{wordsOf, entriesAt}
-use Rattle.words.proofs.Tests.{and-right}
+use Rattle.words.proofs.Tests.{and-right, or-right}
 use Rattle.words.proofs.CodedLaws.{entries-length}
 use Rattle.entry.specs.Limits.{width, entryRoom, snapshotWords}
 use Rattle.entry.specs.Change.{Change, changeCode, entriesOf, entriesIn, sliceFormed}
@@ -62,6 +62,15 @@ module _ (gs : List Guard) (next : Midst) (start : ℕ) (x : IndexRecord) (log s
   goes-done : passes ≡ first gs → midstOf start (raw x log shot) ≡ next → Held (raw x log shot) → Goes gs next (stepped Done start x) log shot
   goes-done e p h = record { verdict = ap (λ (v : Verdict). settle v tt) e; after = λ q. (p, h) }
 
+-- two tests of the same order
+ltb-same : (a b c d : ℕ) → (a < b → c < d) → (c < d → a < b) → ltb a b ≡ ltb c d
+ltb-same a b c d f g = go (ltb a b) (ltb c d) refl refl
+  where
+    go : (s t : Bool) → ltb a b ≡ s → ltb c d ≡ t → ltb a b ≡ ltb c d
+    go true t p q = p ∙ sym (lt-ltb c d (f (ltb-true a b p)))
+    go false true p q = lt-ltb a b (g (ltb-true c d q)) ∙ sym q
+    go false false p q = p ∙ sym q
+
 -- the same by other names
 goes-as : (gs gs′ : List Guard) (next next′ : Midst) (s : Stepped) (log shot : List ℕ) → first gs ≡ first gs′ → next ≡ next′ → Goes gs next s log shot → Goes gs′ next′ s log shot
 goes-as gs gs′ next next′ s log shot e p g = record {
@@ -74,6 +83,21 @@ pub goes-of : (n : Numbers) (l : Lent) (m : Midst) (o : CodeOp) (k : OpKind) (s 
 goes-of n l m o k s log shot e g =
     let p : ofKind k o ≡ opOf o = ap (λ (j : OpKind). ofKind j o) (sym e) in
     goes-as _ _ _ _ s log shot (ap (λ (q : Op). first (stepGuards n l q m)) p) (ap (λ (q : Op). step l q m) p) g
+
+abbrev withRound : Ballot → IndexRecord → IndexRecord
+withRound b x = record {
+  «batch_size» = x .«batch_size»;
+  retained = x .retained;
+  batched = x .batched;
+  compacted = x .compacted;
+  decided = x .decided;
+  promise = x .promise;
+  «accepted_round» = b;
+  «snapshot_held» = x .«snapshot_held»;
+  keys = x .keys;
+  «stop_held» = x .«stop_held»;
+  stop = x .stop;
+}
 
 -- no stop-sign, and no snapshot
 blank-none : signBlank noSign ≡ true
@@ -121,57 +145,53 @@ module _ (start : ℕ) (r : Raw) (h : Held r) where
         (put-held r h at entries words inside whole e _ k (omega (arith, fits)))
 
   -- at an index of the run: refusal 7 first
-  module _ (n : Numbers) (i : ℕ) (entries words : List ℕ) where
+  module _ (n : Numbers) (i kept : ℕ) (far : kept ≡ i - start) (entries words : List ℕ) where
     abbrev l : Lent
     l = onlyEntries entries
 
-    outside : (end : ℕ) → end ≡ endOf n → (ltb i start || ltb (start + length (logOf r .run .retained)) i) ≡ true
+    abbrev beside : Bool
+    beside = ltb i start || ltb (r .index .retained) kept
+
+    -- no sum is taken that could pass 64 bits
+    beside-is : beside ≡ (ltb i start || ltb (start + length (logOf r .run .retained)) i)
+    beside-is = go (ltb i start) refl
+      where
+        counted : length (logOf r .run .retained) ≡ r .index .retained
+        counted = unfold logOf in kept-count r h
+
+        go : (t : Bool) → ltb i start ≡ t → (t || ltb (r .index .retained) kept) ≡ (t || ltb (start + length (logOf r .run .retained)) i)
+        go true e = refl
+        go false e = let low : start ≤ i = ltb-false i start e in ltb-same (r .index .retained) kept (start + length (logOf r .run .retained)) i (λ k. omega (arith, counted)) (λ k. omega (arith, counted))
+
+    pub prefix-outside : (end : ℕ) → end ≡ endOf n → beside ≡ true
         → Goes (stepGuards n l (appendOnPrefix i) m) (step l (appendOnPrefix i) m) (stepped (Refused (OutsideRun (record { 0 = end }))) start (r .index)) words (r .snapshot)
     unfolding stepGuards
-    outside end p e =
+    prefix-outside end p e =
         goes-refused (stepGuards n l (appendOnPrefix i) m) (step l (appendOnPrefix i) m) start (r .index) words (r .snapshot) (OutsideRun (record { 0 = end }))
-        (found {gs = stepGuards n l (appendOnPrefix i) m} {v = refuses 7 end} (stopping e p))
+        (found {gs = stepGuards n l (appendOnPrefix i) m} {v = refuses 7 end} (stopping (sym beside-is ∙ e) p))
 
-    pub prefix-below : (end : ℕ) → end ≡ endOf n → i < start
-        → Goes (stepGuards n l (appendOnPrefix i) m) (step l (appendOnPrefix i) m) (stepped (Refused (OutsideRun (record { 0 = end }))) start (r .index)) words (r .snapshot)
-    prefix-below end p low = outside end p (rw (lt-ltb i start low))
+    pub prefix-inside : beside ≡ false → kept ≤ r .index .retained
+    prefix-inside e = ltb-false (r .index .retained) kept (or-right (ltb i start) (ltb (r .index .retained) kept) e)
 
-    pub prefix-above : (end : ℕ) → end ≡ endOf n → start ≤ i → r .index .retained < i - start
-        → Goes (stepGuards n l (appendOnPrefix i) m) (step l (appendOnPrefix i) m) (stepped (Refused (OutsideRun (record { 0 = end }))) start (r .index)) words (r .snapshot)
-    unfolding logOf
-    prefix-above end p low high =
-        outside end p (rw (le-ltb i start low, lt-ltb (start + length (logOf r .run .retained)) i (omega (arith, kept-count r h))))
-
-    pub prefix-goes : (s : Stepped) → start ≤ i → i - start ≤ r .index .retained → Goes (roomGuards (i - start) (length (entriesIn entries)) m) (rejoined (i - start) (entriesIn entries) m) s words (r .snapshot)
+    pub prefix-goes : (s : Stepped) → beside ≡ false → Goes (roomGuards kept (length (entriesIn entries)) m) (rejoined kept (entriesIn entries) m) s words (r .snapshot)
         → Goes (stepGuards n l (appendOnPrefix i) m) (step l (appendOnPrefix i) m) s words (r .snapshot)
-    unfolding stepGuards step logOf
-    prefix-goes s low high g =
+    unfolding stepGuards step
+    prefix-goes s e g =
         goes-as _ _ _ _ s words (r .snapshot)
-        (sym (first-goes-on 7 (endOf n) (ltb i start || ltb (start + length (logOf r .run .retained)) i) (roomGuards (i - start) (length (entriesIn entries)) m)
-        (rw (le-ltb i start low, le-ltb (start + length (logOf r .run .retained)) i (omega (arith, kept-count r h))))))
-        refl g
+        (ap (λ (k : ℕ). first (roomGuards k (length (entriesIn entries)) m)) far ∙ sym (first-goes-on 7 (endOf n) (ltb i start || ltb (start + length (logOf r .run .retained)) i) (roomGuards (i - start) (length (entriesIn entries)) m) (sym beside-is ∙ e)))
+        (ap (λ (k : ℕ). rejoined k (entriesIn entries) m) far) g
 
   -- ---- entries dropped
 
-  pub trim-idle : (i : ℕ) → i ≤ start → Goes [] (step (onlyEntries []) (trim i) m) (stepped Done start (r .index)) (r .log) (r .snapshot)
-  unfolding step first
-  trim-idle i low =
-      goes-done [] (step (onlyEntries []) (trim i) m) start (r .index) (r .log) (r .snapshot) refl
-      (same (max start i) (i - start) (omega arith) (omega arith)) h
-    where
-      same : (a k : ℕ) → a ≡ start → k ≡ 0
-          → m ≡ record { start = a; log = logWithRun (retaining (drop k (logOf r .run .retained)) (logOf r .run)) (logOf r) }
-      same a k p q = rw (p, q)
-
-  pub trim-goes : (i gone : ℕ) (words : List ℕ) → start < i → gone ≡ min (i - start) (r .index .retained)
+  pub trim-goes : (i below gone next : ℕ) (words : List ℕ) → below ≡ i - start → gone ≡ min below (r .index .retained) → next ≡ max start i
       → words ≡ laid (length (r .log)) (spliced 0 (gone * width) [] (take ((r .index .retained + r .index .batched) * width) (r .log)))
-      → Goes [] (step (onlyEntries []) (trim i) m) (stepped Done i (withEntries (r .index .retained - gone) (r .index .batched) (r .index))) words (r .snapshot)
+      → Goes [] (step (onlyEntries []) (trim i) m) (stepped Done next (withEntries (r .index .retained - gone) (r .index .batched) (r .index))) words (r .snapshot)
   unfolding step first
-  trim-goes i gone words up least e =
-      let p : i ≡ max start i = omega arith in
-      goes-done [] (step (onlyEntries []) (trim i) m) i (withEntries (r .index .retained - gone) (r .index .batched) (r .index)) words (r .snapshot) refl
-      (ap₂ (λ (a : ℕ) (g : _). record { start = a; log = g }) p (trim-log r h (i - start) gone words least e))
-      (trim-held r h (i - start) gone words least e)
+  trim-goes i below gone next words p least q e =
+      goes-done [] (step (onlyEntries []) (trim i) m) next (withEntries (r .index .retained - gone) (r .index .batched) (r .index)) words (r .snapshot) refl
+      (ap₂ (λ (a : ℕ) (g : _). record { start = a; log = g }) q
+      (trim-log r h below gone words least e ∙ ap (λ (k : ℕ). logWithRun (retaining (drop k (logOf r .run .retained)) (logOf r .run)) (logOf r)) p))
+      (trim-held r h below gone words least e)
 
   -- ---- the operations
 
@@ -202,21 +222,6 @@ module _ (start : ℕ) (r : Raw) (h : Held r) where
     decided-goes i =
         goes-done [] (step l (setDecided (i .0)) m) start (withDecided i (r .index)) (r .log) (r .snapshot) refl refl
         (record { log = h .log; snapshot = h .snapshot; none-held = h .none-held; sign = h .sign })
-
-    abbrev withRound : Ballot → IndexRecord → IndexRecord
-    withRound b x = record {
-      «batch_size» = x .«batch_size»;
-      retained = x .retained;
-      batched = x .batched;
-      compacted = x .compacted;
-      decided = x .decided;
-      promise = x .promise;
-      «accepted_round» = b;
-      «snapshot_held» = x .«snapshot_held»;
-      keys = x .keys;
-      «stop_held» = x .«stop_held»;
-      stop = x .stop;
-    }
 
     pub round-goes : (b : Ballot) → Goes (stepGuards n l (setRound b) m) (step l (setRound b) m) (stepped Done start (withRound b (r .index))) (r .log) (r .snapshot)
     unfolding stepGuards step logOf first signHeld

@@ -5,8 +5,8 @@ use mathlib.Core.Path.{_≡_, refl, sym, ap, _∙_}
 use mathlib.Core.Bool.{Bool, true, false, _&&_, not}
 use mathlib.Core.List.{List}
 use native.Mathlib.Omega.{arith}
-use borrow.Author.Tests.{lt-ltb, le-ltb, eq-eqb, not-false}
-use lib.Dec.{eqb}
+use borrow.Author.Tests.{lt-ltb, eq-eqb, not-false}
+use lib.Dec.{ltb, eqb}
 use lib.ListN.{length}
 use Rattle.words.proofs.Tests.{and-left, and-right, both-true}
 use Rattle.words.proofs.CodedLaws.{entries-length}
@@ -21,6 +21,7 @@ use Rattle.model.specs.Numbers.{Numbers, endOf, acceptedOf, numbersFormed}
 use Rattle.model.specs.Log.{numbersOf, wellFormed}
 use Rattle.model.specs.Backend.{lastGuards}
 use Rattle.state_cache.specs.State.{Raw, numbersIn, signHeld, shotHeld, formed, logOf}
+use Rattle.state_cache.specs.declared.IndexRecord.{IndexRecord}
 use Rattle.state_cache.proofs.Small.{accepted-le}
 use Rattle.state_cache.proofs.Stands.{log-formed}
 use Rattle.backend.specs.Midst.{midstOf, Held}
@@ -67,6 +68,19 @@ formed-is r h = go (formed r) (wellFormed (logOf r)) refl refl
     go false true p q = back q ∙ sym q
     go false false p q = p ∙ sym q
 
+-- whether the accepted index and the batch pass the largest index
+module _ (x : IndexRecord) (room : x .retained + x .batched ≤ entryRoom) where
+  abbrev pub reached : ℕ
+  reached = acceptedOf (numbersIn x) + x .batched
+
+  pub compacted-past : lastIndex < x .compacted .0 → true ≡ ltb lastIndex reached
+  unfolding acceptedOf endOf
+  compacted-past over = sym (lt-ltb lastIndex reached (omega arith))
+
+  pub last-fits : x .compacted .0 ≤ lastIndex → reached ≤ lastIndex + entryRoom + 1
+  unfolding endOf
+  last-fits low = omega (arith, accepted-le (numbersIn x), room)
+
 module _ (n : Numbers) (start : ℕ) (r : Raw) (h : Held r) where
   abbrev gs : List Guard
   gs = lastGuards n (midstOf start r)
@@ -74,8 +88,11 @@ module _ (n : Numbers) (start : ℕ) (r : Raw) (h : Held r) where
   abbrev asked : ℕ
   asked = acceptedOf (numbersOf (logOf r)) + length (logOf r .tail .batched)
 
-  asked-is : asked ≡ acceptedOf (numbersIn (r .index)) + r .index .batched
-  asked-is = ap (λ (k : Numbers). acceptedOf k + k .batched) (numbers-of r)
+  abbrev past : Bool
+  past = ltb lastIndex (acceptedOf (numbersIn (r .index)) + r .index .batched)
+
+  past-is : ltb lastIndex asked ≡ past
+  past-is = ap (λ (k : Numbers). ltb lastIndex (acceptedOf k + k .batched)) (numbers-of r)
 
   abbrev Says : Answer (Unit {0}) → Type 0
   Says a = a ≡ settle (first gs) tt
@@ -83,23 +100,14 @@ module _ (n : Numbers) (start : ℕ) (r : Raw) (h : Held r) where
   judged : (v : Verdict) → Finds gs v → Says (settle v tt)
   judged v f = ap (λ (w : Verdict). settle w tt) (found f)
 
-  -- where compacted alone is past the largest index, no sum is taken
-  pub compacted-past : lastIndex < r .index .compacted .0 → lastIndex < acceptedOf (numbersIn (r .index)) + r .index .batched
-  unfolding acceptedOf endOf
-  compacted-past over = omega arith
-
-  pub last-fits : r .index .compacted .0 ≤ lastIndex → acceptedOf (numbersIn (r .index)) + r .index .batched ≤ lastIndex + entryRoom + 1
-  unfolding endOf
-  last-fits low = omega (arith, accepted-le (numbersIn (r .index)), h .log .fits)
-
-  pub last-past : (last : ℕ) → last ≡ acceptedOf n → lastIndex < acceptedOf (numbersIn (r .index)) + r .index .batched → Says (refused 9 last)
+  pub last-past : (last : ℕ) → last ≡ acceptedOf n → past ≡ true → Says (refused 9 last)
   unfolding lastGuards
-  last-past last p over = judged (refuses 9 last) (stopping (lt-ltb lastIndex asked (omega (arith, asked-is, over))) p)
+  last-past last p over = judged (refuses 9 last) (stopping (past-is ∙ over) p)
 
-  module _ (inside : acceptedOf (numbersIn (r .index)) + r .index .batched ≤ lastIndex) where
+  module _ (inside : past ≡ false) where
     last-ill : (eqb start (r .index .compacted .0) && wellFormed (logOf r)) ≡ false → Says (refused 12 0)
     unfolding lastGuards logOf
-    last-ill e = judged (refuses 12 0) (passing (le-ltb lastIndex asked (omega (arith, asked-is, inside))) (stopping (ap not e) refl))
+    last-ill e = judged (refuses 12 0) (passing (past-is ∙ inside) (stopping (ap not e) refl))
 
     pub last-apart : eqb start (r .index .compacted .0) ≡ false → Says (refused 12 0)
     last-apart e = last-ill (rw e)
@@ -114,7 +122,7 @@ module _ (n : Numbers) (start : ℕ) (r : Raw) (h : Held r) where
     pub last-stands : start ≡ r .index .compacted .0 → formed r ≡ true → Says (replied tt)
     unfolding lastGuards logOf
     last-stands p e =
-        judged passes (passing (le-ltb lastIndex asked (omega (arith, asked-is, inside)))
+        judged passes (passing (past-is ∙ inside)
         (passing (ap not (both-true (eqb start (r .index .compacted .0)) _ (eq-eqb start (r .index .compacted .0) p) (log-formed r e))) clear-all))
 
   -- a list that stands leaves a well-formed state

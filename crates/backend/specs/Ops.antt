@@ -48,6 +48,7 @@ lentOf b entries incoming = record {
   sign = if b .«stop_lent» then some (b .stop) else none;
 }
 
+-- nothing but entries
 abbrev pub onlyEntries : List ℕ → Lent
 onlyEntries entries = record { entries = entriesIn entries; snapshot = none; sign = none }
 
@@ -55,7 +56,7 @@ onlyEntries entries = record { entries = entriesIn entries; snapshot = none; sig
 unfoldable pub incomingFormed : CodeLent → List ℕ → Bool
 incomingFormed b ws = eqb (length ws) snapshotWords && (not (b .«snapshot_lent») || snapshotFormed (b .keys) ws)
 
--- the words and the count that make a request
+-- the words make a request; and a list by value does where it has no ninth operation
 unfoldable pub wholeLent : CodeLent → List ℕ → List ℕ → Bool
 wholeLent b entries incoming = wholeIn entries && incomingFormed b incoming
 

@@ -1,4 +1,5 @@
-// What the operation list does once the state is known to be well formed: not for a user, whose calls are in lib.rt.
+// The parts of an operation list's call: the request's form, one operation, what is judged after the last, and the whole list on a
+// well-formed state. Not for a user, whose calls are in lib.rt.
 use super::Lent;
 use super::Op;
 use super::OpKind;
@@ -13,12 +14,14 @@ use state_cache::SettledAt;
 ghost use mathlib.Core.Path.{_≡_};
 ghost use mathlib.Core.Bool.{true, _&&_};
 ghost use mathlib.Core.List.{[]};
-ghost use Prim.Native.Nat.{_≤_, min};
+ghost use Prim.Native.Nat.{_+_, _-_, _≤_, min, max};
+ghost use lib.Dec.{ltb};
 ghost use lib.ListN.{length};
 ghost use Rattle.words.specs.All.{allOf};
-ghost use Rattle.entry.specs.Limits.{snapshotWords};
+ghost use Rattle.entry.specs.Limits.{entryRoom, lastIndex, snapshotWords};
 ghost use Rattle.entry.specs.Change.{entriesIn, sliceFormed};
 ghost use Rattle.entry.specs.Guards.{settle, first};
+ghost use Rattle.model.specs.Numbers.{acceptedOf};
 ghost use Rattle.model.specs.Backend.{appendOnPrefix, trim, supplied, opsFormed, stepGuards, lastGuards, step};
 ghost use Rattle.model.specs.Calls.{write};
 ghost use Rattle.state_cache.specs.State.{raw, numbersIn, Small};
@@ -27,7 +30,7 @@ ghost use Rattle.backend.specs.Ops.{opOf, opsIn, lentOf, onlyEntries, as
 ghost use Rattle.backend.specs.Midst.{midstOf, Held, rejoined, roomGuards, Goes, Lends, Listed, Wrote};
 
 // Whether what an operation needs is lent.
-pub fn supplied(lent: Lent, o: Op) -> bool
+fn supplied(lent: Lent, o: Op) -> bool
     ensures { λ r. ⌜ r ≡ supplied (lentOf lent [] []) (opOf o) ⌝ }
 {
     let kind = o.kind;
@@ -45,7 +48,7 @@ pub fn supplied(lent: Lent, o: Op) -> bool
 }
 
 // Whether what each operation needs is lent.
-pub fn all_supplied(lent: Lent, list: OpList) -> bool
+fn all_supplied(lent: Lent, list: OpList) -> bool
     requires { ⌜ list .count ≤ 8 ⌝ }
     ensures { λ r. ⌜ r ≡ allOf (supplied (lentOf lent [] [])) (opsIn list) ⌝ }
 {
@@ -62,7 +65,7 @@ pub fn all_supplied(lent: Lent, list: OpList) -> bool
 }
 
 // Whether the incoming slice is in form: its length always, the rest where a snapshot is lent.
-pub fn incoming_formed(lent: Lent, incoming: &[u64]) -> bool
+fn incoming_formed(lent: Lent, incoming: &[u64]) -> bool
     ensures { λ r. ⌜ r ≡ incomingFormed lent (now (incoming .entry)) ⌝ }
 {
     let fine = snapshot::snapshot_formed(incoming, lent.keys);
@@ -86,6 +89,34 @@ pub fn request_formed(entries: &[u64], incoming: &[u64], lent: Lent, list: OpLis
     fine & (shot & ((!lent.stop_lent | sign) & ((1 <= count) & ready)))
 }
 
+// How far a is above b: 0 where it is not.
+fn above(a: u64, b: u64) -> u64
+    ensures { λ r. ⌜ r ≡ a - b ⌝ }
+{
+    if a < b {
+        return 0;
+    }
+    a - b
+}
+
+fn larger(a: u64, b: u64) -> u64
+    ensures { λ r. ⌜ r ≡ max a b ⌝ }
+{
+    if a < b {
+        return b;
+    }
+    a
+}
+
+fn lesser(a: u64, b: usize) -> usize
+    ensures { λ r. ⌜ r ≡ min a b ⌝ }
+{
+    if a < b as u64 {
+        return a as usize;
+    }
+    b
+}
+
 // A list's state after an operation, and the start of the run, which may not be compacted.
 pub struct Stepped {
     pub answer: Settled,
@@ -94,7 +125,7 @@ pub struct Stepped {
 }
 
 // Cuts the run after its first `at` entries and puts the entries there, before the batch; or refusal 1.
-pub fn put_at(
+fn put_at(
     start: u64,
     index: IndexRecord,
     log: &mut [u64],
@@ -133,7 +164,7 @@ pub fn put_at(
 }
 
 // The same at an index of the run or its end; or refusal 7, which carries the end held before the call.
-pub fn put_on_prefix(
+fn put_on_prefix(
     before: IndexRecord,
     start: u64,
     index: IndexRecord,
@@ -148,15 +179,8 @@ pub fn put_on_prefix(
     ensures { λ r. ⌜ Goes (stepGuards (numbersIn before) (onlyEntries (now (entries .entry))) (appendOnPrefix (from .0)) (midstOf start (raw index (now (log .entry)) (now (shot .entry))))) (step (onlyEntries (now (entries .entry))) (appendOnPrefix (from .0)) (midstOf start (raw index (now (log .entry)) (now (shot .entry))))) r (now (log .exit)) (now (shot .entry)) ⌝ }
 {
     let end = state_cache::inner::end(before);
-    if from.0 < start {
-        return Stepped {
-            answer: Settled::Refused(Refusal::OutsideRun(LogIndex(end))),
-            start,
-            index,
-        };
-    }
-    let kept = from.0 - start;
-    if (index.retained as u64) < kept {
+    let kept = above(from.0, start);
+    if (from.0 < start) | ((index.retained as u64) < kept) {
         return Stepped {
             answer: Settled::Refused(Refusal::OutsideRun(LogIndex(end))),
             start,
@@ -166,42 +190,20 @@ pub fn put_on_prefix(
     put_at(start, index, log, shot, kept as usize, entries)
 }
 
-// The lesser of the two.
-fn least(a: u64, b: usize) -> usize
-    ensures { λ r. ⌜ r ≡ min a b ⌝ }
-{
-    if a < b as u64 {
-        return a as usize;
-    }
-    b
-}
-
 // Drops the entries below an index, and moves the run's start there if it is higher.
-pub fn trim_to(
-    start: u64,
-    index: IndexRecord,
-    log: &mut [u64],
-    shot: &[u64],
-    to: LogIndex,
-) -> Stepped
+fn trim_to(start: u64, index: IndexRecord, log: &mut [u64], shot: &[u64], to: LogIndex) -> Stepped
     requires { ⌜ Held (raw index (now log) (now shot)) ⌝ }
     ensures { λ r. ⌜ Goes [] (step (onlyEntries []) (trim (to .0)) (midstOf start (raw index (now (log .entry)) (now (shot .entry))))) r (now (log .exit)) (now (shot .entry)) ⌝ }
 {
-    if to.0 <= start {
-        return Stepped {
-            answer: Settled::Done,
-            start,
-            index,
-        };
-    }
-    let gone = least(to.0 - start, index.retained);
+    let below = above(to.0, start);
+    let gone = lesser(below, index.retained);
     let used = (index.retained + index.batched) * entry::WIDTH;
     words::cut_out(log, used, 0, gone * entry::WIDTH);
     let mut next = index;
     next.retained = index.retained - gone;
     Stepped {
         answer: Settled::Done,
-        start: to.0,
+        start: larger(start, to.0),
         index: next,
     }
 }
@@ -237,7 +239,7 @@ fn write_shot(shot: &mut [u64], given: bool, incoming: &[u64])
 }
 
 // One operation. Its refusals are judged on the state as it stands; what they carry was held before the call.
-pub fn step(
+fn step(
     before: IndexRecord,
     start: u64,
     index: IndexRecord,
@@ -317,8 +319,20 @@ pub fn step(
     }
 }
 
+// Whether the accepted index and the batch pass the largest index. Where compacted does, no sum is taken.
+fn past_last(index: IndexRecord) -> bool
+    requires { ⌜ index .retained + index .batched ≤ entryRoom ⌝ }
+    ensures { λ r. ⌜ r ≡ ltb lastIndex (acceptedOf (numbersIn index) + index .batched) ⌝ }
+{
+    if entry::LAST_INDEX < index.compacted.0 {
+        return true;
+    }
+    let all = state_cache::inner::accepted(index);
+    entry::LAST_INDEX < all + index.batched as u64
+}
+
 // What is judged after the last operation: refusals 9 and 12.
-pub fn judge_last(
+fn judge_last(
     before: IndexRecord,
     start: u64,
     index: IndexRecord,
@@ -330,11 +344,7 @@ pub fn judge_last(
     ensures { λ r. ⌜ settled r ≡ settle (first (lastGuards (numbersIn before) (midstOf start (raw index (now (log .entry)) (now (shot .entry)))))) tt ⌝ }
 {
     let last = state_cache::inner::accepted(before);
-    if entry::LAST_INDEX < index.compacted.0 {
-        return Settled::Refused(Refusal::PastLastIndex(LogIndex(last)));
-    }
-    let all = state_cache::inner::accepted(index);
-    if entry::LAST_INDEX < all + index.batched as u64 {
+    if past_last(index) {
         return Settled::Refused(Refusal::PastLastIndex(LogIndex(last)));
     }
     if start != index.compacted.0 {
@@ -347,7 +357,7 @@ pub fn judge_last(
 }
 
 // All operations in turn, on words that are of no use where one is refused.
-pub fn run_ops(
+fn run_ops(
     before: IndexRecord,
     log: &mut [u64],
     shot: &mut [u64],
@@ -371,7 +381,7 @@ pub fn run_ops(
         if let Settled::Refused(refusal) = answer {
             return SettledAt {
                 answer: Settled::Refused(refusal),
-                index: before,
+                index,
             };
         }
         start = s.start;
@@ -384,7 +394,7 @@ pub fn run_ops(
 
 // All operations or none: they run on copies of the words, which are written back where the whole list stands.
 pub fn write_at(
-    index: IndexRecord,
+    before: IndexRecord,
     log: &mut [u64],
     snapshot: &mut [u64],
     entries: &[u64],
@@ -392,27 +402,27 @@ pub fn write_at(
     lent: Lent,
     list: OpList,
 ) -> SettledAt
-    requires { ⌜ Listed (raw index (now log) (now snapshot)) lent (now entries) (now incoming) list ⌝ }
-    ensures { λ r. ⌜ outcome (settled (r .answer)) (raw (r .index) (now (log .exit)) (now (snapshot .exit))) ≡ run (write (lentOf lent (now (entries .entry)) (now (incoming .entry))) (opsIn list)) true (raw index (now (log .entry)) (now (snapshot .entry))) ⌝ }
+    requires { ⌜ Listed (raw before (now log) (now snapshot)) lent (now entries) (now incoming) list ⌝ }
+    ensures { λ r. ⌜ outcome (settled (r .answer)) (raw (r .index) (now (log .exit)) (now (snapshot .exit))) ≡ run (write (lentOf lent (now (entries .entry)) (now (incoming .entry))) (opsIn list)) true (raw before (now (log .entry)) (now (snapshot .entry))) ⌝ }
 {
     let mut words = [0u64; entry::LOG_WORDS];
     let mut shot = [0u64; entry::SNAPSHOT_WORDS];
     words::copy_words(log, &mut words);
     words::copy_words(snapshot, &mut shot);
-    let r = run_ops(index, &mut words, &mut shot, entries, incoming, lent, list);
+    let r = run_ops(before, &mut words, &mut shot, entries, incoming, lent, list);
     let answer = r.answer;
-    let next = r.index;
+    let after = r.index;
     if let Settled::Refused(refusal) = answer {
         return SettledAt {
             answer: Settled::Refused(refusal),
-            index,
+            index: before,
         };
     }
     words::copy_words(&words, log);
     words::copy_words(&shot, snapshot);
     SettledAt {
         answer: Settled::Done,
-        index: next,
+        index: after,
     }
 }
 

@@ -37,7 +37,7 @@ pub struct Op {
     pub given: bool,
 }
 
-// Up to eight operations by value. A count of nine says that there were more.
+// Up to eight operations by value. A larger count says that there were more.
 pub struct OpList {
     pub count: usize,
     pub ops: [Op; 8],

@@ -91,7 +91,7 @@ returns c =
     let st = startOf l in
     let a = st .args in
     let v = l .loop in
-    wrote-refused (stateAt st) (lentAt st) (opsIn (a .list)) _ (raw (a .before) (p .step .last .1 .1 .1 .0) (p .step .last .1 .1 .1 .1 .0))
+    wrote-refused (stateAt st) (lentAt st) (opsIn (a .list)) _ (raw (v .index) (p .step .last .1 .1 .1 .0) (p .step .last .1 .1 .1 .1 .0))
     (turn-refused (numbersIn (a .before)) (lentAt st) (a .list .ops) (a .list .count) (st .pre .few) (eight st) (asked (stateAt st) (lentAt st) (opsIn (a .list))) (end (stateAt st) (lentAt st) (opsIn (a .list))) (midstOf (v .start) (raw (v .index) (v .log) (v .shot))) (v .i) (v .inv .1 .1) (t .loop-test .taken)
     (p .step .result) (p .step .last .1 .1 .1 .0) (p .step .last .1 .1 .1 .1 .0) (p .step .ensures) _ (c .before .answer .given .1))
 

@@ -16,7 +16,7 @@ use Rattle.backend.proofs.inner.write_at.Statement.{statement}
 use Rattle.backend.proofs.inner.write_at.Tie as tie
 
 abbrev stateAt : tie.Start → Raw
-stateAt c = raw (c .args .index) (now (c .args .log)) (now (c .args .snapshot))
+stateAt c = raw (c .args .before) (now (c .args .log)) (now (c .args .snapshot))
 
 abbrev lentAt : tie.Start → Lent
 lentAt c = lentOf (c .args .lent) (now (c .args .entries)) (now (c .args .incoming))
@@ -37,7 +37,7 @@ ran : (p : tie.After-run-ops) → Wrote (stateAt (startOf (copied p))) (lentAt (
 ran p =
     let k = copied p in
     let st = startOf k in
-    wrote-copy (st .args .index) (now (st .args .log)) (firstCopy k .copy-words .last .1 .0) (now (st .args .snapshot)) (k .copy-words2 .last .1 .0) (firstCopy k .copy-words .ensures) (k .copy-words2 .ensures)
+    wrote-copy (st .args .before) (now (st .args .log)) (firstCopy k .copy-words .last .1 .0) (now (st .args .snapshot)) (k .copy-words2 .last .1 .0) (firstCopy k .copy-words .ensures) (k .copy-words2 .ensures)
     (lentAt st) (opsIn (st .args .list)) (p .run-ops .result .answer) (left p) (p .run-ops .ensures)
 
 stood : (e : tie.After-enum-told) → Ready (left (e .before .before .before .before .before))
@@ -67,7 +67,7 @@ run-ops-requires : tie.Need-run-ops-requires
 run-ops-requires c κs =
     let k = c .before .before .before in
     let st = startOf k in
-    listed-copy (st .args .index) (now (st .args .log)) (firstCopy k .copy-words .last .1 .0) (now (st .args .snapshot)) (k .copy-words2 .last .1 .0) (firstCopy k .copy-words .ensures) (k .copy-words2 .ensures)
+    listed-copy (st .args .before) (now (st .args .log)) (firstCopy k .copy-words .last .1 .0) (now (st .args .snapshot)) (k .copy-words2 .last .1 .0) (firstCopy k .copy-words .ensures) (k .copy-words2 .ensures)
     (st .args .lent) (now (st .args .entries)) (now (st .args .incoming)) (st .args .list) (st .pre)
 
 enum-known-answer : tie.Need-enum-known-answer

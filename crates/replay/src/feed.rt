@@ -1,8 +1,10 @@
-// The input, which comes in parts: lines begin, go on and end in them. Answers wait in `out` until the next might not fit.
+// The input, which comes in parts: lines begin, go on and end in them. Answers wait in `out` until the next might not fit, or until
+// the next part is read.
 use libc::STDOUT_FILENO;
 use state_cache::IndexRecord;
 use text::Command;
 ghost use mathlib.Core.Path.{_≡_};
+ghost use mathlib.Core.Bool.{false};
 ghost use mathlib.Core.List.{List, [], _++_};
 ghost use Prim.Native.Nat.{ℕ, _+_, _≤_};
 ghost use lib.ListN.{length, take};
@@ -50,7 +52,7 @@ fn command_of(st: Feed, line: &[u8]) -> Command
 // The end of a line: it is answered on the log, and the next begins.
 fn finish(st: Feed, line: &[u8], log: &mut [u64], snapshot: &mut [u64], out: &mut [u8]) -> Feed
     requires { ⌜ Fed (st .len) (st .used) (length (now line)) (length (now log)) (length (now out)) ⌝ }
-    ensures { λ r. ⌜ (r .len ≡ 0) × (r .used ≤ outRoom) ⌝ }
+    ensures { λ r. ⌜ (r .len ≡ 0) × (r .over ≡ false) × (r .used ≤ outRoom) ⌝ }
     ensures { λ r. ⌜ told (take (r .used) (now (out .exit))) (raw (r .index) (now (log .exit)) (now (snapshot .exit))) ≡ after (take (nextAt (st .used)) (now (out .entry))) (answering (meaning (st .over) (st .len) (now (line .entry)) []) (raw (st .index) (now (log .entry)) (now (snapshot .entry)))) ⌝ }
 {
     let used = st.used;

@@ -14,7 +14,7 @@ const LINE_ROOM: usize = 48;
 
 const OUT_ROOM: usize = 131072;
 
-// Reads once, and does what came.
+// Writes the answers that wait, so that none is kept back while more input is awaited; then reads once, and does what came.
 fn take_turn(
     st: Feed,
     line: &mut [u8; LINE_ROOM],
@@ -25,15 +25,19 @@ fn take_turn(
     requires { ⌜ (st .len ≤ lineRoom) × (st .used ≤ outRoom) ⌝ }
     ensures { λ r. ⌜ (r .len ≤ lineRoom) × (r .used ≤ outRoom) ⌝ }
 {
+    let used = st.used;
+    let view: &[u8] = out;
+    io::write_all(STDOUT_FILENO, &view[..used]);
     let mut chunk = io::large_buffer();
     let got = libc::read(STDIN_FILENO, &mut chunk);
     let n = io::count(got, &chunk);
+    let mut s = st;
+    s.used = 0;
     if n == 0 {
-        let mut s = st;
         s.more = false;
         return s;
     }
-    feed::take_part(&chunk[..n], st, line, log, snapshot, out)
+    feed::take_part(&chunk[..n], s, line, log, snapshot, out)
 }
 
 // The last line, where no line end came after it, and the answers that wait.

@@ -40,7 +40,7 @@ returns c =
     let room = c .before .before .before .before .before .before .before .before .before .before .before .before .room in
     let x = raw (a .st .index) (now (a .log)) (now (a .snapshot)) in
     let k = meaning (a .st .over) (a .st .len) (now (a .line)) [] in
-    ((refl, omega (arith, done .ensures .0, room .ensures, next-low (a .st .used))), done .ensures .1 ∙ ap (λ (k : Command). after (take (room .result) (now (a .out))) (answering k x)) (c .before .before .before .before .before .before .before .before .before .before .before .command-of .ensures) ∙ ap (λ (n : ℕ). after (take n (now (a .out))) (answering k x)) (room .ensures))
+    ((refl, refl, omega (arith, done .ensures .0, room .ensures, next-low (a .st .used))), done .ensures .1 ∙ ap (λ (k : Command). after (take (room .result) (now (a .out))) (answering k x)) (c .before .before .before .before .before .before .before .before .before .before .before .command-of .ensures) ∙ ap (λ (n : ℕ). after (take n (now (a .out))) (answering k x)) (room .ensures))
 
 pub finish-spec : {M : Type 1} → statement M
 finish-spec =

@@ -1,5 +1,6 @@
--- `backend::inner::gather` meets its contract: a walk of its MIR, by hand, with a loop. Each turn looks into the slice, reads one operation, shuts the slice again, and calls `put` with the list so far.
--- The loop's variant has what is known at its head: the place, the list so far, that it is a list's value, and that putting the operations that are left gives what is asked for.
+-- `backend::inner::gather` meets its contract: a walk of its MIR, by hand, with a loop. Each turn looks into the slice, reads one operation,
+-- shuts the slice again, and calls `put` with the list so far. The loop's variant has what is known at its head: the place, the list so far,
+-- that it is a list's value, and that putting the operations that are left gives what is asked for.
 use mathlib.Core.Path.{_≡_, refl, sym, ap, _∙_, subst}
 use Prim.Native.Nat.{ℕ, _+_, _-_, _≤_, _<_, zero-le}
 use native.Mathlib.Omega.{arith}

@@ -23,9 +23,8 @@ use Rattle.model.specs.Backend.{lastGuards}
 use Rattle.state_cache.specs.State.{Raw, numbersIn, signHeld, shotHeld, formed, logOf}
 use Rattle.state_cache.specs.declared.IndexRecord.{IndexRecord}
 use Rattle.state_cache.proofs.Small.{accepted-le}
-use Rattle.state_cache.proofs.Stands.{log-formed}
+use Rattle.state_cache.proofs.Stands.{log-formed, given-by}
 use Rattle.backend.specs.Midst.{midstOf, Held}
-use Rattle.backend.proofs.Requests.{given-by}
 
 -- the numbers of the log that a record and words stand for are the record's
 pub numbers-of : (r : Raw) → numbersOf (logOf r) ≡ numbersIn (r .index)

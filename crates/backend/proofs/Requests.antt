@@ -27,7 +27,7 @@ use Rattle.model.specs.Calls.{write, malformed}
 use Rattle.model.proofs.Forms.{of-shot}
 use Rattle.state_cache.specs.State.{Raw, formed as formedRaw}
 use Rattle.state_cache.specs.Run.{outcome, run}
-use Rattle.state_cache.proofs.Stands.{ready-of}
+use Rattle.state_cache.proofs.Stands.{ready-of, given-by}
 use Rattle.state_cache.proofs.Runs.{not-whole, bad-call}
 use Rattle.backend.specs.declared.Op.{Op as CodeOp}
 use Rattle.backend.specs.declared.OpKind.{OpKind}
@@ -36,10 +36,6 @@ use Rattle.backend.specs.declared.OpList.{OpList}
 use Rattle.backend.specs.declared.Lent.{Lent as CodeLent}
 use Rattle.backend.specs.Ops.{ofKind, opOf, noOp, opsIn, lentOf, incomingFormed, wholeLent, wholeList}
 use Rattle.backend.specs.Midst.{Lends, Listed}
-
-pub given-by : {A : Type 0} (b : Bool) (x : A) → given (if b then some x else none) ≡ b
-given-by true x = refl
-given-by false x = refl
 
 module _ (b : CodeLent) (o : CodeOp) where
   by-kind : (k : OpKind) → o .kind ≡ k → supplied (lentOf b [] []) (ofKind k o) ≡ supplied (lentOf b [] []) (opOf o)

@@ -1,4 +1,8 @@
-// The calls of `snapshot` from a program: two runs of changes are folded, the folds are merged, and keys are looked up.
+// The library from a program: two runs of changes are folded, the folds are merged, and keys are looked up; then a log takes an entry,
+// which is decided and looked up.
+use entry::BlockPlace;
+use entry::LogIndex;
+use internal_storage::Said;
 use snapshot::Folded;
 use snapshot::Found;
 
@@ -59,4 +63,21 @@ fn main() {
     print_found(snapshot::find(&both, n, 7));
     print_found(snapshot::find(&both, n, 9));
     print_found(snapshot::find(&both, 513, 4));
+    let mut log = [0u64; entry::LOG_WORDS];
+    let mut held = [0u64; entry::SNAPSHOT_WORDS];
+    let started = state_cache::fresh(0, &mut log, &mut held);
+    let start = started.index;
+    let said = Said::Place(BlockPlace(100));
+    let added = internal_storage::append::append_entry_with_batching(
+        start,
+        &mut log,
+        &held,
+        9,
+        said,
+    );
+    let appended = added.index;
+    let known = internal_storage::decide::set_decided_idx(appended, &log, &held, LogIndex(1));
+    let index = known.index;
+    print_found(reading::lookup(appended, &log, &held, 9));
+    print_found(reading::lookup(index, &log, &held, 9));
 }

@@ -7,7 +7,12 @@ ghost use Prim.Native.Nat.{_≤_};
 ghost use Rattle.calls.specs.Rooms.{lineRoom, outRoom};
 
 mod answer;
+mod appends;
+mod calls;
 mod feed;
+mod folds;
+mod plain;
+mod reads;
 mod reply;
 mod setting;
 mod shown;

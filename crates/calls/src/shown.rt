@@ -211,6 +211,19 @@ pub fn put_area_line(out: &mut [u8], at: usize, words: &[u64]) -> usize
     text::inner::put(out, a, b"\n")
 }
 
+// The line of a part of the log, which is no longer than the log.
+pub fn put_part(out: &mut [u8], at: usize, words: &[u64]) -> usize
+    requires { ⌜ at + answerRoom ≤ length (now out) ⌝ }
+    ensures { λ r. ⌜ r ≤ at + answerRoom ⌝ }
+{
+    if words.len() > entry::LOG_WORDS {
+        return text::inner::put_line(out, at, Line::BadLine);
+    }
+    let a = text::inner::put(out, at, b"1");
+    let b = put_next_area(out, a, words);
+    text::inner::put(out, b, b"\n")
+}
+
 // A reply's numbers but the first.
 fn put_rest(out: &mut [u8], at: usize, numbers: &[u64; MOST], n: usize) -> usize
     requires { ⌜ (1 ≤ n) × (n ≤ 9) × (at + 21 * 9 ≤ length (now out)) ⌝ }

@@ -1,3 +1,4 @@
 pub mod ParseLaws
 pub mod Long
 pub mod AnswerLaws
+pub mod FeedLaws

@@ -2,3 +2,4 @@ pub mod Bytes
 pub mod Number
 pub mod Parse
 pub mod Answers
+pub mod Feeding

@@ -1,6 +1,8 @@
 // What the program needs to take lines apart and to gather its answers: not for a user. Each function that puts bytes puts them into
 // out from index `at` on, for which it asks room, and answers the index after them.
 use super::Line;
+use super::Parsed;
+use libc::STDOUT_FILENO;
 ghost use mathlib.Core.Path.{_≡_};
 ghost use mathlib.Core.List.{_++_};
 ghost use Prim.Native.Nat.{_+_, _*_, _≤_};
@@ -9,6 +11,8 @@ ghost use Rattle.entry.specs.Limits.{width};
 ghost use Rattle.entry.specs.Change.{change, entriesOf};
 ghost use Rattle.io.specs.Counts.{Counts};
 ghost use Rattle.text.specs.Bytes.{bytes, gapOf};
+ghost use Rattle.text.specs.Feeding.{come, joined, nextAt};
+ghost use Rattle.text.specs.Number.{numberOf};
 ghost use Rattle.text.specs.Answers.{decimalOf, lineOf, entryText, entryLine, entryLines};
 
 // How many bytes stand before the first b.
@@ -26,6 +30,38 @@ pub fn gap(s: &[u8], b: u8) -> usize
     i
 }
 
+// The number that s spells in decimal, without leading zeros and below 2^64.
+pub fn number(s: &[u8]) -> Parsed
+    ensures { λ r. ⌜ r ≡ numberOf (now (s .entry)) ⌝ }
+{
+    if s.len() == 0 {
+        return Parsed::NoNumber;
+    }
+    if s.len() > 1 {
+        if s[0] == b'0' {
+            return Parsed::NoNumber;
+        }
+    }
+    let mut n: u64 = 0;
+    let mut i = 0;
+    while i < s.len() {
+        let b = s[i];
+        if b < b'0' {
+            return Parsed::NoNumber;
+        }
+        if b > b'9' {
+            return Parsed::NoNumber;
+        }
+        let d = (b - b'0') as u64;
+        if n > (u64::MAX - d) / 10 {
+            return Parsed::NoNumber;
+        }
+        n = n * 10 + d;
+        i += 1;
+    }
+    Parsed::Value(n)
+}
+
 // The bytes of src.
 pub fn put(out: &mut [u8], at: usize, src: &[u8]) -> usize
     requires { ⌜ at + length (now src) ≤ length (now out) ⌝ }
@@ -41,7 +77,7 @@ pub fn put(out: &mut [u8], at: usize, src: &[u8]) -> usize
 }
 
 // n in decimal.
-fn put_number(out: &mut [u8], at: usize, n: u64) -> usize
+pub fn put_number(out: &mut [u8], at: usize, n: u64) -> usize
     requires { ⌜ at + 20 ≤ length (now out) ⌝ }
     ensures { λ r. ⌜ r ≤ at + 20 ⌝ }
     ensures { λ r. ⌜ take r (now (out .exit)) ≡ take at (now (out .entry)) ++ decimalOf n ⌝ }
@@ -137,4 +173,38 @@ pub fn put_run(out: &mut [u8], at: usize, entries: &[u64], n: usize, decided: us
         i += 1;
     }
     o
+}
+
+// A line of which parts have come: how many bytes stand in its buffer, and whether there were more than it holds.
+pub struct Partial {
+    pub len: usize,
+    pub over: bool,
+}
+
+// A part of a line is kept after those before it, unless it does not fit the line's buffer.
+pub fn keep(part: &[u8], held: Partial, line: &mut [u8]) -> Partial
+    requires { ⌜ held .len ≤ length (now line) ⌝ }
+    ensures { λ r. ⌜ r .len ≤ length (now (line .entry)) ⌝ }
+    ensures { λ r. ⌜ come (r .over) (r .len) (now (line .exit)) ≡ joined (length (now (line .entry))) (come (held .over) (held .len) (now (line .entry))) (now (part .entry)) ⌝ }
+{
+    let len = held.len;
+    let over = held.over;
+    if part.len() > line.len() - len {
+        return Partial { len, over: true };
+    }
+    let n = put(line, len, part);
+    Partial { len: n, over }
+}
+
+// Writes the answers that wait where the next might not fit after them, which it might not after more than `last` bytes, and says where
+// the next is put.
+pub fn room(out: &[u8], used: usize, last: usize) -> usize
+    requires { ⌜ used ≤ length (now out) ⌝ }
+    ensures { λ r. ⌜ r ≡ nextAt last used ⌝ }
+{
+    if used <= last {
+        return used;
+    }
+    io::write_all(STDOUT_FILENO, &out[..used]);
+    0
 }

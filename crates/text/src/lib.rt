@@ -1,6 +1,5 @@
 // The text of a replay: what a line of input means, and the lines that are printed.
 ghost use mathlib.Core.Path.{_≡_};
-ghost use Rattle.text.specs.Number.{numberOf};
 ghost use Rattle.text.specs.Parse.{sameOf, bareOf, numberedOf, withOne, withTwo, parseOf};
 
 pub mod inner;
@@ -38,38 +37,6 @@ pub enum Line {
     Trimmed(u64),
     Snapshot(u64, u64),
     Stop(u32, bool),
-}
-
-// The number that s spells in decimal, without leading zeros and below 2^64.
-fn number(s: &[u8]) -> Parsed
-    ensures { λ r. ⌜ r ≡ numberOf (now (s .entry)) ⌝ }
-{
-    if s.len() == 0 {
-        return Parsed::NoNumber;
-    }
-    if s.len() > 1 {
-        if s[0] == b'0' {
-            return Parsed::NoNumber;
-        }
-    }
-    let mut n: u64 = 0;
-    let mut i = 0;
-    while i < s.len() {
-        let b = s[i];
-        if b < b'0' {
-            return Parsed::NoNumber;
-        }
-        if b > b'9' {
-            return Parsed::NoNumber;
-        }
-        let d = (b - b'0') as u64;
-        if n > (u64::MAX - d) / 10 {
-            return Parsed::NoNumber;
-        }
-        n = n * 10 + d;
-        i += 1;
-    }
-    Parsed::Value(n)
 }
 
 // Whether two slices hold the same bytes.
@@ -134,7 +101,7 @@ fn one(w: &[u8], a: &[u8]) -> Command
     if same(w, b"snap") & same(a, b"all") {
         return Command::SnapAll;
     }
-    let Parsed::Value(n) = number(a) else {
+    let Parsed::Value(n) = inner::number(a) else {
         return Command::BadLine;
     };
     numbered(w, n)
@@ -144,10 +111,10 @@ fn one(w: &[u8], a: &[u8]) -> Command
 fn two(w: &[u8], a: &[u8], b: &[u8]) -> Command
     ensures { λ r. ⌜ r ≡ withTwo (now (w .entry)) (now (a .entry)) (now (b .entry)) ⌝ }
 {
-    let Parsed::Value(m) = number(a) else {
+    let Parsed::Value(m) = inner::number(a) else {
         return Command::BadLine;
     };
-    let Parsed::Value(n) = number(b) else {
+    let Parsed::Value(n) = inner::number(b) else {
         return Command::BadLine;
     };
     if same(w, b"put") {

@@ -1,4 +1,4 @@
--- `text::number` meets its contract: the digits that are left make of the number already read what the whole makes of none.
+-- `text::inner::number` meets its contract: the digits that are left make of the number already read what the whole makes of none.
 use Prim.Native.Nat.{_≤_, _<_, _-_, _^_}
 use mathlib.Core.Path.{_≡_, sym, _∙_}
 use mathlib.Core.Logic.{⊎-elim}
@@ -7,8 +7,8 @@ use lib.ListN.{length, drop}
 use denote.Ref.{now}
 use Rattle.text.specs.Number.{numberOf}
 use Rattle.text.proofs.ParseLaws.{whole, number-empty, number-zero, number-one, number-more, whole-step, whole-below, whole-above, whole-over, whole-end}
-use Rattle.text.proofs.number.Statement.{statement}
-use Rattle.text.proofs.number.Tie as tie
+use Rattle.text.proofs.inner.number.Statement.{statement}
+use Rattle.text.proofs.inner.number.Tie as tie
 
 abbrev Inv-loop : tie.InvT-loop
 Inv-loop s n₀ i₀ n i = (i ≤ length s) × (n < 2 ^ 64) × (whole n (drop i s) ≡ numberOf s)

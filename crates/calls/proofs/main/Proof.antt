@@ -1,0 +1,51 @@
+-- `calls::main` is safe and ends: the line so far fits its buffer, and the answers that wait theirs. The measure is the number of turns left.
+use Prim.Native.Nat.{_≤_}
+use Rattle.calls.specs.Rooms.{lineRoom, outRoom}
+use native.Mathlib.Omega.{arith}
+use Rattle.calls.proofs.main.Statement.{statement}
+use Rattle.calls.proofs.main.Tie as tie
+
+abbrev Inv-loop : tie.InvT-loop
+Inv-loop line₀ log₀ snapshot₀ entries₀ second₀ output₀ out₀ s₀ turns₀ line log snapshot entries second output out s turns = (s .held .len ≤ lineRoom) × (s .used ≤ outRoom)
+
+abbrev μ-loop : tie.MeasureT-loop
+μ-loop line₀ log₀ snapshot₀ entries₀ second₀ output₀ out₀ s₀ turns₀ line log snapshot entries second output out s turns = turns
+
+start-requires : tie.Need-start-requires Inv-loop μ-loop
+start-requires c κs = tt
+
+loop-holds : tie.Need-loop-holds Inv-loop μ-loop
+loop-holds c = omega arith
+
+take-turn-requires : tie.Need-take-turn-requires Inv-loop μ-loop
+take-turn-requires c κs = omega arith
+
+sub-turns : tie.Need-sub-turns Inv-loop μ-loop
+sub-turns c = omega arith
+
+loop-less : tie.Need-loop-less Inv-loop μ-loop
+loop-less c = omega arith
+
+loop-again : tie.Need-loop-again Inv-loop μ-loop
+loop-again c = omega arith
+
+last-requires : tie.Need-last-requires Inv-loop μ-loop
+last-requires c κs = omega arith
+
+returns : tie.Need-returns Inv-loop μ-loop
+returns c = tt
+
+pub main-spec : {M : Type 1} → statement M
+main-spec =
+    tie.close
+    (tie.spec
+    Inv-loop
+    μ-loop
+    start-requires
+    loop-holds
+    take-turn-requires
+    sub-turns
+    loop-less
+    loop-again
+    last-requires
+    returns)

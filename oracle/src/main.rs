@@ -1,206 +1,27 @@
-//! The Rust as the judge of a replay: what the proved program answered to a script, beside what the Rust answers to it.
+//! The Rust as the judge of the port.
 //!
-//!     oracle SCRIPT ANSWERS [SCRIPT ANSWERS ..]
-//!
-//! Lines that the program refuses, or finds bad, are outside the domain in which document 01 compares the two: the Rust is not asked.
-// The judged files hold more than a replay needs.
+//!     oracle replay SCRIPT ANSWERS [SCRIPT ANSWERS ..]
+//!     oracle calls N SEED PROGRAM [ARGS..]
+// The judged files hold more than is asked of them.
 #![allow(dead_code)]
 mod backend;
+mod calls;
+mod judge;
+mod port;
+mod replay;
 mod shims;
 pub use shims::*;
 include!(concat!(env!("OUT_DIR"), "/judged.rs"));
 
-use backend::{Change, Shared};
-use std::collections::BTreeMap;
-use std::fs;
-use storage::internal_storage::{InternalStorage, InternalStorageConfig};
-use storage::StopSign;
-use util::{AcceptedMetaData, LogEntry};
-
-#[derive(Default)]
-struct Report {
-    compared: BTreeMap<String, u64>,
-    refused: BTreeMap<String, u64>,
-    listed: BTreeMap<&'static str, u64>,
-}
-
-fn storage_of(size: usize) -> InternalStorage<Shared, Change> {
-    InternalStorage::with(
-        Shared::default(),
-        InternalStorageConfig { batch_size: size },
-    )
-}
-
-/// Differences that docs/DIFFERENCES.md lists: there the Rust panics.
-fn listed(rust: &InternalStorage<Shared, Change>, from: usize, to: usize) -> Option<&'static str> {
-    let stop_at = rust.get_accepted_idx().wrapping_sub(1);
-    if from == usize::MAX && to > rust.get_compacted_idx() {
-        return Some("a read from 2^64-1");
-    }
-    (rust.get_stopsign().is_some()
-        && from == stop_at
-        && to <= from
-        && to > rust.get_compacted_idx())
-    .then_some("a read at the stop-sign with to at or below from")
-}
-
-fn entry(state: &str, e: &Change) -> String {
-    format!(
-        "{state} {} {}",
-        e.key,
-        e.place.map_or("-".to_string(), |p| p.to_string())
-    )
-}
-
-fn shown(entry_of_log: &LogEntry<Change>) -> String {
-    match entry_of_log {
-        LogEntry::Decided(e) => entry("decided", e),
-        LogEntry::Undecided(e) => entry("undecided", e),
-        LogEntry::Trimmed(i) => format!("trimmed {i}"),
-        LogEntry::Snapshotted(s) => format!("snapshot {} {}", s.trimmed_idx, s.snapshot.0.len()),
-        LogEntry::StopSign(g, decided) => format!(
-            "stop {} {}",
-            g.next_config.configuration_id,
-            if *decided { "yes" } else { "no" }
-        ),
-    }
-}
-
-fn appended(meta: Option<AcceptedMetaData<Change>>) -> Vec<String> {
-    vec![meta.map_or("held".to_string(), |m| {
-        format!("accepted {}", m.accepted_idx)
-    })]
-}
-
-/// What the Rust answers to a line that the program does not refuse.
-fn answer(rust: &mut InternalStorage<Shared, Change>, line: &str) -> Vec<String> {
-    let words: Vec<&str> = line.split(' ').collect();
-    let number = |at: usize| words[at].parse::<u64>().unwrap();
-    let index = |at: usize| number(at) as usize;
-    let done = vec!["ok".to_string()];
-    match words[0] {
-        "batch" => {
-            *rust = storage_of(index(1));
-            done
-        }
-        "put" => appended(
-            rust.append_entry_with_batching(Change {
-                key: number(1),
-                place: Some(number(2)),
-            })
-            .unwrap(),
-        ),
-        "del" => appended(
-            rust.append_entry_with_batching(Change {
-                key: number(1),
-                place: None,
-            })
-            .unwrap(),
-        ),
-        "flush" => vec![format!("accepted {}", rust.flush_batch().unwrap())],
-        "decide" => {
-            rust.set_decided_idx(index(1)).unwrap();
-            done
-        }
-        "snap" => {
-            rust.try_snapshot((words[1] != "all").then(|| index(1)))
-                .unwrap();
-            done
-        }
-        "trim" => {
-            rust.try_trim(index(1)).unwrap();
-            done
-        }
-        "stop" => {
-            let config = ClusterConfig {
-                configuration_id: number(1) as u32,
-                nodes: vec![1],
-                flexible_quorum: None,
-            };
-            rust.append_stopsign(StopSign::with(config, None)).unwrap();
-            vec![format!("accepted {}", rust.get_accepted_idx())]
-        }
-        "read" => match rust.read(index(1)..index(2)).unwrap() {
-            None => vec!["none".to_string()],
-            Some(run) => std::iter::once(format!("run {}", run.len()))
-                .chain(run.iter().map(shown))
-                .collect(),
-        },
-        _ => unreachable!("{line} is no command"),
-    }
-}
-
-/// The answers to one script; the first line that differs.
-fn judge(script: &[u8], answers: &str, report: &mut Report) -> Result<(), String> {
-    let mut rust = storage_of(0);
-    let mut given = answers.lines();
-    let script = script.strip_suffix(b"\n").unwrap_or(script);
-    for (at, line) in script.split(|b| *b == b'\n').enumerate() {
-        let Some(first) = given.next() else {
-            return if script.is_empty() {
-                Ok(())
-            } else {
-                Err(format!("line {}: no answer", at + 1))
-            };
-        };
-        let more = first.strip_prefix("run ").map_or(0, |n| n.parse().unwrap());
-        let port: Vec<&str> = std::iter::once(first)
-            .chain(given.by_ref().take(more))
-            .collect();
-        if first == "bad line" || first.starts_with("refused ") {
-            *report.refused.entry(first.to_string()).or_default() += 1;
-            continue;
-        }
-        let line = std::str::from_utf8(line)
-            .map_err(|_| format!("line {}: not a command, yet answered {first:?}", at + 1))?;
-        let words: Vec<&str> = line.split(' ').collect();
-        if words[0] == "read" {
-            if let Some(name) = listed(&rust, words[1].parse().unwrap(), words[2].parse().unwrap())
-            {
-                *report.listed.entry(name).or_default() += 1;
-                continue;
-            }
-        }
-        let theirs = answer(&mut rust, line);
-        if theirs != port {
-            return Err(format!(
-                "line {}, `{line}`: the Rust answers {theirs:?}, the port {port:?}",
-                at + 1
-            ));
-        }
-        *report.compared.entry(words[0].to_string()).or_default() += 1;
-    }
-    given
-        .next()
-        .map_or(Ok(()), |more| Err(format!("an answer too many: {more}")))
-}
-
 fn main() {
-    let files: Vec<String> = std::env::args().skip(1).collect();
-    let mut report = Report::default();
-    let (mut passed, mut failed) = (0, 0);
-    for pair in files.chunks(2) {
-        let script = fs::read(&pair[0]).unwrap_or_else(|e| panic!("{}: {e}", pair[0]));
-        let answers = fs::read_to_string(&pair[1]).unwrap_or_else(|e| panic!("{}: {e}", pair[1]));
-        match judge(&script, &answers, &mut report) {
-            Ok(()) => passed += 1,
-            Err(what) => {
-                failed += 1;
-                println!("{}: {what}", pair[0]);
-            }
+    let words: Vec<String> = std::env::args().skip(1).collect();
+    let same = match words.first().map(String::as_str) {
+        Some("replay") => replay::run(&words[1..]),
+        Some("calls") if words.len() > 3 => {
+            let number = |at: usize| words[at].parse().expect("a number");
+            calls::run(number(1), number(2), &words[3..])
         }
-    }
-    for (rows, title) in [
-        (&report.compared, "compared"),
-        (&report.refused, "not asked of the Rust"),
-    ] {
-        for (name, count) in rows {
-            println!("{title}: {name}: {count}");
-        }
-    }
-    for (name, count) in &report.listed {
-        println!("listed in docs/DIFFERENCES.md: {name}: {count}");
-    }
-    println!("{passed} passed, {failed} failed");
-    std::process::exit((failed > 0) as i32);
+        _ => panic!("oracle replay SCRIPT ANSWERS ..; oracle calls N SEED PROGRAM .."),
+    };
+    std::process::exit(!same as i32);
 }

@@ -96,7 +96,7 @@ fn step(
 }
 
 // Does what a line of n numbers says, and puts its answer.
-pub fn answer(
+pub(crate) fn answer(
     st: State,
     a: &[u64; 64],
     n: usize,

@@ -116,7 +116,7 @@ fn settle(
     }
 }
 
-pub fn call(
+pub(crate) fn call(
     index: IndexRecord,
     sign: StopSign,
     ballot: Ballot,

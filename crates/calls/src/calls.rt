@@ -90,14 +90,14 @@ fn call(
 }
 
 // So many words of an area are lent; line 3 sets no more than it has.
-pub fn within(n: usize, words: usize) -> usize
+pub(crate) fn within(n: usize, words: usize) -> usize
     ensures { λ r. ⌜ r ≤ words ⌝ }
 {
     if n <= words { n } else { words }
 }
 
 // Lends the areas' words to the call, and keeps the record that it hands back.
-pub fn lend(
+pub(crate) fn lend(
     st: State,
     a: &[u64; 64],
     log: &mut [u64],

@@ -103,7 +103,7 @@ fn finish(
 }
 
 // The end of a line, where there is one.
-pub fn finish_if(
+pub(crate) fn finish_if(
     ends: bool,
     st: Feed,
     line: &[u8; LINE_ROOM],
@@ -133,7 +133,7 @@ fn keep(part: &[u8], st: Feed, line: &mut [u8; LINE_ROOM]) -> Feed
     s
 }
 
-pub fn take_part(
+pub(crate) fn take_part(
     part: &[u8],
     st: Feed,
     line: &mut [u8; LINE_ROOM],

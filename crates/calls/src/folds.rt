@@ -91,7 +91,7 @@ fn sync_to(
     reply::after_accepted(to)
 }
 
-pub fn call(
+pub(crate) fn call(
     index: IndexRecord,
     sign: StopSign,
     ballot: Ballot,

@@ -15,7 +15,7 @@ fn compare(ballot: Ballot, a: &[u64; 64]) -> Reply {
     reply::three(1, order, equal)
 }
 
-pub fn call(
+pub(crate) fn call(
     sign: StopSign,
     ballot: Ballot,
     a: &[u64; 64],

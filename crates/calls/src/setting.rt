@@ -156,7 +156,7 @@ fn clear_all(
 }
 
 // Lines 2 to 9, of n numbers.
-pub fn set(
+pub(crate) fn set(
     st: State,
     a: &[u64; 64],
     n: usize,

@@ -188,7 +188,7 @@ fn put_areas(
 }
 
 // The state's line.
-pub fn put_state(
+pub(crate) fn put_state(
     out: &mut [u8],
     at: usize,
     index: IndexRecord,
@@ -203,7 +203,7 @@ pub fn put_state(
 }
 
 // An area's line.
-pub fn put_area_line(out: &mut [u8], at: usize, words: &[u64]) -> usize
+pub(crate) fn put_area_line(out: &mut [u8], at: usize, words: &[u64]) -> usize
     requires { ⌜ at + 21 * length (now words) + 21 ≤ length (now out) ⌝ }
     ensures { λ r. ⌜ r ≤ at + 21 * length (now (words .entry)) + 21 ⌝ }
 {
@@ -212,7 +212,7 @@ pub fn put_area_line(out: &mut [u8], at: usize, words: &[u64]) -> usize
 }
 
 // The line of a part of the log, which is no longer than the log.
-pub fn put_part(out: &mut [u8], at: usize, words: &[u64]) -> usize
+pub(crate) fn put_part(out: &mut [u8], at: usize, words: &[u64]) -> usize
     requires { ⌜ at + answerRoom ≤ length (now out) ⌝ }
     ensures { λ r. ⌜ r ≤ at + answerRoom ⌝ }
 {
@@ -233,7 +233,7 @@ fn put_rest(out: &mut [u8], at: usize, numbers: &[u64; MOST], n: usize) -> usize
 }
 
 // A reply's line.
-pub fn put_reply(out: &mut [u8], at: usize, reply: Reply) -> usize
+pub(crate) fn put_reply(out: &mut [u8], at: usize, reply: Reply) -> usize
     requires { ⌜ at + 210 ≤ length (now out) ⌝ }
     ensures { λ r. ⌜ r ≤ at + 210 ⌝ }
 {

@@ -38,7 +38,7 @@ pub struct Stepped {
 }
 
 // Everything zero, and every area lent whole.
-pub fn start() -> State {
+pub(crate) fn start() -> State {
     let index = state_cache::inner::fresh_index(0);
     let sign = index.stop;
     let ballot = index.promise;
@@ -59,7 +59,7 @@ pub fn start() -> State {
 }
 
 // How many words an area has; none where there is no such area.
-pub fn words_of(area: u64) -> u64 {
+pub(crate) fn words_of(area: u64) -> u64 {
     match area {
         0 | 2 => entry::LOG_WORDS as u64,
         1 | 3 | 4 => entry::SNAPSHOT_WORDS as u64,
@@ -71,11 +71,11 @@ fn narrow(v: u64) -> u32 {
     (v % 0x1_0000_0000) as u32
 }
 
-pub fn ballot_fits(c: u64, n: u64, p: u64) -> bool {
+pub(crate) fn ballot_fits(c: u64, n: u64, p: u64) -> bool {
     (c < 0x1_0000_0000) & ((n < 0x1_0000_0000) & (p < 0x1_0000_0000))
 }
 
-pub fn ballot_of(c: u64, n: u64, p: u64, pid: u64) -> Ballot {
+pub(crate) fn ballot_of(c: u64, n: u64, p: u64, pid: u64) -> Ballot {
     Ballot {
         config_id: narrow(c),
         n: narrow(n),
@@ -85,7 +85,7 @@ pub fn ballot_of(c: u64, n: u64, p: u64, pid: u64) -> Ballot {
 }
 
 // A stop-sign's fields: 0 config_id, 1 node_count, 2-8 nodes, 9 metadata_held, 10 metadata_len, 11-42 metadata.
-pub fn sign_fits(f: u64, v: u64) -> bool {
+pub(crate) fn sign_fits(f: u64, v: u64) -> bool {
     match f {
         0 => v < 0x1_0000_0000,
         1..=8 => true,
@@ -114,7 +114,7 @@ fn set_byte(s: StopSign, i: usize, v: u64) -> StopSign {
     t
 }
 
-pub fn set_sign(s: StopSign, f: u64, v: u64) -> StopSign {
+pub(crate) fn set_sign(s: StopSign, f: u64, v: u64) -> StopSign {
     let mut t = s;
     if f < 1 {
         t.config_id = narrow(v);
@@ -157,7 +157,7 @@ fn set_ballot(b: Ballot, f: u64, v: u64) -> Ballot {
     t
 }
 
-pub fn field_fits(f: u64, v: u64) -> bool {
+pub(crate) fn field_fits(f: u64, v: u64) -> bool {
     match f {
         0..=4 => true,
         5..=7 => v < 0x1_0000_0000,
@@ -210,7 +210,7 @@ fn set_held(index: IndexRecord, f: u64, v: u64) -> IndexRecord {
     r
 }
 
-pub fn set_field(index: IndexRecord, f: u64, v: u64) -> IndexRecord {
+pub(crate) fn set_field(index: IndexRecord, f: u64, v: u64) -> IndexRecord {
     let mut r = index;
     if f < 5 {
         return set_number(index, f, v);

@@ -321,7 +321,7 @@ fn bad_line(index: IndexRecord, out: &mut [u8], at: usize) -> Stepped
 }
 
 // Does what a line says, and puts its answer.
-pub fn step(
+pub(crate) fn step(
     index: IndexRecord,
     log: &mut [u64],
     snapshot: &mut [u64],

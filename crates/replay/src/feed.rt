@@ -72,7 +72,7 @@ fn finish(st: Feed, line: &[u8], log: &mut [u64], snapshot: &mut [u64], out: &mu
 }
 
 // The end of a line, where there is one.
-pub fn finish_if(
+pub(crate) fn finish_if(
     ends: bool,
     st: Feed,
     line: &[u8],
@@ -106,7 +106,7 @@ fn keep(part: &[u8], st: Feed, line: &mut [u8]) -> Feed
     s
 }
 
-pub fn take_part(
+pub(crate) fn take_part(
     part: &[u8],
     st: Feed,
     line: &mut [u8],

@@ -71,7 +71,7 @@ fn put_shown(out: &mut [u8], at: usize, run: ShownRun, index: IndexRecord, log: 
     put_stop(out, c, run, index)
 }
 
-pub fn put_read(
+pub(crate) fn put_read(
     out: &mut [u8],
     at: usize,
     reply: ReadReply,

@@ -1,21 +1,18 @@
 -- Lines that come in parts: what a line means, some of whose bytes have come, and what its end prints.
 use Prim.Native.Nat.{ℕ, _≤_}
 use mathlib.Core.Path.{_≡_}
-use mathlib.Core.Bool.{Bool, true, false}
 use mathlib.Core.List.{List, _++_}
-use lib.Dec.{leb}
-use lib.ListN.{take}
-use Rattle.words.specs.If.{if_then_else_}
+use mathlib.Core.Option.{Option, none, some}
 use Rattle.entry.specs.Limits.{logWords}
 use Rattle.text.specs.Parse.{parseOf}
 use Rattle.text.specs.declared.Command.{Command}
 use Rattle.text.specs.declared.Command.the-variants.{BadLine}
 use Rattle.replay.specs.Answering.{Told, told}
 
--- with more bytes after those in the buffer, up to the line's end; a line longer than the buffer is a bad line
-abbrev pub meaning : Bool → ℕ → List ℕ → List ℕ → Command
-meaning true len line more = BadLine
-meaning false len line more = parseOf (take len line ++ more)
+-- the bytes that have come (`come` in text), with more after them up to the line's end; a line longer than the buffer is a bad line
+abbrev pub meaning : Option (List ℕ) → List ℕ → Command
+meaning none more = BadLine
+meaning (some bs) more = parseOf (bs ++ more)
 
 -- a longer line is a bad line: the longest that is none has a word of six letters and two numbers of twenty digits
 abbrev pub lineRoom : ℕ
@@ -29,9 +26,9 @@ answerRoom = 65728
 abbrev pub outRoom : ℕ
 outRoom = 131072
 
--- where the next answer is put: after those that wait, unless it might not fit; then these are written first
-abbrev pub nextAt : ℕ → ℕ
-nextAt used = if leb used 65344 then used else 0
+-- where more bytes of answers wait than this, one more answer might not fit
+abbrev pub lastStart : ℕ
+lastStart = 65344
 
 -- some bytes before what is told
 abbrev pub after : List ℕ → Told → Told

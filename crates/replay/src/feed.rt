@@ -1,71 +1,60 @@
 // The input, which comes in parts: lines begin, go on and end in them. Answers wait in `out` until the next might not fit, or until
 // the next part is read.
-use libc::STDOUT_FILENO;
 use state_cache::IndexRecord;
 use text::Command;
+use text::inner::Partial;
 ghost use mathlib.Core.Path.{_≡_};
 ghost use mathlib.Core.Bool.{false};
 ghost use mathlib.Core.List.{List, [], _++_};
-ghost use Prim.Native.Nat.{ℕ, _+_, _≤_};
+ghost use Prim.Native.Nat.{ℕ, _≤_};
 ghost use lib.ListN.{length, take};
 ghost use Rattle.state_cache.specs.State.{raw};
+ghost use Rattle.text.specs.Feeding.{come, nextAt};
 ghost use Rattle.replay.specs.Answering.{told, answering};
-ghost use Rattle.replay.specs.Feeding.{meaning, lineRoom, outRoom, nextAt, after, Fed};
+ghost use Rattle.replay.specs.Feeding.{meaning, lineRoom, outRoom, lastStart, after, Fed};
 
 // Where more answers wait than this, one more might not fit.
 const LAST_START: usize = 65344;
 
-// What is kept from one part to the next: the record, how many bytes of the line have come and whether they are more than its buffer
-// holds, how many bytes of answers wait, and whether there may be more input.
+// What is kept from one part to the next: the record, the line, how many bytes of answers wait, and whether there may be more input.
 pub struct Feed {
     pub index: IndexRecord,
-    pub len: usize,
-    pub over: bool,
+    pub held: Partial,
     pub used: usize,
     pub more: bool,
 }
 
-// Writes the answers that wait where the next might not fit after them, and says where the next is put.
-fn room(out: &[u8], used: usize) -> usize
-    requires { ⌜ used ≤ length (now out) ⌝ }
-    ensures { λ r. ⌜ r ≡ nextAt used ⌝ }
-{
-    if used <= LAST_START {
-        return used;
-    }
-    io::write_all(STDOUT_FILENO, &out[..used]);
-    0
-}
-
 // What a line means whose end has come.
-fn command_of(st: Feed, line: &[u8]) -> Command
-    requires { ⌜ st .len ≤ length (now line) ⌝ }
-    ensures { λ r. ⌜ r ≡ meaning (st .over) (st .len) (now (line .entry)) [] ⌝ }
+fn command_of(held: Partial, line: &[u8]) -> Command
+    requires { ⌜ held .len ≤ length (now line) ⌝ }
+    ensures { λ r. ⌜ r ≡ meaning (come (held .over) (held .len) (now (line .entry))) [] ⌝ }
 {
-    if st.over {
+    if held.over {
         return Command::BadLine;
     }
-    let len = st.len;
+    let len = held.len;
     text::parse(&line[..len])
 }
 
 // The end of a line: it is answered on the log, and the next begins.
 fn finish(st: Feed, line: &[u8], log: &mut [u64], snapshot: &mut [u64], out: &mut [u8]) -> Feed
-    requires { ⌜ Fed (st .len) (st .used) (length (now line)) (length (now log)) (length (now out)) ⌝ }
-    ensures { λ r. ⌜ (r .len ≡ 0) × (r .over ≡ false) × (r .used ≤ outRoom) ⌝ }
-    ensures { λ r. ⌜ told (take (r .used) (now (out .exit))) (raw (r .index) (now (log .exit)) (now (snapshot .exit))) ≡ after (take (nextAt (st .used)) (now (out .entry))) (answering (meaning (st .over) (st .len) (now (line .entry)) []) (raw (st .index) (now (log .entry)) (now (snapshot .entry)))) ⌝ }
+    requires { ⌜ Fed (st .held .len) (st .used) (length (now line)) (length (now log)) (length (now out)) ⌝ }
+    ensures { λ r. ⌜ (r .held .len ≡ 0) × (r .held .over ≡ false) × (r .used ≤ outRoom) ⌝ }
+    ensures { λ r. ⌜ told (take (r .used) (now (out .exit))) (raw (r .index) (now (log .exit)) (now (snapshot .exit))) ≡ after (take (nextAt lastStart (st .used)) (now (out .entry))) (answering (meaning (come (st .held .over) (st .held .len) (now (line .entry))) []) (raw (st .index) (now (log .entry)) (now (snapshot .entry)))) ⌝ }
 {
     let used = st.used;
     let index = st.index;
-    let at = room(out, used);
-    let command = command_of(st, line);
+    let at = text::inner::room(out, used, LAST_START);
+    let command = command_of(st.held, line);
     let done = super::answer::step(index, log, snapshot, command, out, at);
     let next = done.index;
     let o = done.at;
     Feed {
         index: next,
-        len: 0,
-        over: false,
+        held: Partial {
+            len: 0,
+            over: false,
+        },
         used: o,
         more: true,
     }
@@ -80,8 +69,8 @@ pub(crate) fn finish_if(
     snapshot: &mut [u64],
     out: &mut [u8],
 ) -> Feed
-    requires { ⌜ Fed (st .len) (st .used) (length (now line)) (length (now log)) (length (now out)) ⌝ }
-    ensures { λ r. ⌜ (r .len ≤ length (now (line .entry))) × (r .used ≤ outRoom) ⌝ }
+    requires { ⌜ Fed (st .held .len) (st .used) (length (now line)) (length (now log)) (length (now out)) ⌝ }
+    ensures { λ r. ⌜ (r .held .len ≤ length (now (line .entry))) × (r .used ≤ outRoom) ⌝ }
 {
     if ends {
         return finish(st, line, log, snapshot, out);
@@ -89,20 +78,15 @@ pub(crate) fn finish_if(
     st
 }
 
-// A part of a line is kept; one that does not fit is not, since the line is then a bad one whatever it says.
+// A part of a line is kept. One that does not fit is not, since the line is then a bad one whatever it says.
 fn keep(part: &[u8], st: Feed, line: &mut [u8]) -> Feed
-    requires { ⌜ (st .len ≤ length (now line)) × (lineRoom ≤ length (now line)) ⌝ }
-    ensures { λ r. ⌜ ((more : List ℕ) → meaning (r .over) (r .len) (now (line .exit)) more ≡ meaning (st .over) (st .len) (now (line .entry)) (now (part .entry) ++ more)) ⌝ }
-    ensures { λ r. ⌜ (r .len ≤ length (now (line .entry))) × (r .used ≡ st .used) ⌝ }
+    requires { ⌜ (st .held .len ≤ length (now line)) × (lineRoom ≤ length (now line)) ⌝ }
+    ensures { λ r. ⌜ ((more : List ℕ) → meaning (come (r .held .over) (r .held .len) (now (line .exit))) more ≡ meaning (come (st .held .over) (st .held .len) (now (line .entry))) (now (part .entry) ++ more)) ⌝ }
+    ensures { λ r. ⌜ (r .held .len ≤ length (now (line .entry))) × (r .used ≡ st .used) ⌝ }
 {
-    let len = st.len;
+    let held = text::inner::keep(part, st.held, line);
     let mut s = st;
-    if part.len() > line.len() - len {
-        s.over = true;
-        return s;
-    }
-    let n = text::inner::put(line, len, part);
-    s.len = n;
+    s.held = held;
     s
 }
 
@@ -114,8 +98,8 @@ pub(crate) fn take_part(
     snapshot: &mut [u64],
     out: &mut [u8],
 ) -> Feed
-    requires { ⌜ Fed (st .len) (st .used) (length (now line)) (length (now log)) (length (now out)) ⌝ }
-    ensures { λ r. ⌜ (r .len ≤ length (now (line .entry))) × (r .used ≤ outRoom) ⌝ }
+    requires { ⌜ Fed (st .held .len) (st .used) (length (now line)) (length (now log)) (length (now out)) ⌝ }
+    ensures { λ r. ⌜ (r .held .len ≤ length (now (line .entry))) × (r .used ≤ outRoom) ⌝ }
 {
     let mut s = st;
     let mut at = 0;

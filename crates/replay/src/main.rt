@@ -2,6 +2,7 @@
 use feed::Feed;
 use libc::STDIN_FILENO;
 use libc::STDOUT_FILENO;
+use text::inner::Partial;
 ghost use Prim.Native.Nat.{_≤_};
 ghost use Rattle.replay.specs.Feeding.{lineRoom, outRoom};
 
@@ -22,8 +23,8 @@ fn take_turn(
     snapshot: &mut [u64; entry::SNAPSHOT_WORDS],
     out: &mut [u8; OUT_ROOM],
 ) -> Feed
-    requires { ⌜ (st .len ≤ lineRoom) × (st .used ≤ outRoom) ⌝ }
-    ensures { λ r. ⌜ (r .len ≤ lineRoom) × (r .used ≤ outRoom) ⌝ }
+    requires { ⌜ (st .held .len ≤ lineRoom) × (st .used ≤ outRoom) ⌝ }
+    ensures { λ r. ⌜ (r .held .len ≤ lineRoom) × (r .used ≤ outRoom) ⌝ }
 {
     let used = st.used;
     let view: &[u8] = out;
@@ -48,9 +49,10 @@ fn last(
     snapshot: &mut [u64; entry::SNAPSHOT_WORDS],
     out: &mut [u8; OUT_ROOM],
 )
-    requires { ⌜ (st .len ≤ lineRoom) × (st .used ≤ outRoom) ⌝ }
+    requires { ⌜ (st .held .len ≤ lineRoom) × (st .used ≤ outRoom) ⌝ }
 {
-    let s = feed::finish_if(st.over | (st.len > 0), st, line, log, snapshot, out);
+    let held = st.held;
+    let s = feed::finish_if(held.over | (held.len > 0), st, line, log, snapshot, out);
     let used = s.used;
     let view: &[u8] = out;
     io::write_all(STDOUT_FILENO, &view[..used]);
@@ -65,8 +67,10 @@ fn main() {
     let index = first.index;
     let mut s = Feed {
         index,
-        len: 0,
-        over: false,
+        held: Partial {
+            len: 0,
+            over: false,
+        },
         used: 0,
         more: true,
     };

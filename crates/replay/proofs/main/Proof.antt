@@ -7,7 +7,7 @@ use Rattle.replay.proofs.main.Statement.{statement}
 use Rattle.replay.proofs.main.Tie as tie
 
 abbrev Inv-loop : tie.InvT-loop
-Inv-loop line₀ log₀ snapshot₀ out₀ s₀ turns₀ line log snapshot out s turns = (s .len ≤ lineRoom) × (s .used ≤ outRoom)
+Inv-loop line₀ log₀ snapshot₀ out₀ s₀ turns₀ line log snapshot out s turns = (s .held .len ≤ lineRoom) × (s .used ≤ outRoom)
 
 abbrev μ-loop : tie.MeasureT-loop
 μ-loop line₀ log₀ snapshot₀ out₀ s₀ turns₀ line log snapshot out s turns = turns

@@ -6,10 +6,11 @@ use native.Mathlib.Omega.{arith}
 use lib.ListN.{take}
 use denote.Ref.{now}
 use Rattle.state_cache.specs.State.{raw}
+use Rattle.text.specs.Feeding.{come}
 use Rattle.text.specs.declared.Command.{Command}
+use Rattle.text.proofs.FeedLaws.{next-low}
 use Rattle.replay.specs.Answering.{answering}
-use Rattle.replay.specs.Feeding.{meaning, after}
-use Rattle.replay.proofs.Lines.{next-low}
+use Rattle.replay.specs.Feeding.{meaning, lastStart, after}
 use borrow.Author.Needs.{needs}
 use Rattle.replay.proofs.feed.finish.Statement.{statement}
 use Rattle.replay.proofs.feed.finish.Tie as tie
@@ -22,7 +23,7 @@ command-of-requires c κs = search needs
 
 step-requires : tie.Need-step-requires
 step-requires c κs = let s = c .before .before .before .before .before .before .before .before .before .before .before in
-    (omega (arith, c .before .before .before .before .room .ensures, next-low (s .args .st .used), s .pre .room), s .pre .words)
+    (omega (arith, c .before .before .before .before .room .ensures, next-low lastStart (s .args .st .used), s .pre .room), s .pre .words)
 
 same-length : tie.Need-same-length
 same-length c = search needs
@@ -39,8 +40,8 @@ returns c =
     let done = c .before .before .before .before .before .before .before .step in
     let room = c .before .before .before .before .before .before .before .before .before .before .before .before .room in
     let x = raw (a .st .index) (now (a .log)) (now (a .snapshot)) in
-    let k = meaning (a .st .over) (a .st .len) (now (a .line)) [] in
-    ((refl, refl, omega (arith, done .ensures .0, room .ensures, next-low (a .st .used))), done .ensures .1 ∙ ap (λ (k : Command). after (take (room .result) (now (a .out))) (answering k x)) (c .before .before .before .before .before .before .before .before .before .before .before .command-of .ensures) ∙ ap (λ (n : ℕ). after (take n (now (a .out))) (answering k x)) (room .ensures))
+    let k = meaning (come (a .st .held .over) (a .st .held .len) (now (a .line))) [] in
+    ((refl, refl, omega (arith, done .ensures .0, room .ensures, next-low lastStart (a .st .used))), done .ensures .1 ∙ ap (λ (k : Command). after (take (room .result) (now (a .out))) (answering k x)) (c .before .before .before .before .before .before .before .before .before .before .before .command-of .ensures) ∙ ap (λ (n : ℕ). after (take n (now (a .out))) (answering k x)) (room .ensures))
 
 pub finish-spec : {M : Type 1} → statement M
 finish-spec =

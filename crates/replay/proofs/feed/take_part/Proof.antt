@@ -9,7 +9,7 @@ use Rattle.replay.proofs.feed.take_part.Statement.{statement}
 use Rattle.replay.proofs.feed.take_part.Tie as tie
 
 abbrev Inv-loop : tie.InvT-loop
-Inv-loop part line₀ log₀ snapshot₀ out₀ s₀ at₀ line log snapshot out s at = (at ≤ length part + 1) × (s .len ≤ length line) × (s .used ≤ outRoom) × (length out ≡ outRoom) × (length log ≡ logWords) × (lineRoom ≤ length line) × (length line ≡ length line₀) × (length log ≡ length log₀) × (length snapshot ≡ length snapshot₀) × (length out ≡ length out₀)
+Inv-loop part line₀ log₀ snapshot₀ out₀ s₀ at₀ line log snapshot out s at = (at ≤ length part + 1) × (s .held .len ≤ length line) × (s .used ≤ outRoom) × (length out ≡ outRoom) × (length log ≡ logWords) × (lineRoom ≤ length line) × (length line ≡ length line₀) × (length log ≡ length log₀) × (length snapshot ≡ length snapshot₀) × (length out ≡ length out₀)
 
 abbrev μ-loop : tie.MeasureT-loop
 μ-loop part line₀ log₀ snapshot₀ out₀ s₀ at₀ line log snapshot out s at = length part + 1 - at

@@ -77,33 +77,30 @@ shown-is {t₁ = t₁} {t₂ = t₂} t₀ run index log snapshot entries m lines
 -- ---- what a call's answer prints, and the state after it
 
 -- a claim on the outcome is a claim on what is told of it
-pub answered : {A : Type 0} (tell : Outcome A → Told) (front : List ℕ) (t : Told) (o p : Outcome A) → o ≡ p → t ≡ after front (tell o)
+answered : {A : Type 0} (tell : Outcome A → Told) (front : List ℕ) (t : Told) (o p : Outcome A) → o ≡ p → t ≡ after front (tell o)
     → t ≡ after front (tell p)
 answered {A} tell front t o p e h = h ∙ ap (λ (u : Outcome A). after front (tell u)) e
 
-pub both : (t u : List ℕ) (x y : Raw) → t ≡ u → x ≡ y → told t x ≡ told u y
-both t u x y e h = ap (λ (l : List ℕ). told l x) e ∙ ap (λ (r : Raw). told u r) h
+-- the line that was put, said otherwise
+put-as : (front : List ℕ) (t : Told) (l m : List ℕ) (x : Raw) → l ≡ m → t ≡ after front (told l x) → t ≡ after front (told m x)
+put-as front t l m x e h = h ∙ ap (λ (bs : List ℕ). after front (told bs x)) e
 
--- bytes that a command puts, and the record that it hands back
-pub tells : {A : Type 0} (text : Answer A → List ℕ) (front t : List ℕ) (a : Answer A) (i j : IndexRecord) (log snapshot : List ℕ) (o : Outcome A)
-    → outcome a (raw i log snapshot) ≡ o → j ≡ i → t ≡ front ++ text a
-    → told t (raw j log snapshot) ≡ after front (printed text o)
-tells text front t a i j log snapshot o e h p =
-    answered (printed text) front (told t (raw j log snapshot)) (outcome a (raw i log snapshot)) o e
-    (both t (front ++ text a) (raw j log snapshot) (raw i log snapshot) p (ap (λ (x : IndexRecord). raw x log snapshot) h))
+-- an answer's line, put with the record that the call hands back
+pub tells : {A : Type 0} (text : Answer A → List ℕ) (front : List ℕ) (t : Told) (l : List ℕ) (a : Answer A) (x : Raw) (o : Outcome A)
+    → outcome a x ≡ o → l ≡ text a → t ≡ after front (told l x) → t ≡ after front (printed text o)
+tells text front t l a x o e h p = answered (printed text) front t (outcome a x) o e (put-as front t l (text a) x h p)
 
 -- a query's answer; the state stays
 pub asks : (q : Query) (text : Answer (QueryReply q) → List ℕ) (front t : List ℕ) (a : Answer (QueryReply q)) (x : Raw)
     → a ≡ run (query q) true x .answer → t ≡ front ++ text a → told t x ≡ after front (printed text (run (query q) true x))
 asks q text front t a x e p =
-    both t (front ++ text (run (query q) true x .answer)) x (run (query q) true x .after) (p ∙ ap (λ (y : Answer (QueryReply q)). front ++ text y) e) (sym (query-keeps q x))
+    ap (λ (l : List ℕ). told l x) (p ∙ ap (λ (y : Answer (QueryReply q)). front ++ text y) e)
+    ∙ ap (λ (r : Raw). told (front ++ text (run (query q) true x .answer)) r) (sym (query-keeps q x))
 
-pub stops : (front t : List ℕ) (a : Answer (Option Flushed)) (last : Answer ℕ) (i : IndexRecord) (log snapshot : List ℕ) (o : Outcome (Option Flushed))
-    → outcome a (raw i log snapshot) ≡ o → last ≡ ofNumbers acceptedOf (raw i log snapshot) → t ≡ front ++ stopLine a last
-    → told t (raw i log snapshot) ≡ after front (stoppedBy o)
-stops front t a last i log snapshot o e h p =
-    answered stoppedBy front (told t (raw i log snapshot)) (outcome a (raw i log snapshot)) o e
-    (ap (λ (l : List ℕ). told l (raw i log snapshot)) (p ∙ ap (λ (x : Answer ℕ). front ++ stopLine a x) h))
+pub stops : (front : List ℕ) (t : Told) (l : List ℕ) (a : Answer (Option Flushed)) (last : Answer ℕ) (x : Raw) (o : Outcome (Option Flushed))
+    → outcome a x ≡ o → last ≡ ofNumbers acceptedOf x → l ≡ stopLine a last → t ≡ after front (told l x) → t ≡ after front (stoppedBy o)
+stops front t l a last x o e h k p =
+    answered stoppedBy front t (outcome a x) o e (put-as front t l (stopLine a (ofNumbers acceptedOf x)) x (k ∙ ap (λ (i : Answer ℕ). stopLine a i) h) p)
 
 -- a fresh log that is refused leaves the words
 fresh-kept : (n k m : ℕ) (x : Raw) (log snapshot : List ℕ) → outcome (refused k m) x ≡ freshCall n log snapshot
@@ -115,18 +112,16 @@ fresh-kept n k m x log snapshot = go (leb n largestBatch && (eqb (length log) lo
     go true e = apart _ _ _ (sym (ap (λ (o : Outcome (Unit {0})). o .answer) e))
     go false e = (ap (λ (o : Outcome (Unit {0})). o .after .log) e, ap (λ (o : Outcome (Unit {0})). o .after .snapshot) e)
 
-pub starts : (n : ℕ) (front t : List ℕ) (i : IndexRecord) (old : Raw) (log snapshot : List ℕ)
-    → outcome (replied tt) (raw i log snapshot) ≡ freshCall n (old .log) (old .snapshot) → t ≡ front ++ lineOf Done
-    → told t (raw i log snapshot) ≡ after front (startedBy (freshCall n (old .log) (old .snapshot)) old)
-starts n front t i old log snapshot e p =
-    answered (λ (o : Outcome (Unit {0})). startedBy o old) front (told t (raw i log snapshot)) (outcome (replied tt) (raw i log snapshot)) (freshCall n (old .log) (old .snapshot)) e
-    (ap (λ (l : List ℕ). told l (raw i log snapshot)) p)
+pub starts : (n : ℕ) (front : List ℕ) (t : Told) (x old : Raw) → outcome (replied tt) x ≡ freshCall n (old .log) (old .snapshot)
+    → t ≡ after front (told (lineOf Done) x) → t ≡ after front (startedBy (freshCall n (old .log) (old .snapshot)) old)
+starts n front t x old = answered (λ (o : Outcome (Unit {0})). startedBy o old) front t (outcome (replied tt) x) (freshCall n (old .log) (old .snapshot))
 
-pub stays : (n k m : ℕ) (front t : List ℕ) (x : Raw) (old : Raw) → outcome (refused k m) x ≡ freshCall n (old .log) (old .snapshot)
-    → t ≡ front ++ lineOf (Refused k)
-    → told t (raw (old .index) (x .log) (x .snapshot)) ≡ after front (startedBy (freshCall n (old .log) (old .snapshot)) old)
-stays n k m front t x old e p =
+pub stays : (n said k m : ℕ) (front : List ℕ) (t : Told) (x old : Raw) → outcome (refused k m) x ≡ freshCall n (old .log) (old .snapshot)
+    → said ≡ k → t ≡ after front (told (lineOf (Refused said)) (raw (old .index) (x .log) (x .snapshot)))
+    → t ≡ after front (startedBy (freshCall n (old .log) (old .snapshot)) old)
+stays n said k m front t x old e h p =
     let kept = fresh-kept n k m x (old .log) (old .snapshot) e in
-    answered (λ (o : Outcome (Unit {0})). startedBy o old) front (told t (raw (old .index) (x .log) (x .snapshot))) (outcome (refused k m) x) (freshCall n (old .log) (old .snapshot)) e
-    (both t (front ++ lineOf (Refused k)) (raw (old .index) (x .log) (x .snapshot)) old p
+    answered (λ (o : Outcome (Unit {0})). startedBy o old) front t (outcome (refused k m) x) (freshCall n (old .log) (old .snapshot)) e
+    (put-as front t (lineOf (Refused said)) (lineOf (Refused k)) (raw (old .index) (x .log) (x .snapshot)) (ap (λ (i : ℕ). lineOf (Refused i)) h) p
+    ∙ ap (λ (r : Raw). after front (told (lineOf (Refused k)) r))
     (ap (λ (l : List ℕ). raw (old .index) l (x .snapshot)) (kept .0) ∙ ap (λ (l : List ℕ). raw (old .index) (old .log) l) (kept .1)))

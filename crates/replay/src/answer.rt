@@ -4,26 +4,22 @@ use entry::BlockPlace;
 use entry::LogIndex;
 use entry::StopSign;
 use internal_storage::Appended;
-use internal_storage::AppendedAt;
 use internal_storage::Said;
 use reading::Bound;
 use state_cache::Accepted;
-use state_cache::AcceptedAt;
 use state_cache::IndexRecord;
 use state_cache::Settled;
-use state_cache::SettledAt;
 use text::Command;
 use text::Line;
 ghost use mathlib.Core.Path.{_≡_};
-ghost use mathlib.Core.List.{_++_};
-ghost use Prim.Native.Nat.{_+_, _≤_};
+ghost use mathlib.Core.List.{List};
+ghost use Prim.Native.Nat.{ℕ, _+_, _≤_};
 ghost use lib.ListN.{length, take};
 ghost use Rattle.entry.specs.Limits.{logWords};
 ghost use Rattle.state_cache.specs.State.{raw};
 ghost use Rattle.state_cache.specs.Run.{settled, accepted};
 ghost use Rattle.internal_storage.specs.Replies.{appended};
 ghost use Rattle.text.specs.Answers.{lineOf};
-ghost use Rattle.text.specs.declared.Line.the-variants.{BadLine};
 ghost use Rattle.text.specs.declared.Command.the-variants.{Batch, Put, Del, Read, Flush, Decide, Snap, SnapAll, Stop, Trim};
 ghost use Rattle.replay.specs.Answering.{told, settledText, acceptedText, appendedText, stopOf, stopLine, answering};
 ghost use Rattle.replay.specs.Feeding.{answerRoom, after};
@@ -65,41 +61,12 @@ fn appended_line(answer: Appended) -> Line
     }
 }
 
-fn put_settled(out: &mut [u8], at: usize, from: SettledAt) -> Stepped
+// An answer's line, with the record after it.
+fn put_answer(out: &mut [u8], at: usize, index: IndexRecord, line: Line) -> Stepped
     requires { ⌜ at + 64 ≤ length (now out) ⌝ }
     ensures { λ r. ⌜ r .at ≤ at + 64 ⌝ }
-    ensures { λ r. ⌜ r .index ≡ from .index ⌝ }
-    ensures { λ r. ⌜ take (r .at) (now (out .exit)) ≡ take at (now (out .entry)) ++ settledText (settled (from .answer)) ⌝ }
+    ensures { λ r. ⌜ ((log snapshot : List ℕ) → told (take (r .at) (now (out .exit))) (raw (r .index) log snapshot) ≡ after (take at (now (out .entry))) (told (lineOf line) (raw index log snapshot))) ⌝ }
 {
-    let answer = from.answer;
-    let index = from.index;
-    let line = settled_line(answer);
-    let o = text::inner::put_line(out, at, line);
-    Stepped { index, at: o }
-}
-
-fn put_accepted(out: &mut [u8], at: usize, from: AcceptedAt) -> Stepped
-    requires { ⌜ at + 64 ≤ length (now out) ⌝ }
-    ensures { λ r. ⌜ r .at ≤ at + 64 ⌝ }
-    ensures { λ r. ⌜ r .index ≡ from .index ⌝ }
-    ensures { λ r. ⌜ take (r .at) (now (out .exit)) ≡ take at (now (out .entry)) ++ acceptedText (accepted (from .answer)) ⌝ }
-{
-    let answer = from.answer;
-    let index = from.index;
-    let line = accepted_line(answer);
-    let o = text::inner::put_line(out, at, line);
-    Stepped { index, at: o }
-}
-
-fn put_appended(out: &mut [u8], at: usize, from: AppendedAt) -> Stepped
-    requires { ⌜ at + 64 ≤ length (now out) ⌝ }
-    ensures { λ r. ⌜ r .at ≤ at + 64 ⌝ }
-    ensures { λ r. ⌜ r .index ≡ from .index ⌝ }
-    ensures { λ r. ⌜ take (r .at) (now (out .exit)) ≡ take at (now (out .entry)) ++ appendedText (appended (from .answer)) ⌝ }
-{
-    let answer = from.answer;
-    let index = from.index;
-    let line = appended_line(answer);
     let o = text::inner::put_line(out, at, line);
     Stepped { index, at: o }
 }
@@ -119,13 +86,10 @@ fn batch(
 {
     let started = state_cache::fresh(n, log, snapshot);
     let answer = started.answer;
-    let next = started.index;
     let Settled::Refused(refusal) = answer else {
-        let o = text::inner::put_line(out, at, Line::Done);
-        return Stepped { index: next, at: o };
+        return put_answer(out, at, started.index, Line::Done);
     };
-    let o = text::inner::put_line(out, at, Line::Refused(entry::number(refusal)));
-    Stepped { index, at: o }
+    put_answer(out, at, index, Line::Refused(entry::number(refusal)))
 }
 
 fn put(
@@ -143,7 +107,8 @@ fn put(
 {
     let said = Said::Place(BlockPlace(p));
     let to = internal_storage::append::append_entry_with_batching(index, log, snapshot, k, said);
-    put_appended(out, at, to)
+    let answer = to.answer;
+    put_answer(out, at, to.index, appended_line(answer))
 }
 
 fn del(
@@ -160,7 +125,8 @@ fn del(
 {
     let said = Said::Removed;
     let to = internal_storage::append::append_entry_with_batching(index, log, snapshot, k, said);
-    put_appended(out, at, to)
+    let answer = to.answer;
+    put_answer(out, at, to.index, appended_line(answer))
 }
 
 fn read(
@@ -195,7 +161,8 @@ fn flush(index: IndexRecord, log: &[u64], snapshot: &[u64], out: &mut [u8], at: 
     ensures { λ r. ⌜ told (take (r .at) (now (out .exit))) (raw (r .index) (now (log .entry)) (now (snapshot .entry))) ≡ after (take at (now (out .entry))) (answering Flush (raw index (now (log .entry)) (now (snapshot .entry)))) ⌝ }
 {
     let to = internal_storage::flush::flush_batch(index, log, snapshot);
-    put_accepted(out, at, to)
+    let answer = to.answer;
+    put_answer(out, at, to.index, accepted_line(answer))
 }
 
 fn decide(
@@ -211,7 +178,8 @@ fn decide(
     ensures { λ r. ⌜ told (take (r .at) (now (out .exit))) (raw (r .index) (now (log .entry)) (now (snapshot .entry))) ≡ after (take at (now (out .entry))) (answering (Decide i) (raw index (now (log .entry)) (now (snapshot .entry)))) ⌝ }
 {
     let to = internal_storage::decide::set_decided_idx(index, log, snapshot, LogIndex(i));
-    put_settled(out, at, to)
+    let answer = to.answer;
+    put_answer(out, at, to.index, settled_line(answer))
 }
 
 fn snap(
@@ -227,7 +195,8 @@ fn snap(
     ensures { λ r. ⌜ told (take (r .at) (now (out .exit))) (raw (r .index) (now (log .exit)) (now (snapshot .exit))) ≡ after (take at (now (out .entry))) (answering (Snap i) (raw index (now (log .entry)) (now (snapshot .entry)))) ⌝ }
 {
     let to = compaction::try_snapshot(index, log, snapshot, Upto::Index(LogIndex(i)));
-    put_settled(out, at, to)
+    let answer = to.answer;
+    put_answer(out, at, to.index, settled_line(answer))
 }
 
 fn snap_all(
@@ -242,7 +211,8 @@ fn snap_all(
     ensures { λ r. ⌜ told (take (r .at) (now (out .exit))) (raw (r .index) (now (log .exit)) (now (snapshot .exit))) ≡ after (take at (now (out .entry))) (answering SnapAll (raw index (now (log .entry)) (now (snapshot .entry)))) ⌝ }
 {
     let to = compaction::try_snapshot(index, log, snapshot, Upto::Decided);
-    put_settled(out, at, to)
+    let answer = to.answer;
+    put_answer(out, at, to.index, settled_line(answer))
 }
 
 // Node 1 and no metadata.
@@ -286,12 +256,9 @@ fn stop(
     ensures { λ r. ⌜ told (take (r .at) (now (out .exit))) (raw (r .index) (now (log .entry)) (now (snapshot .entry))) ≡ after (take at (now (out .entry))) (answering (Stop c) (raw index (now (log .entry)) (now (snapshot .entry)))) ⌝ }
 {
     let to = internal_storage::stop::append_stopsign(index, log, snapshot, stop_sign(c));
+    let last = state_cache::get_accepted_idx(to.index, log, snapshot);
     let answer = to.answer;
-    let next = to.index;
-    let last = state_cache::get_accepted_idx(next, log, snapshot);
-    let line = stop_line(answer, last);
-    let o = text::inner::put_line(out, at, line);
-    Stepped { index: next, at: o }
+    put_answer(out, at, to.index, stop_line(answer, last))
 }
 
 fn trim(
@@ -307,17 +274,8 @@ fn trim(
     ensures { λ r. ⌜ told (take (r .at) (now (out .exit))) (raw (r .index) (now (log .exit)) (now (snapshot .entry))) ≡ after (take at (now (out .entry))) (answering (Trim i) (raw index (now (log .entry)) (now (snapshot .entry)))) ⌝ }
 {
     let to = compaction::try_trim(index, log, snapshot, LogIndex(i));
-    put_settled(out, at, to)
-}
-
-fn bad_line(index: IndexRecord, out: &mut [u8], at: usize) -> Stepped
-    requires { ⌜ at + 64 ≤ length (now out) ⌝ }
-    ensures { λ r. ⌜ r .at ≤ at + 64 ⌝ }
-    ensures { λ r. ⌜ r .index ≡ index ⌝ }
-    ensures { λ r. ⌜ take (r .at) (now (out .exit)) ≡ take at (now (out .entry)) ++ lineOf BadLine ⌝ }
-{
-    let o = text::inner::put_line(out, at, Line::BadLine);
-    Stepped { index, at: o }
+    let answer = to.answer;
+    put_answer(out, at, to.index, settled_line(answer))
 }
 
 // Does what a line says, and puts its answer.
@@ -344,6 +302,6 @@ pub(crate) fn step(
         Command::SnapAll => snap_all(index, log, snapshot, out, at),
         Command::Stop(c) => stop(index, log, snapshot, c, out, at),
         Command::Trim(i) => trim(index, log, snapshot, i, out, at),
-        Command::BadLine => bad_line(index, out, at),
+        Command::BadLine => put_answer(out, at, index, Line::BadLine),
     }
 }

@@ -1,6 +1,7 @@
 -- `replay::answer::flush` meets its contract: the call's outcome is what is printed.
 use lib.ListN.{take}
 use denote.Ref.{now}
+use Rattle.state_cache.specs.State.{raw}
 use Rattle.state_cache.specs.Run.{accepted}
 use Rattle.replay.specs.Answering.{acceptedText, answering}
 use Rattle.replay.proofs.Telling.{tells}
@@ -11,8 +12,11 @@ use Rattle.replay.proofs.answer.flush.Tie as tie
 flush-batch-requires : tie.Need-flush-batch-requires
 flush-batch-requires c κs = search needs
 
-put-accepted-requires : tie.Need-put-accepted-requires
-put-accepted-requires c κs = search needs
+accepted-line-requires : tie.Need-accepted-line-requires
+accepted-line-requires c κs = search needs
+
+put-answer-requires : tie.Need-put-answer-requires
+put-answer-requires c κs = search needs
 
 same-length : tie.Need-same-length
 same-length c = search needs
@@ -20,10 +24,12 @@ same-length c = search needs
 returns : tie.Need-returns
 unfolding answering
 returns c =
-    let a = c .before .before .before .before .before .before .before .before .args in
-    let to = c .before .before .before .before .flush-batch in
-    let put = c .before .before .put-accepted in
-    (put .ensures .0, tells acceptedText (take (a .at) (now (a .out))) _ (accepted (to .result .answer)) (to .result .index) (put .result .index) (now (a .log)) (now (a .snapshot)) _ (to .ensures) (put .ensures .1 .0) (put .ensures .1 .1))
+    let a = c .before .before .before .before .before .before .before .before .before .args in
+    let to = c .before .before .before .before .before .flush-batch in
+    let put = c .before .before .put-answer in
+    (put .ensures .0, tells acceptedText (take (a .at) (now (a .out))) _ _ (accepted (to .result .answer)) (raw (to .result .index) (now (a .log)) (now (a .snapshot))) _ (to .ensures) (c .before .before .before .accepted-line .ensures) (put .ensures .1 (now (a .log)) (now (a .snapshot))))
 
 pub flush-spec : {M : Type 1} → statement M
-flush-spec = tie.close (tie.spec flush-batch-requires put-accepted-requires same-length returns)
+flush-spec =
+    tie.close
+    (tie.spec flush-batch-requires accepted-line-requires put-answer-requires same-length returns)

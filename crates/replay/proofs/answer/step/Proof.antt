@@ -1,17 +1,12 @@
 -- `replay::answer::step` meets its contract: each arm knows its command.
 use mathlib.Core.Path.{sym, ap, _∙_}
-use mathlib.Core.List.{_++_}
 use native.Mathlib.Omega.{arith}
 use lib.ListN.{take}
 use denote.Ref.{now}
 use Rattle.state_cache.specs.State.{raw}
-use Rattle.state_cache.specs.declared.IndexRecord.{IndexRecord}
-use Rattle.text.specs.Answers.{lineOf}
-use Rattle.text.specs.declared.Line.the-variants.{BadLine}
 use Rattle.text.specs.declared.Command.{Command}
 use Rattle.replay.specs.Answering.{answering}
 use Rattle.replay.specs.Feeding.{after}
-use Rattle.replay.proofs.Telling.{both}
 use borrow.Author.Needs.{needs}
 use Rattle.replay.proofs.answer.step.Statement.{statement}
 use Rattle.replay.proofs.answer.step.Tie as tie
@@ -79,8 +74,8 @@ trim-requires c κs = search needs
 enum-told-3 : tie.Need-enum-told-3
 enum-told-3 c = search needs
 
-bad-line-requires : tie.Need-bad-line-requires
-bad-line-requires c κs = search needs
+put-answer-requires : tie.Need-put-answer-requires
+put-answer-requires c κs = search needs
 
 same-length : tie.Need-same-length
 same-length c = search needs
@@ -239,9 +234,8 @@ returns-11 : tie.Need-returns-11
 unfolding answering
 returns-11 c =
     let a = c .before .before .before .before .before .before .before .before .before .args in
-    let done = c .before .before .bad-line in
-    let front = take (a .at) (now (a .out)) in
-    (omega (arith, done .ensures .0), both _ (front ++ lineOf BadLine) _ (raw (a .index) (now (a .log)) (now (a .snapshot))) (done .ensures .1 .1) (ap (λ (i : IndexRecord). raw i (now (a .log)) (now (a .snapshot))) (done .ensures .1 .0)) ∙ sym (ap (λ (x : Command). after front (answering x (raw (a .index) (now (a .log)) (now (a .snapshot))))) (c .before .before .before .before .enum-told3 .given .1)))
+    let done = c .before .before .put-answer in
+    (omega (arith, done .ensures .0), done .ensures .1 (now (a .log)) (now (a .snapshot)) ∙ sym (ap (λ (x : Command). after (take (a .at) (now (a .out))) (answering x (raw (a .index) (now (a .log)) (now (a .snapshot))))) (c .before .before .before .before .enum-told3 .given .1)))
 
 pub step-spec : {M : Type 1} → statement M
 step-spec =
@@ -268,7 +262,7 @@ step-spec =
     enum-known-command-8
     trim-requires
     enum-told-3
-    bad-line-requires
+    put-answer-requires
     same-length
     same-length-2
     same-length-3

@@ -1,8 +1,6 @@
 -- `replay::answer::stop` meets its contract: the call's outcome, and the accepted index after it, are what is printed.
-use Prim.Native.Nat.{ℕ}
 use mathlib.Core.Path.{ap, _∙_}
 use mathlib.Core.Bool.{true}
-use mathlib.Core.List.{List, _++_}
 use lib.ListN.{take}
 use denote.Ref.{now}
 use Rattle.entry.specs.declared.StopSign.{StopSign}
@@ -28,8 +26,8 @@ get-accepted-idx-requires c κs = search needs
 stop-line-requires : tie.Need-stop-line-requires
 stop-line-requires c κs = search needs
 
-put-line-requires : tie.Need-put-line-requires
-put-line-requires c κs = search needs
+put-answer-requires : tie.Need-put-answer-requires
+put-answer-requires c κs = search needs
 
 same-length : tie.Need-same-length
 same-length c = search needs
@@ -37,13 +35,12 @@ same-length c = search needs
 returns : tie.Need-returns
 unfolding answering
 returns c =
-    let a = c .before .before .before .before .before .before .before .before .before .before .before .before .args in
-    let to = c .before .before .before .before .before .before .before .append-stopsign in
+    let a = c .before .before .before .before .before .before .before .before .before .before .before .args in
+    let to = c .before .before .before .before .before .before .append-stopsign in
     let last = c .before .before .before .before .before .get-accepted-idx in
-    let put = c .before .before .put-line in
-    let front = take (a .at) (now (a .out)) in
-    let e = to .ensures ∙ ap (λ (g : StopSign). run (appendStop g) true (raw (a .index) (now (a .log)) (now (a .snapshot)))) (c .before .before .before .before .before .before .before .before .stop-sign .ensures) in
-    (put .ensures .0, stops front _ (appended (to .result .answer)) (accepted (last .result)) (to .result .index) (now (a .log)) (now (a .snapshot)) _ e (last .ensures) (put .ensures .1 ∙ ap (λ (l : List ℕ). front ++ l) (c .before .before .before .before .stop-line .ensures)))
+    let put = c .before .before .put-answer in
+    let e = to .ensures ∙ ap (λ (g : StopSign). run (appendStop g) true (raw (a .index) (now (a .log)) (now (a .snapshot)))) (c .before .before .before .before .before .before .before .stop-sign .ensures) in
+    (put .ensures .0, stops (take (a .at) (now (a .out))) _ _ (appended (to .result .answer)) (accepted (last .result)) (raw (to .result .index) (now (a .log)) (now (a .snapshot))) _ e (last .ensures) (c .before .before .before .stop-line .ensures) (put .ensures .1 (now (a .log)) (now (a .snapshot))))
 
 pub stop-spec : {M : Type 1} → statement M
 stop-spec =
@@ -53,6 +50,6 @@ stop-spec =
     append-stopsign-requires
     get-accepted-idx-requires
     stop-line-requires
-    put-line-requires
+    put-answer-requires
     same-length
     returns)

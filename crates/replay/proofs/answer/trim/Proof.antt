@@ -1,6 +1,7 @@
 -- `replay::answer::trim` meets its contract: the call's outcome is what is printed.
 use lib.ListN.{take}
 use denote.Ref.{now}
+use Rattle.state_cache.specs.State.{raw}
 use Rattle.state_cache.specs.Run.{settled}
 use Rattle.replay.specs.Answering.{settledText, answering}
 use Rattle.replay.proofs.Telling.{tells}
@@ -11,8 +12,11 @@ use Rattle.replay.proofs.answer.trim.Tie as tie
 try-trim-requires : tie.Need-try-trim-requires
 try-trim-requires c κs = search needs
 
-put-settled-requires : tie.Need-put-settled-requires
-put-settled-requires c κs = search needs
+settled-line-requires : tie.Need-settled-line-requires
+settled-line-requires c κs = search needs
+
+put-answer-requires : tie.Need-put-answer-requires
+put-answer-requires c κs = search needs
 
 same-length : tie.Need-same-length
 same-length c = search needs
@@ -23,11 +27,18 @@ same-length-2 c = search needs
 returns : tie.Need-returns
 unfolding answering
 returns c =
-    let a = c .before .before .before .before .before .before .before .before .before .before .before .args in
-    let to = c .before .before .before .before .before .before .try-trim in
-    let put = c .before .before .put-settled in
-    (put .ensures .0, tells settledText (take (a .at) (now (a .out))) _ (settled (to .result .answer)) (to .result .index) (put .result .index) (c .before .before .before .before .before .before .try-trim .last .1 .0) (now (a .snapshot)) _ (to .ensures) (put .ensures .1 .0) (put .ensures .1 .1))
+    let a = c .before .before .before .before .before .before .before .before .before .before .before .before .args in
+    let to = c .before .before .before .before .before .before .before .try-trim in
+    let put = c .before .before .put-answer in
+    (put .ensures .0, tells settledText (take (a .at) (now (a .out))) _ _ (settled (to .result .answer)) (raw (to .result .index) (to .last .1 .0) (now (a .snapshot))) _ (to .ensures) (c .before .before .before .settled-line .ensures) (put .ensures .1 (to .last .1 .0) (now (a .snapshot))))
 
 pub trim-spec : {M : Type 1} → statement M
 trim-spec =
-    tie.close (tie.spec try-trim-requires put-settled-requires same-length same-length-2 returns)
+    tie.close
+    (tie.spec
+    try-trim-requires
+    settled-line-requires
+    put-answer-requires
+    same-length
+    same-length-2
+    returns)

@@ -14,6 +14,7 @@ ghost use Rattle.text.specs.Bytes.{bytes, gapOf};
 ghost use Rattle.text.specs.Feeding.{come, joined, nextAt};
 ghost use Rattle.text.specs.Number.{numberOf};
 ghost use Rattle.text.specs.Answers.{decimalOf, lineOf, entryText, entryLine, entryLines};
+ghost use Rattle.text.specs.declared.Line.the-variants.{Stop};
 
 // How many bytes stand before the first b.
 pub fn gap(s: &[u8], b: u8) -> usize
@@ -98,6 +99,15 @@ fn put_one(out: &mut [u8], at: usize, label: &[u8], n: u64, tail: &[u8]) -> usiz
     put(out, b, tail)
 }
 
+// label, n and a line end.
+fn put_count(out: &mut [u8], at: usize, label: &[u8], n: u64) -> usize
+    requires { ⌜ at + length (now label) + 21 ≤ length (now out) ⌝ }
+    ensures { λ r. ⌜ r ≤ at + length (now (label .entry)) + 21 ⌝ }
+    ensures { λ r. ⌜ take r (now (out .exit)) ≡ take at (now (out .entry)) ++ (now (label .entry) ++ decimalOf n ++ bytes "\n") ⌝ }
+{
+    put_one(out, at, label, n, b"\n")
+}
+
 // label, m, a space, n and a line end.
 fn put_two(out: &mut [u8], at: usize, label: &[u8], m: u64, n: u64) -> usize
     requires { ⌜ at + length (now label) + 42 ≤ length (now out) ⌝ }
@@ -105,7 +115,19 @@ fn put_two(out: &mut [u8], at: usize, label: &[u8], m: u64, n: u64) -> usize
     ensures { λ r. ⌜ take r (now (out .exit)) ≡ take at (now (out .entry)) ++ (now (label .entry) ++ decimalOf m ++ bytes " " ++ decimalOf n ++ bytes "\n") ⌝ }
 {
     let a = put_one(out, at, label, m, b" ");
-    put_one(out, a, b"", n, b"\n")
+    put_count(out, a, b"", n)
+}
+
+// A stop-sign's line.
+fn put_stop(out: &mut [u8], at: usize, c: u32, decided: bool) -> usize
+    requires { ⌜ at + 64 ≤ length (now out) ⌝ }
+    ensures { λ r. ⌜ r ≤ at + 64 ⌝ }
+    ensures { λ r. ⌜ take r (now (out .exit)) ≡ take at (now (out .entry)) ++ lineOf (Stop c decided) ⌝ }
+{
+    if decided {
+        return put_one(out, at, b"stop ", c as u64, b" yes\n");
+    }
+    put_one(out, at, b"stop ", c as u64, b" no\n")
 }
 
 // A line.
@@ -119,18 +141,12 @@ pub fn put_line(out: &mut [u8], at: usize, line: Line) -> usize
         Line::Held => put(out, at, b"held\n"),
         Line::Nothing => put(out, at, b"none\n"),
         Line::BadLine => put(out, at, b"bad line\n"),
-        Line::Accepted(n) => put_one(out, at, b"accepted ", n, b"\n"),
-        Line::Refused(n) => put_one(out, at, b"refused ", n, b"\n"),
-        Line::Run(n) => put_one(out, at, b"run ", n, b"\n"),
-        Line::Trimmed(i) => put_one(out, at, b"trimmed ", i, b"\n"),
+        Line::Accepted(n) => put_count(out, at, b"accepted ", n),
+        Line::Refused(n) => put_count(out, at, b"refused ", n),
+        Line::Run(n) => put_count(out, at, b"run ", n),
+        Line::Trimmed(i) => put_count(out, at, b"trimmed ", i),
         Line::Snapshot(i, keys) => put_two(out, at, b"snapshot ", i, keys),
-        Line::Stop(c, decided) => {
-            if decided {
-                put_one(out, at, b"stop ", c as u64, b" yes\n")
-            } else {
-                put_one(out, at, b"stop ", c as u64, b" no\n")
-            }
-        }
+        Line::Stop(c, decided) => put_stop(out, at, c, decided),
     }
 }
 

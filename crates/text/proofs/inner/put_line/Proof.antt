@@ -43,50 +43,38 @@ put-requires-4 c κs = search needs
 enum-known-line : tie.Need-enum-known-line
 enum-known-line c = search needs
 
-slice-aggregate-put-one : tie.Need-slice-aggregate-put-one
-slice-aggregate-put-one c = search needs
+slice-aggregate-put-count : tie.Need-slice-aggregate-put-count
+slice-aggregate-put-count c = search needs
 
-slice-aggregate-put-one-2 : tie.Need-slice-aggregate-put-one-2
-slice-aggregate-put-one-2 c = search needs
-
-put-one-requires : tie.Need-put-one-requires
-put-one-requires c κs = search needs
+put-count-requires : tie.Need-put-count-requires
+put-count-requires c κs = search needs
 
 enum-known-line-2 : tie.Need-enum-known-line-2
 enum-known-line-2 c = search needs
 
-slice-aggregate-put-one-3 : tie.Need-slice-aggregate-put-one-3
-slice-aggregate-put-one-3 c = search needs
+slice-aggregate-put-count-2 : tie.Need-slice-aggregate-put-count-2
+slice-aggregate-put-count-2 c = search needs
 
-slice-aggregate-put-one-4 : tie.Need-slice-aggregate-put-one-4
-slice-aggregate-put-one-4 c = search needs
-
-put-one-requires-2 : tie.Need-put-one-requires-2
-put-one-requires-2 c κs = search needs
+put-count-requires-2 : tie.Need-put-count-requires-2
+put-count-requires-2 c κs = search needs
 
 enum-known-line-3 : tie.Need-enum-known-line-3
 enum-known-line-3 c = search needs
 
-slice-aggregate-put-one-5 : tie.Need-slice-aggregate-put-one-5
-slice-aggregate-put-one-5 c = search needs
+slice-aggregate-put-count-3 : tie.Need-slice-aggregate-put-count-3
+slice-aggregate-put-count-3 c = search needs
 
-slice-aggregate-put-one-6 : tie.Need-slice-aggregate-put-one-6
-slice-aggregate-put-one-6 c = search needs
-
-put-one-requires-3 : tie.Need-put-one-requires-3
-put-one-requires-3 c κs = search needs
+put-count-requires-3 : tie.Need-put-count-requires-3
+put-count-requires-3 c κs = search needs
 
 enum-known-line-4 : tie.Need-enum-known-line-4
 enum-known-line-4 c = search needs
 
-slice-aggregate-put-one-7 : tie.Need-slice-aggregate-put-one-7
-slice-aggregate-put-one-7 c = search needs
+slice-aggregate-put-count-4 : tie.Need-slice-aggregate-put-count-4
+slice-aggregate-put-count-4 c = search needs
 
-slice-aggregate-put-one-8 : tie.Need-slice-aggregate-put-one-8
-slice-aggregate-put-one-8 c = search needs
-
-put-one-requires-4 : tie.Need-put-one-requires-4
-put-one-requires-4 c κs = search needs
+put-count-requires-4 : tie.Need-put-count-requires-4
+put-count-requires-4 c κs = search needs
 
 enum-known-line-5 : tie.Need-enum-known-line-5
 enum-known-line-5 c = search needs
@@ -100,29 +88,8 @@ put-two-requires c κs = search needs
 enum-known-line-6 : tie.Need-enum-known-line-6
 enum-known-line-6 c = search needs
 
-slice-aggregate-put-one-9 : tie.Need-slice-aggregate-put-one-9
-slice-aggregate-put-one-9 c = search needs
-
-cast-put-one : tie.Need-cast-put-one
-cast-put-one c = search needs
-
-slice-aggregate-put-one-10 : tie.Need-slice-aggregate-put-one-10
-slice-aggregate-put-one-10 c = search needs
-
-put-one-requires-5 : tie.Need-put-one-requires-5
-put-one-requires-5 c κs = search needs
-
-slice-aggregate-put-one-11 : tie.Need-slice-aggregate-put-one-11
-slice-aggregate-put-one-11 c = search needs
-
-cast-put-one-2 : tie.Need-cast-put-one-2
-cast-put-one-2 c = search needs
-
-slice-aggregate-put-one-12 : tie.Need-slice-aggregate-put-one-12
-slice-aggregate-put-one-12 c = search needs
-
-put-one-requires-6 : tie.Need-put-one-requires-6
-put-one-requires-6 c κs = search needs
+put-stop-requires : tie.Need-put-stop-requires
+put-stop-requires c κs = search needs
 
 same-length : tie.Need-same-length
 same-length c = search needs
@@ -157,28 +124,28 @@ same-length-5 c = search needs
 
 returns-5 : tie.Need-returns-5
 unfolding lineOf
-returns-5 c = (search needs, rw (c .before .before .before .before .before .before .before .line .given .1) (c .before .before .put-one .ensures .1))
+returns-5 c = (search needs, rw (c .before .before .before .before .before .before .line .given .1) (c .before .before .put-count .ensures .1))
 
 same-length-6 : tie.Need-same-length-6
 same-length-6 c = search needs
 
 returns-6 : tie.Need-returns-6
 unfolding lineOf
-returns-6 c = (search needs, rw (c .before .before .before .before .before .before .before .line2 .given .1) (c .before .before .put-one2 .ensures .1))
+returns-6 c = (search needs, rw (c .before .before .before .before .before .before .line2 .given .1) (c .before .before .put-count2 .ensures .1))
 
 same-length-7 : tie.Need-same-length-7
 same-length-7 c = search needs
 
 returns-7 : tie.Need-returns-7
 unfolding lineOf
-returns-7 c = (search needs, rw (c .before .before .before .before .before .before .before .line3 .given .1) (c .before .before .put-one3 .ensures .1))
+returns-7 c = (search needs, rw (c .before .before .before .before .before .before .line3 .given .1) (c .before .before .put-count3 .ensures .1))
 
 same-length-8 : tie.Need-same-length-8
 same-length-8 c = search needs
 
 returns-8 : tie.Need-returns-8
 unfolding lineOf
-returns-8 c = (search needs, rw (c .before .before .before .before .before .before .before .line4 .given .1) (c .before .before .put-one4 .ensures .1))
+returns-8 c = (search needs, rw (c .before .before .before .before .before .before .line4 .given .1) (c .before .before .put-count4 .ensures .1))
 
 same-length-9 : tie.Need-same-length-9
 same-length-9 c = search needs
@@ -191,15 +158,7 @@ same-length-10 : tie.Need-same-length-10
 same-length-10 c = search needs
 
 returns-10 : tie.Need-returns-10
-unfolding lineOf
-returns-10 c = (search needs, rw (c .before .before .before .before .before .before .before .before .line6 .given .1, c .before .before .before .before .before .before .if1 .taken) (c .before .before .put-one5 .ensures .1))
-
-same-length-11 : tie.Need-same-length-11
-same-length-11 c = search needs
-
-returns-11 : tie.Need-returns-11
-unfolding lineOf
-returns-11 c = (search needs, rw (c .before .before .before .before .before .before .before .before .line6 .given .1, c .before .before .before .before .before .before .if1 .left) (c .before .before .put-one6 .ensures .1))
+returns-10 c = (search needs, rw (c .before .before .before .before .before .line6 .given .1) (c .before .before .put-stop .ensures .1))
 
 pub put-line-spec : {M : Type 1} → statement M
 put-line-spec =
@@ -218,33 +177,22 @@ put-line-spec =
     slice-aggregate-put-4
     put-requires-4
     enum-known-line
-    slice-aggregate-put-one
-    slice-aggregate-put-one-2
-    put-one-requires
+    slice-aggregate-put-count
+    put-count-requires
     enum-known-line-2
-    slice-aggregate-put-one-3
-    slice-aggregate-put-one-4
-    put-one-requires-2
+    slice-aggregate-put-count-2
+    put-count-requires-2
     enum-known-line-3
-    slice-aggregate-put-one-5
-    slice-aggregate-put-one-6
-    put-one-requires-3
+    slice-aggregate-put-count-3
+    put-count-requires-3
     enum-known-line-4
-    slice-aggregate-put-one-7
-    slice-aggregate-put-one-8
-    put-one-requires-4
+    slice-aggregate-put-count-4
+    put-count-requires-4
     enum-known-line-5
     slice-aggregate-put-two
     put-two-requires
     enum-known-line-6
-    slice-aggregate-put-one-9
-    cast-put-one
-    slice-aggregate-put-one-10
-    put-one-requires-5
-    slice-aggregate-put-one-11
-    cast-put-one-2
-    slice-aggregate-put-one-12
-    put-one-requires-6
+    put-stop-requires
     same-length
     returns
     same-length-2
@@ -264,6 +212,4 @@ put-line-spec =
     same-length-9
     returns-9
     same-length-10
-    returns-10
-    same-length-11
-    returns-11)
+    returns-10)

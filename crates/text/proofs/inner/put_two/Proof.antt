@@ -14,14 +14,11 @@ slice-aggregate-put-one c = search needs
 put-one-requires : tie.Need-put-one-requires
 put-one-requires c κs = search needs
 
-slice-aggregate-put-one-2 : tie.Need-slice-aggregate-put-one-2
-slice-aggregate-put-one-2 c = search needs
+slice-aggregate-put-count : tie.Need-slice-aggregate-put-count
+slice-aggregate-put-count c = search needs
 
-slice-aggregate-put-one-3 : tie.Need-slice-aggregate-put-one-3
-slice-aggregate-put-one-3 c = search needs
-
-put-one-requires-2 : tie.Need-put-one-requires-2
-put-one-requires-2 c κs = search needs
+put-count-requires : tie.Need-put-count-requires
+put-count-requires c κs = search needs
 
 same-length : tie.Need-same-length
 same-length c = search needs
@@ -29,9 +26,9 @@ same-length c = search needs
 returns : tie.Need-returns
 returns c =
     let q = c .before .before in
-    let p = q .before .before .before .before .before .before in
+    let p = q .before .before .before .before .before in
     let a = p .before .before .before .before .before .args in
-    (search needs, glue-two (take (a .at) (now (a .out))) (now (a .label)) (decimalOf (a .m)) (bytes " ") (decimalOf (a .n)) (bytes "\n") (q .put-one2 .ensures .1) (p .put-one .ensures .1))
+    (search needs, glue-two (take (a .at) (now (a .out))) (now (a .label)) (decimalOf (a .m)) (bytes " ") (decimalOf (a .n)) (bytes "\n") (q .put-count .ensures .1) (p .put-one .ensures .1))
 
 pub put-two-spec : {M : Type 1} → statement M
 put-two-spec =
@@ -39,8 +36,7 @@ put-two-spec =
     (tie.spec
     slice-aggregate-put-one
     put-one-requires
-    slice-aggregate-put-one-2
-    slice-aggregate-put-one-3
-    put-one-requires-2
+    slice-aggregate-put-count
+    put-count-requires
     same-length
     returns)

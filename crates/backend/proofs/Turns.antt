@@ -1,21 +1,21 @@
 -- The operations one after the other: what is left of a list, from the state so far, comes to what the whole list does.
 use Prim.Native.Nat.{ℕ, suc, _+_, _≤_, _<_}
 use mathlib.Core.Path.{_≡_, refl, sym, ap, _∙_}
-use mathlib.Core.Bool.{Bool, true, false, _&&_, not}
-use mathlib.Core.List.{List, [], _∷_, _++_, map}
+use mathlib.Core.Bool.{true, _&&_, not}
+use mathlib.Core.List.{List, [], _∷_, map}
 use native.Mathlib.Omega.{arith}
 use native.Mathlib.Numerals.{add-one}
 use lib.Dec.{leb}
 use lib.ListN.{length, take, drop, getD, drop-of-length-le}
-use Rattle.words.specs.If.{if_then_else_}
 use Rattle.words.specs.All.{allOf}
 use Rattle.words.proofs.Tests.{and-right}
 use Rattle.words.proofs.Alls.{all-head, all-drop}
-use Rattle.entry.specs.Guards.{Guard, Verdict, passes, refuses, first, Answer, refused, replied, refusedBy, settle}
+use Rattle.entry.specs.Guards.{Verdict, passes, refuses, first, Answer, refused, replied, refusedBy, settle}
 use Rattle.entry.specs.Change.{formed as entriesFormed}
 use Rattle.entry.specs.Sign.{signFormed}
 use Rattle.entry.specs.Refusals.{numberOf, carriedOf}
 use Rattle.entry.specs.declared.Refusal.{Refusal}
+use Rattle.entry.proofs.GuardLaws.{first-left, first-right}
 use Rattle.model.specs.Numbers.{Numbers}
 use Rattle.model.specs.Log.{ifGiven, shotFormed}
 use Rattle.model.specs.Backend.{Op, Lent, supplied, opsFormed, Midst, step, steps, stepGuards, lastGuards, opGuards, midst, writeGuards, written}
@@ -37,34 +37,13 @@ use Rattle.backend.proofs.Requests.{ops-length, op-cons}
 use Rattle.backend.proofs.Lasts.{numbers-of, last-formed}
 
 -- a verdict is known by what it settles
-settle-refused : (v : Verdict) (n k : ℕ) → _≡_ {A = Answer (Unit {0})} (refused n k) (settle v tt) → v ≡ refuses n k
+settle-refused : (v : Verdict) (n k : ℕ) → _≡_ {A = Answer (Unit {0})} (refused n k) (settle v tt) → refuses n k ≡ v
 settle-refused passes n k e = let z : _≡_ {A = ℕ} 0 1 = cc in absurd (omega arith)
 settle-refused (refuses a b) n k e = cc
 
-settle-replied : (v : Verdict) → _≡_ {A = Answer (Unit {0})} (replied tt) (settle v tt) → v ≡ passes
+settle-replied : (v : Verdict) → _≡_ {A = Answer (Unit {0})} (replied tt) (settle v tt) → passes ≡ v
 settle-replied passes e = refl
 settle-replied (refuses a b) e = let z : _≡_ {A = ℕ} 0 1 = cc in absurd (omega arith)
-
--- the first refusal of two lists, one after the other
-first-left : (gs hs : List Guard) (n k : ℕ) → first gs ≡ refuses n k → first (gs ++ hs) ≡ refuses n k
-unfolding first
-first-left [] hs n k e = let z : _≡_ {A = ℕ} 0 1 = cc in absurd (omega arith)
-first-left (g ∷ gs) hs n k e = go (λ q. first-left gs hs n k q) (g .applies) e
-  where
-    go : (first gs ≡ refuses n k → first (gs ++ hs) ≡ refuses n k) → (t : Bool) → (if t then refuses (g .number) (g .carried) else first gs) ≡ refuses n k
-        → (if t then refuses (g .number) (g .carried) else first (gs ++ hs)) ≡ refuses n k
-    go ih true q = q
-    go ih false q = ih q
-
-first-right : (gs hs : List Guard) → first gs ≡ passes → first (gs ++ hs) ≡ first hs
-unfolding first
-first-right [] hs e = refl
-first-right (g ∷ gs) hs e = go (λ q. first-right gs hs q) (g .applies) e
-  where
-    go : (first gs ≡ passes → first (gs ++ hs) ≡ first hs) → (t : Bool) → (if t then refuses (g .number) (g .carried) else first gs) ≡ passes
-        → (if t then refuses (g .number) (g .carried) else first (gs ++ hs)) ≡ first hs
-    go ih true q = let z : _≡_ {A = ℕ} 0 1 = cc in absurd (omega arith)
-    go ih false q = ih q
 
 -- what is left of a list comes to a verdict, and to a state
 pub record Left (n : Numbers) (l : Lent) (ops : List Op) (m : Midst) (asked : Verdict) (end : Midst) : Type 0 where
@@ -91,8 +70,8 @@ module _ (n : Numbers) (l : Lent) (codes : List CodeOp) (count : ℕ) (few : cou
         unfolding opGuards
         turn-refused f e =
             sym (left .verdict) ∙ ap (λ (os : List Op). first (opGuards n l os m)) cons
-            ∙ first-left (stepGuards n l o m) (opGuards n l (drop (suc i) ops) (step l o m)) (numberOf f) (carriedOf f)
-            (settle-refused (first (stepGuards n l o m)) (numberOf f) (carriedOf f) (ap settled (sym e) ∙ g .verdict))
+            ∙ sym (first-left (stepGuards n l o m) (opGuards n l (drop (suc i) ops) (step l o m)) (numberOf f) (carriedOf f)
+            (settle-refused (first (stepGuards n l o m)) (numberOf f) (carriedOf f) (ap settled (sym e) ∙ g .verdict)))
 
         pub turn-held : s .answer ≡ Done → Held (raw (s .index) log shot)
         turn-held e = g .after (ap settled e) .1
@@ -134,20 +113,20 @@ module _ (r : Raw) (l : Lent) (ops : List Op) where
   unfolding opGuards steps written
   wrote n start x a h left e = record {
     verdict = e ∙ ap (λ (v : Verdict). settle v tt) (left .verdict);
-    after = λ q. (last-formed n start x h (settle-replied _ (sym q ∙ e)), ap (λ (m : Midst). m .log) (left .after));
+    after = λ q. (last-formed n start x h (sym (settle-replied _ (sym q ∙ e))), ap (λ (m : Midst). m .log) (left .after));
   }
 
   module _ (ok : formed r ≡ true) (fine : opsFormed l ops ≡ true) (a : Settled) (x : Raw) (w : Wrote r l ops a x) where
     pub write-refused : (f : Refusal) → a ≡ Refused f → outcome (refusedBy f) r ≡ run (write l ops) true r
     unfolding malformed further
     write-refused f e =
-        call-refused (write l ops) r ok (ap not fine) (numberOf f) (carriedOf f) (sym (settle-refused asked (numberOf f) (carriedOf f) (ap settled (sym e) ∙ w .verdict)))
+        call-refused (write l ops) r ok (ap not fine) (numberOf f) (carriedOf f) (settle-refused asked (numberOf f) (carriedOf f) (ap settled (sym e) ∙ w .verdict))
 
     pub write-stands : a ≡ Done → outcome (replied tt) x ≡ run (write l ops) true r
     unfolding malformed further effect replyOf
     write-stands e =
         let p = w .after (ap settled e) in
-        call-stands (write l ops) r ok (ap not fine) (sym (settle-replied asked (ap settled (sym e) ∙ w .verdict))) tt x refl (rw (p .1) at (stands-of x (p .0)))
+        call-stands (write l ops) r ok (ap not fine) (settle-replied asked (ap settled (sym e) ∙ w .verdict)) tt x refl (rw (p .1) at (stands-of x (p .0)))
 
 pub ops-supplied : (l : Lent) (ops : List Op) → opsFormed l ops ≡ true → allOf (supplied l) ops ≡ true
 unfolding opsFormed

@@ -5,6 +5,7 @@ use mathlib.Core.Bool.{Bool, true, false}
 use mathlib.Core.List.{List, [], _∷_, _++_}
 use native.Mathlib.Omega.{arith}
 use lib.Dec.{eqb}
+use Rattle.words.specs.If.{if_then_else_}
 use Rattle.entry.specs.Guards.{Guard, guard, Verdict, passes, refuses, first}
 
 module _ (n k : ℕ) (t : Bool) (gs : List Guard) where
@@ -15,6 +16,27 @@ module _ (n k : ℕ) (t : Bool) (gs : List Guard) where
   pub first-goes-on : t ≡ false → first (guard n k t ∷ gs) ≡ first gs
   unfolding first
   first-goes-on e = rw e
+
+-- the first refusal of two lists, one after the other
+pub first-left : (gs hs : List Guard) (n k : ℕ) → refuses n k ≡ first gs → refuses n k ≡ first (gs ++ hs)
+unfolding first
+first-left [] hs n k e = let z : _≡_ {A = ℕ} 0 1 = cc in absurd (omega arith)
+first-left (g ∷ gs) hs n k e = go (g .applies) e (λ q. first-left gs hs n k q)
+  where
+    go : (t : Bool) → refuses n k ≡ (if t then refuses (g .number) (g .carried) else first gs) → (refuses n k ≡ first gs → refuses n k ≡ first (gs ++ hs))
+        → refuses n k ≡ (if t then refuses (g .number) (g .carried) else first (gs ++ hs))
+    go true q ih = q
+    go false q ih = ih q
+
+pub first-right : (gs hs : List Guard) → passes ≡ first gs → first (gs ++ hs) ≡ first hs
+unfolding first
+first-right [] hs e = refl
+first-right (g ∷ gs) hs e = go (g .applies) e (λ q. first-right gs hs q)
+  where
+    go : (t : Bool) → passes ≡ (if t then refuses (g .number) (g .carried) else first gs) → (passes ≡ first gs → first (gs ++ hs) ≡ first hs)
+        → (if t then refuses (g .number) (g .carried) else first (gs ++ hs)) ≡ first hs
+    go true q ih = let z : _≡_ {A = ℕ} 0 1 = cc in absurd (omega arith)
+    go false q ih = ih q
 
 -- no refusal applies
 abbrev pub Passed : List Guard → Type 0

@@ -19,7 +19,7 @@ use Rattle.entry.specs.Refusals.{numberOf, carriedOf}
 use Rattle.entry.specs.declared.Ballot.{Ballot}
 use Rattle.entry.specs.declared.Refusal.{Refusal}
 use Rattle.entry.proofs.ChangeLaws.{changeOk}
-use Rattle.entry.proofs.GuardLaws.{Clear, clear, passed, clear-all, passing, stopping, found}
+use Rattle.entry.proofs.GuardLaws.{first-left, first-right, Clear, clear, passed, clear-all, passing, stopping, found}
 use Rattle.snapshot.specs.Folds.{foldOnto, merge}
 use Rattle.snapshot.specs.Calls.{outcome as shotOutcome, folded, overRoom}
 use Rattle.snapshot.specs.Inner.{Holds}
@@ -45,27 +45,6 @@ use Rattle.sync.specs.declared.LogSync.{LogSync}
 use Rattle.sync.specs.declared.SnapshotType.{SnapshotType}
 use Rattle.sync.specs.declared.SnapshotType.the-variants.{Plain, Complete, Delta}
 use Rattle.sync.proofs.Checking.{kept-few}
-
--- the first refusal of two lists
-first-left : (gs hs : List Guard) (n k : ℕ) → refuses n k ≡ first gs → refuses n k ≡ first (gs ++ hs)
-unfolding first
-first-left [] hs n k e = let z : _≡_ {A = ℕ} 0 1 = cc in absurd (omega arith)
-first-left (g ∷ gs) hs n k e = go (g .applies) e (λ q. first-left gs hs n k q)
-  where
-    go : (t : Bool) → refuses n k ≡ (if t then refuses (g .number) (g .carried) else first gs) → (refuses n k ≡ first gs → refuses n k ≡ first (gs ++ hs))
-        → refuses n k ≡ (if t then refuses (g .number) (g .carried) else first (gs ++ hs))
-    go true q ih = q
-    go false q ih = ih q
-
-first-right : (gs hs : List Guard) → passes ≡ first gs → first (gs ++ hs) ≡ first hs
-unfolding first
-first-right [] hs e = refl
-first-right (g ∷ gs) hs e = go (g .applies) e (λ q. first-right gs hs q)
-  where
-    go : (t : Bool) → passes ≡ (if t then refuses (g .number) (g .carried) else first gs) → (passes ≡ first gs → first (gs ++ hs) ≡ first hs)
-        → (if t then refuses (g .number) (g .carried) else first (gs ++ hs)) ≡ first hs
-    go true q ih = let z : _≡_ {A = ℕ} 0 1 = cc in absurd (omega arith)
-    go false q ih = ih q
 
 plain-by : (k : SnapshotType) (t : List Change) → plain? (givenBy k t) ≡ plainBy k
 plain-by Plain t = refl

@@ -89,5 +89,5 @@ module _ (r : Raw) (i : ℕ) (out : List ℕ) where
           asked = unfold created in ap (λ (j : ℕ). foldedTo j (s .run)) (e ∙ ap (target i) (sym (numbers r ok)))
 
           verdict : first (overRoom (created i s) ∷ []) ≡ first (further c s)
-          verdict = unfold further queryGuards createGuards created in
+          verdict = unfold further queryGuards createGuards in
               sym (first-goes-on 3 (s .run .compacted) (ltb i (s .run .compacted)) _ from ∙ first-goes-on 2 (s .marks .decided) (ltb (s .marks .decided) i) _ (le-ltb (s .marks .decided) i (omega (arith, st .marks .index, h))))

@@ -40,16 +40,17 @@ snapshotGuards upto s =
     ∷ guard 8 0 (ltb (s .run .compacted) to && ltb keyRoom (length (foldedTo to (s .run))))
     ∷ []
 
--- "create_snapshot: 3, 2, 8"; it "reads an index equal to decided the same way"
+-- create_snapshot "reads an index equal to decided the same way"
+unfoldable pub created : ℕ → Log → List Change
+created i s = foldedTo (target i (numbersOf s)) (s .run)
+
+-- "create_snapshot: 3, 2, 8"
 unfoldable pub createGuards : ℕ → Log → List Guard
 createGuards i s =
     guard 3 (s .run .compacted) (ltb i (s .run .compacted))
     ∷ aboveDecided (some i) (numbersOf s)
-    ∷ overRoom (foldedTo (target i (numbersOf s)) (s .run))
+    ∷ overRoom (created i s)
     ∷ []
-
-unfoldable pub created : ℕ → Log → List Change
-created i s = foldedTo (target i (numbersOf s)) (s .run)
 
 -- "no change unless it passes compacted": the run from an index on, with the snapshot that is then held
 unfoldable pub movedTo : ℕ → Option (List Change) → Log → Log

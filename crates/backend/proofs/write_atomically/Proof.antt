@@ -52,7 +52,6 @@ use Rattle.backend.specs.declared.OpList.{OpList}
 use Rattle.backend.specs.declared.Lent.{Lent}
 use Rattle.backend.proofs.Gathered.{gathered-run}
 use Rattle.backend.proofs.Op as O
-use Rattle.backend.proofs.Op.Laws as O′
 use Rattle.backend.proofs.OpList as L
 use Rattle.backend.proofs.OpList.Laws as L′
 use Rattle.backend.proofs.Lent as N

@@ -12,16 +12,19 @@ use state_cache::Settled;
 use text::Command;
 use text::Line;
 ghost use mathlib.Core.Path.{_≡_};
+ghost use mathlib.Core.Bool.{true};
 ghost use mathlib.Core.List.{List};
 ghost use Prim.Native.Nat.{ℕ, _+_, _≤_};
 ghost use lib.ListN.{length, take};
 ghost use Rattle.entry.specs.Limits.{logWords};
 ghost use Rattle.state_cache.specs.State.{raw};
-ghost use Rattle.state_cache.specs.Run.{settled, accepted};
-ghost use Rattle.internal_storage.specs.Replies.{appended};
+ghost use Rattle.model.specs.Calls.{append, snapshot as snapshotCall};
+ghost use Rattle.state_cache.specs.Run.{run, settled, accepted};
+ghost use Rattle.internal_storage.specs.Replies.{saidIs, appended};
+ghost use Rattle.compaction.specs.Moves.{uptoOf};
 ghost use Rattle.text.specs.Answers.{lineOf};
-ghost use Rattle.text.specs.declared.Command.the-variants.{Batch, Put, Del, Read, Flush, Decide, Snap, SnapAll, Stop, Trim};
-ghost use Rattle.replay.specs.Answering.{told, settledText, acceptedText, appendedText, stopOf, stopLine, answering};
+ghost use Rattle.text.specs.declared.Command.the-variants.{Batch, Read, Flush, Decide, Stop, Trim};
+ghost use Rattle.replay.specs.Answering.{told, settledText, acceptedText, appendedText, printed, stopOf, stopLine, one, answering};
 ghost use Rattle.replay.specs.Feeding.{answerRoom, after};
 
 // The record after a command, and the index after its answer's bytes.
@@ -92,38 +95,19 @@ fn batch(
     put_answer(out, at, index, Line::Refused(entry::number(refusal)))
 }
 
-fn put(
+fn append(
     index: IndexRecord,
     log: &mut [u64],
     snapshot: &[u64],
     k: u64,
-    p: u64,
+    said: Said,
     out: &mut [u8],
     at: usize,
 ) -> Stepped
     requires { ⌜ at + 64 ≤ length (now out) ⌝ }
     ensures { λ r. ⌜ r .at ≤ at + 64 ⌝ }
-    ensures { λ r. ⌜ told (take (r .at) (now (out .exit))) (raw (r .index) (now (log .exit)) (now (snapshot .entry))) ≡ after (take at (now (out .entry))) (answering (Put k p) (raw index (now (log .entry)) (now (snapshot .entry)))) ⌝ }
+    ensures { λ r. ⌜ told (take (r .at) (now (out .exit))) (raw (r .index) (now (log .exit)) (now (snapshot .entry))) ≡ after (take at (now (out .entry))) (printed appendedText (run (append (one k (saidIs said))) true (raw index (now (log .entry)) (now (snapshot .entry))))) ⌝ }
 {
-    let said = Said::Place(BlockPlace(p));
-    let to = internal_storage::append::append_entry_with_batching(index, log, snapshot, k, said);
-    let answer = to.answer;
-    put_answer(out, at, to.index, appended_line(answer))
-}
-
-fn del(
-    index: IndexRecord,
-    log: &mut [u64],
-    snapshot: &[u64],
-    k: u64,
-    out: &mut [u8],
-    at: usize,
-) -> Stepped
-    requires { ⌜ at + 64 ≤ length (now out) ⌝ }
-    ensures { λ r. ⌜ r .at ≤ at + 64 ⌝ }
-    ensures { λ r. ⌜ told (take (r .at) (now (out .exit))) (raw (r .index) (now (log .exit)) (now (snapshot .entry))) ≡ after (take at (now (out .entry))) (answering (Del k) (raw index (now (log .entry)) (now (snapshot .entry)))) ⌝ }
-{
-    let said = Said::Removed;
     let to = internal_storage::append::append_entry_with_batching(index, log, snapshot, k, said);
     let answer = to.answer;
     put_answer(out, at, to.index, appended_line(answer))
@@ -186,31 +170,15 @@ fn snap(
     index: IndexRecord,
     log: &mut [u64],
     snapshot: &mut [u64],
-    i: u64,
+    upto: Upto,
     out: &mut [u8],
     at: usize,
 ) -> Stepped
     requires { ⌜ at + 64 ≤ length (now out) ⌝ }
     ensures { λ r. ⌜ r .at ≤ at + 64 ⌝ }
-    ensures { λ r. ⌜ told (take (r .at) (now (out .exit))) (raw (r .index) (now (log .exit)) (now (snapshot .exit))) ≡ after (take at (now (out .entry))) (answering (Snap i) (raw index (now (log .entry)) (now (snapshot .entry)))) ⌝ }
+    ensures { λ r. ⌜ told (take (r .at) (now (out .exit))) (raw (r .index) (now (log .exit)) (now (snapshot .exit))) ≡ after (take at (now (out .entry))) (printed settledText (run (snapshotCall (uptoOf upto)) true (raw index (now (log .entry)) (now (snapshot .entry))))) ⌝ }
 {
-    let to = compaction::try_snapshot(index, log, snapshot, Upto::Index(LogIndex(i)));
-    let answer = to.answer;
-    put_answer(out, at, to.index, settled_line(answer))
-}
-
-fn snap_all(
-    index: IndexRecord,
-    log: &mut [u64],
-    snapshot: &mut [u64],
-    out: &mut [u8],
-    at: usize,
-) -> Stepped
-    requires { ⌜ at + 64 ≤ length (now out) ⌝ }
-    ensures { λ r. ⌜ r .at ≤ at + 64 ⌝ }
-    ensures { λ r. ⌜ told (take (r .at) (now (out .exit))) (raw (r .index) (now (log .exit)) (now (snapshot .exit))) ≡ after (take at (now (out .entry))) (answering SnapAll (raw index (now (log .entry)) (now (snapshot .entry)))) ⌝ }
-{
-    let to = compaction::try_snapshot(index, log, snapshot, Upto::Decided);
+    let to = compaction::try_snapshot(index, log, snapshot, upto);
     let answer = to.answer;
     put_answer(out, at, to.index, settled_line(answer))
 }
@@ -293,13 +261,16 @@ pub(crate) fn step(
 {
     match command {
         Command::Batch(n) => batch(index, log, snapshot, n, out, at),
-        Command::Put(k, p) => put(index, log, snapshot, k, p, out, at),
-        Command::Del(k) => del(index, log, snapshot, k, out, at),
+        Command::Put(k, p) => {
+            let said = Said::Place(BlockPlace(p));
+            append(index, log, snapshot, k, said, out, at)
+        }
+        Command::Del(k) => append(index, log, snapshot, k, Said::Removed, out, at),
         Command::Read(from, to) => read(index, log, snapshot, from, to, out, at),
         Command::Flush => flush(index, log, snapshot, out, at),
         Command::Decide(i) => decide(index, log, snapshot, i, out, at),
-        Command::Snap(i) => snap(index, log, snapshot, i, out, at),
-        Command::SnapAll => snap_all(index, log, snapshot, out, at),
+        Command::Snap(i) => snap(index, log, snapshot, Upto::Index(LogIndex(i)), out, at),
+        Command::SnapAll => snap(index, log, snapshot, Upto::Decided, out, at),
         Command::Stop(c) => stop(index, log, snapshot, c, out, at),
         Command::Trim(i) => trim(index, log, snapshot, i, out, at),
         Command::BadLine => put_answer(out, at, index, Line::BadLine),

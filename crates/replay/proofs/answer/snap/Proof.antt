@@ -3,7 +3,7 @@ use lib.ListN.{take}
 use denote.Ref.{now}
 use Rattle.state_cache.specs.State.{raw}
 use Rattle.state_cache.specs.Run.{settled}
-use Rattle.replay.specs.Answering.{settledText, answering}
+use Rattle.replay.specs.Answering.{settledText}
 use Rattle.replay.proofs.Telling.{tells}
 use borrow.Author.Needs.{needs}
 use Rattle.replay.proofs.answer.snap.Statement.{statement}
@@ -28,7 +28,6 @@ same-length-3 : tie.Need-same-length-3
 same-length-3 c = search needs
 
 returns : tie.Need-returns
-unfolding answering
 returns c =
     let a = c .before .before .before .before .before .before .before .before .before .before .before .before .before .before .before .args in
     let to = c .before .before .before .before .before .before .before .before .before .try-snapshot in

@@ -20,14 +20,14 @@ batch-requires c κs = search needs
 enum-known-command-2 : tie.Need-enum-known-command-2
 enum-known-command-2 c = search needs
 
-put-requires : tie.Need-put-requires
-put-requires c κs = search needs
+append-requires : tie.Need-append-requires
+append-requires c κs = search needs
 
 enum-known-command-3 : tie.Need-enum-known-command-3
 enum-known-command-3 c = search needs
 
-del-requires : tie.Need-del-requires
-del-requires c κs = search needs
+append-requires-2 : tie.Need-append-requires-2
+append-requires-2 c κs = search needs
 
 enum-known-command-4 : tie.Need-enum-known-command-4
 enum-known-command-4 c = search needs
@@ -56,8 +56,8 @@ snap-requires c κs = search needs
 enum-told-2 : tie.Need-enum-told-2
 enum-told-2 c = search needs
 
-snap-all-requires : tie.Need-snap-all-requires
-snap-all-requires c κs = search needs
+snap-requires-2 : tie.Need-snap-requires-2
+snap-requires-2 c κs = search needs
 
 enum-known-command-7 : tie.Need-enum-known-command-7
 enum-known-command-7 c = search needs
@@ -102,9 +102,10 @@ same-length-6 : tie.Need-same-length-6
 same-length-6 c = search needs
 
 returns-2 : tie.Need-returns-2
+unfolding answering
 returns-2 c =
     let a = c .before .before .before .before .before .before .before .before .before .before .before .before .before .before .args in
-    let done = c .before .before .before .before .put in
+    let done = c .before .before .before .before .append in
     (omega (arith, done .ensures .0), done .ensures .1 ∙ sym (ap (λ (x : Command). after (take (a .at) (now (a .out))) (answering x (raw (a .index) (now (a .log)) (now (a .snapshot))))) (c .before .before .before .before .before .before .before .before .before .command2 .given .1)))
 
 same-length-7 : tie.Need-same-length-7
@@ -117,9 +118,10 @@ same-length-9 : tie.Need-same-length-9
 same-length-9 c = search needs
 
 returns-3 : tie.Need-returns-3
+unfolding answering
 returns-3 c =
     let a = c .before .before .before .before .before .before .before .before .before .before .before .before .before .before .args in
-    let done = c .before .before .before .before .del in
+    let done = c .before .before .before .before .append2 in
     (omega (arith, done .ensures .0), done .ensures .1 ∙ sym (ap (λ (x : Command). after (take (a .at) (now (a .out))) (answering x (raw (a .index) (now (a .log)) (now (a .snapshot))))) (c .before .before .before .before .before .before .before .before .before .command3 .given .1)))
 
 same-length-10 : tie.Need-same-length-10
@@ -177,6 +179,7 @@ same-length-21 : tie.Need-same-length-21
 same-length-21 c = search needs
 
 returns-7 : tie.Need-returns-7
+unfolding answering
 returns-7 c =
     let a = c .before .before .before .before .before .before .before .before .before .before .before .before .before .before .before .before .args in
     let done = c .before .before .before .before .before .before .snap in
@@ -192,9 +195,10 @@ same-length-24 : tie.Need-same-length-24
 same-length-24 c = search needs
 
 returns-8 : tie.Need-returns-8
+unfolding answering
 returns-8 c =
     let a = c .before .before .before .before .before .before .before .before .before .before .before .before .before .before .before .args in
-    let done = c .before .before .before .before .before .before .snap-all in
+    let done = c .before .before .before .before .before .before .snap2 in
     (omega (arith, done .ensures .0), done .ensures .1 ∙ sym (ap (λ (x : Command). after (take (a .at) (now (a .out))) (answering x (raw (a .index) (now (a .log)) (now (a .snapshot))))) (c .before .before .before .before .before .before .before .before .before .before .enum-told2 .given .1)))
 
 same-length-25 : tie.Need-same-length-25
@@ -244,9 +248,9 @@ step-spec =
     enum-known-command
     batch-requires
     enum-known-command-2
-    put-requires
+    append-requires
     enum-known-command-3
-    del-requires
+    append-requires-2
     enum-known-command-4
     read-requires
     enum-told
@@ -256,7 +260,7 @@ step-spec =
     enum-known-command-6
     snap-requires
     enum-told-2
-    snap-all-requires
+    snap-requires-2
     enum-known-command-7
     stop-requires
     enum-known-command-8

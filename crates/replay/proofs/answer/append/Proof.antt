@@ -1,13 +1,13 @@
--- `replay::answer::del` meets its contract: the call's outcome is what is printed.
+-- `replay::answer::append` meets its contract: the call's outcome is what is printed.
 use lib.ListN.{take}
 use denote.Ref.{now}
 use Rattle.state_cache.specs.State.{raw}
 use Rattle.internal_storage.specs.Replies.{appended}
-use Rattle.replay.specs.Answering.{appendedText, answering}
+use Rattle.replay.specs.Answering.{appendedText}
 use Rattle.replay.proofs.Telling.{tells}
 use borrow.Author.Needs.{needs}
-use Rattle.replay.proofs.answer.del.Statement.{statement}
-use Rattle.replay.proofs.answer.del.Tie as tie
+use Rattle.replay.proofs.answer.append.Statement.{statement}
+use Rattle.replay.proofs.answer.append.Tie as tie
 
 append-entry-with-batching-requires : tie.Need-append-entry-with-batching-requires
 append-entry-with-batching-requires c κs = search needs
@@ -25,15 +25,14 @@ same-length-2 : tie.Need-same-length-2
 same-length-2 c = search needs
 
 returns : tie.Need-returns
-unfolding answering
 returns c =
     let a = c .before .before .before .before .before .before .before .before .before .before .before .before .args in
     let to = c .before .before .before .before .before .before .before .append-entry-with-batching in
     let put = c .before .before .put-answer in
     (put .ensures .0, tells appendedText (take (a .at) (now (a .out))) _ _ (appended (to .result .answer)) (raw (to .result .index) (to .last .1 .0) (now (a .snapshot))) _ (to .ensures) (c .before .before .before .appended-line .ensures) (put .ensures .1 (to .last .1 .0) (now (a .snapshot))))
 
-pub del-spec : {M : Type 1} → statement M
-del-spec =
+pub append-spec : {M : Type 1} → statement M
+append-spec =
     tie.close
     (tie.spec
     append-entry-with-batching-requires

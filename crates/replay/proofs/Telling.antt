@@ -27,7 +27,7 @@ use Rattle.reading.proofs.Answers.{query-keeps}
 use Rattle.reading.specs.Parts.{part}
 use Rattle.reading.specs.Replies.{markerSaid, shownSaid}
 use Rattle.reading.specs.declared.ShownRun.{ShownRun}
-use Rattle.replay.specs.Answering.{Told, told, markerText, stopText, shownText, printed, startedBy, stopLine, stoppedBy}
+use Rattle.replay.specs.Answering.{told, markerText, stopText, shownText, printed, startedBy, stopLine, stoppedBy}
 use Rattle.replay.specs.Feeding.{after}
 
 two : {t₁ t₂ : List ℕ} (t₀ a b : List ℕ) → t₁ ≡ t₀ ++ a → t₂ ≡ t₁ ++ b → t₂ ≡ t₀ ++ (a ++ b)
@@ -76,31 +76,19 @@ shown-is {t₁ = t₁} {t₂ = t₂} t₀ run index log snapshot entries m lines
 
 -- ---- what a call's answer prints, and the state after it
 
--- a claim on the outcome is a claim on what is told of it
-answered : {A : Type 0} (tell : Outcome A → Told) (front : List ℕ) (t : Told) (o p : Outcome A) → o ≡ p → t ≡ after front (tell o)
-    → t ≡ after front (tell p)
-answered {A} tell front t o p e h = h ∙ ap (λ (u : Outcome A). after front (tell u)) e
-
--- the line that was put, said otherwise
-put-as : (front : List ℕ) (t : Told) (l m : List ℕ) (x : Raw) → l ≡ m → t ≡ after front (told l x) → t ≡ after front (told m x)
-put-as front t l m x e h = h ∙ ap (λ (bs : List ℕ). after front (told bs x)) e
-
--- an answer's line, put with the record that the call hands back
-pub tells : {A : Type 0} (text : Answer A → List ℕ) (front : List ℕ) (t : Told) (l : List ℕ) (a : Answer A) (x : Raw) (o : Outcome A)
-    → outcome a x ≡ o → l ≡ text a → t ≡ after front (told l x) → t ≡ after front (printed text o)
-tells text front t l a x o e h p = answered (printed text) front t (outcome a x) o e (put-as front t l (text a) x h p)
+pub tells : {A : Type 0} (text : Answer A → List ℕ) (l : List ℕ) (a : Answer A) (x : Raw) (o : Outcome A)
+    → outcome a x ≡ o → l ≡ text a → told l x ≡ printed text o
+tells text l a x o e h = ap (λ (bs : List ℕ). told bs x) h ∙ ap (printed text) e
 
 -- a query's answer; the state stays
-pub asks : (q : Query) (text : Answer (QueryReply q) → List ℕ) (front t : List ℕ) (a : Answer (QueryReply q)) (x : Raw)
-    → a ≡ run (query q) true x .answer → t ≡ front ++ text a → told t x ≡ after front (printed text (run (query q) true x))
-asks q text front t a x e p =
-    ap (λ (l : List ℕ). told l x) (p ∙ ap (λ (y : Answer (QueryReply q)). front ++ text y) e)
-    ∙ ap (λ (r : Raw). told (front ++ text (run (query q) true x .answer)) r) (sym (query-keeps q x))
+pub asks : (q : Query) (text : Answer (QueryReply q) → List ℕ) (a : Answer (QueryReply q)) (x : Raw)
+    → a ≡ run (query q) true x .answer → told (text a) x ≡ printed text (run (query q) true x)
+asks q text a x e =
+    ap (λ (y : Answer (QueryReply q)). told (text y) x) e ∙ ap (λ (r : Raw). told (text (run (query q) true x .answer)) r) (sym (query-keeps q x))
 
-pub stops : (front : List ℕ) (t : Told) (l : List ℕ) (a : Answer (Option Flushed)) (last : Answer ℕ) (x : Raw) (o : Outcome (Option Flushed))
-    → outcome a x ≡ o → last ≡ ofNumbers acceptedOf x → l ≡ stopLine a last → t ≡ after front (told l x) → t ≡ after front (stoppedBy o)
-stops front t l a last x o e h k p =
-    answered stoppedBy front t (outcome a x) o e (put-as front t l (stopLine a (ofNumbers acceptedOf x)) x (k ∙ ap (λ (i : Answer ℕ). stopLine a i) h) p)
+pub stops : (l : List ℕ) (a : Answer (Option Flushed)) (last : Answer ℕ) (x : Raw) (o : Outcome (Option Flushed))
+    → outcome a x ≡ o → last ≡ ofNumbers acceptedOf x → l ≡ stopLine a last → told l x ≡ stoppedBy o
+stops l a last x o e h k = ap (λ (bs : List ℕ). told bs x) (k ∙ ap (λ (i : Answer ℕ). stopLine a i) h) ∙ ap stoppedBy e
 
 -- a fresh log that is refused leaves the words
 fresh-kept : (n k m : ℕ) (x : Raw) (log snapshot : List ℕ) → outcome (refused k m) x ≡ freshCall n log snapshot
@@ -112,16 +100,15 @@ fresh-kept n k m x log snapshot = go (leb n largestBatch && (eqb (length log) lo
     go true e = apart _ _ _ (sym (ap (λ (o : Outcome (Unit {0})). o .answer) e))
     go false e = (ap (λ (o : Outcome (Unit {0})). o .after .log) e, ap (λ (o : Outcome (Unit {0})). o .after .snapshot) e)
 
-pub starts : (n : ℕ) (front : List ℕ) (t : Told) (x old : Raw) → outcome (replied tt) x ≡ freshCall n (old .log) (old .snapshot)
-    → t ≡ after front (told (lineOf Done) x) → t ≡ after front (startedBy (freshCall n (old .log) (old .snapshot)) old)
-starts n front t x old = answered (λ (o : Outcome (Unit {0})). startedBy o old) front t (outcome (replied tt) x) (freshCall n (old .log) (old .snapshot))
+pub starts : (n : ℕ) (x old : Raw) → outcome (replied tt) x ≡ freshCall n (old .log) (old .snapshot)
+    → told (lineOf Done) x ≡ startedBy (freshCall n (old .log) (old .snapshot)) old
+starts n x old e = ap (λ (o : Outcome (Unit {0})). startedBy o old) e
 
-pub stays : (n said k m : ℕ) (front : List ℕ) (t : Told) (x old : Raw) → outcome (refused k m) x ≡ freshCall n (old .log) (old .snapshot)
-    → said ≡ k → t ≡ after front (told (lineOf (Refused said)) (raw (old .index) (x .log) (x .snapshot)))
-    → t ≡ after front (startedBy (freshCall n (old .log) (old .snapshot)) old)
-stays n said k m front t x old e h p =
+pub stays : (n said k m : ℕ) (x old : Raw) → outcome (refused k m) x ≡ freshCall n (old .log) (old .snapshot) → said ≡ k
+    → told (lineOf (Refused said)) (raw (old .index) (x .log) (x .snapshot)) ≡ startedBy (freshCall n (old .log) (old .snapshot)) old
+stays n said k m x old e h =
     let kept = fresh-kept n k m x (old .log) (old .snapshot) e in
-    answered (λ (o : Outcome (Unit {0})). startedBy o old) front t (outcome (refused k m) x) (freshCall n (old .log) (old .snapshot)) e
-    (put-as front t (lineOf (Refused said)) (lineOf (Refused k)) (raw (old .index) (x .log) (x .snapshot)) (ap (λ (i : ℕ). lineOf (Refused i)) h) p
-    ∙ ap (λ (r : Raw). after front (told (lineOf (Refused k)) r))
-    (ap (λ (l : List ℕ). raw (old .index) l (x .snapshot)) (kept .0) ∙ ap (λ (l : List ℕ). raw (old .index) (old .log) l) (kept .1)))
+    ap (λ (i : ℕ). told (lineOf (Refused i)) (raw (old .index) (x .log) (x .snapshot))) h
+    ∙ ap (λ (r : Raw). told (lineOf (Refused k)) r)
+    (ap (λ (l : List ℕ). raw (old .index) l (x .snapshot)) (kept .0) ∙ ap (λ (l : List ℕ). raw (old .index) (old .log) l) (kept .1))
+    ∙ ap (λ (o : Outcome (Unit {0})). startedBy o old) e

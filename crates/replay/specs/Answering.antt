@@ -19,6 +19,9 @@ use Rattle.text.specs.Answers.{lineOf, entryLines}
 use Rattle.text.specs.declared.Line.the-variants.{Done, Held, Nothing, BadLine, Accepted, Refused, Run, Trimmed, Snapshot, Stop}
 use Rattle.text.specs.declared.Command.{Command}
 use Rattle.text.specs.declared.Command.the-variants as command
+use Rattle.reading.specs.Replies.{readSaid}
+use Rattle.replay.specs.declared.answer.Reply.{Reply}
+use Rattle.replay.specs.declared.answer.Reply.the-variants as reply
 
 -- the bytes printed, and the state after
 pub record Told : Type 0 where
@@ -68,6 +71,14 @@ abbrev pub readText : Answer (Option Shown) → List ℕ
 readText (refused n k) = lineOf (Refused n)
 readText (replied none) = lineOf Nothing
 readText (replied (some v)) = shownText v
+
+-- a command's answer, beside the state after it
+abbrev pub replyText : Raw → Reply → List ℕ
+replyText x (reply.Line l) = lineOf l
+replyText x (reply.Read r) = readText (readSaid x r)
+
+abbrev pub telling : Reply → Raw → Told
+telling r x = told (replyText x r) x
 
 -- a call's answer printed
 abbrev pub printed : {A : Type 0} → (Answer A → List ℕ) → Outcome A → Told

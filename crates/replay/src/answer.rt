@@ -1,4 +1,4 @@
-// What each command does to the log, and the line that answers it, put into out from index `at` on.
+// What each command does to the log, and what answers it, put into out from index `at` on.
 use compaction::Upto;
 use entry::BlockPlace;
 use entry::LogIndex;
@@ -6,6 +6,7 @@ use entry::StopSign;
 use internal_storage::Appended;
 use internal_storage::Said;
 use reading::Bound;
+use reading::ReadReply;
 use state_cache::Accepted;
 use state_cache::IndexRecord;
 use state_cache::Settled;
@@ -13,8 +14,7 @@ use text::Command;
 use text::Line;
 ghost use mathlib.Core.Path.{_≡_};
 ghost use mathlib.Core.Bool.{true};
-ghost use mathlib.Core.List.{List};
-ghost use Prim.Native.Nat.{ℕ, _+_, _≤_};
+ghost use Prim.Native.Nat.{_+_, _≤_};
 ghost use lib.ListN.{length, take};
 ghost use Rattle.entry.specs.Limits.{logWords};
 ghost use Rattle.state_cache.specs.State.{raw};
@@ -24,8 +24,20 @@ ghost use Rattle.internal_storage.specs.Replies.{saidIs, appended};
 ghost use Rattle.compaction.specs.Moves.{uptoOf};
 ghost use Rattle.text.specs.Answers.{lineOf};
 ghost use Rattle.text.specs.declared.Command.the-variants.{Batch, Read, Flush, Decide, Stop, Trim};
-ghost use Rattle.replay.specs.Answering.{told, settledText, acceptedText, appendedText, printed, stopOf, stopLine, one, answering};
+ghost use Rattle.replay.specs.Answering.{told, settledText, acceptedText, appendedText, printed, telling, stopOf, stopLine, one, answering};
 ghost use Rattle.replay.specs.Feeding.{answerRoom, after};
+
+// What answers a command: a line, or what a read shows.
+pub enum Reply {
+    Line(Line),
+    Read(ReadReply),
+}
+
+// The record after a command, and its answer.
+pub struct Answered {
+    pub index: IndexRecord,
+    pub reply: Reply,
+}
 
 // The record after a command, and the index after its answer's bytes.
 pub struct Stepped {
@@ -64,67 +76,41 @@ fn appended_line(answer: Appended) -> Line
     }
 }
 
-// An answer's line, with the record after it.
-fn put_answer(out: &mut [u8], at: usize, index: IndexRecord, line: Line) -> Stepped
-    requires { ⌜ at + 64 ≤ length (now out) ⌝ }
-    ensures { λ r. ⌜ r .at ≤ at + 64 ⌝ }
-    ensures { λ r. ⌜ ((log snapshot : List ℕ) → told (take (r .at) (now (out .exit))) (raw (r .index) log snapshot) ≡ after (take at (now (out .entry))) (told (lineOf line) (raw index log snapshot))) ⌝ }
-{
-    let o = text::inner::put_line(out, at, line);
-    Stepped { index, at: o }
-}
-
 // A fresh log. Where it is refused the old one stays.
-fn batch(
-    index: IndexRecord,
-    log: &mut [u64],
-    snapshot: &mut [u64],
-    n: u64,
-    out: &mut [u8],
-    at: usize,
-) -> Stepped
-    requires { ⌜ at + 64 ≤ length (now out) ⌝ }
-    ensures { λ r. ⌜ r .at ≤ at + 64 ⌝ }
-    ensures { λ r. ⌜ told (take (r .at) (now (out .exit))) (raw (r .index) (now (log .exit)) (now (snapshot .exit))) ≡ after (take at (now (out .entry))) (answering (Batch n) (raw index (now (log .entry)) (now (snapshot .entry)))) ⌝ }
+fn batch(index: IndexRecord, log: &mut [u64], snapshot: &mut [u64], n: u64) -> Answered
+    ensures { λ r. ⌜ telling (r .reply) (raw (r .index) (now (log .exit)) (now (snapshot .exit))) ≡ answering (Batch n) (raw index (now (log .entry)) (now (snapshot .entry))) ⌝ }
 {
     let started = state_cache::fresh(n, log, snapshot);
     let answer = started.answer;
     let Settled::Refused(refusal) = answer else {
-        return put_answer(out, at, started.index, Line::Done);
+        let next = started.index;
+        return Answered {
+            index: next,
+            reply: Reply::Line(Line::Done),
+        };
     };
-    put_answer(out, at, index, Line::Refused(entry::number(refusal)))
+    let line = Line::Refused(entry::number(refusal));
+    Answered {
+        index,
+        reply: Reply::Line(line),
+    }
 }
 
-fn append(
-    index: IndexRecord,
-    log: &mut [u64],
-    snapshot: &[u64],
-    k: u64,
-    said: Said,
-    out: &mut [u8],
-    at: usize,
-) -> Stepped
-    requires { ⌜ at + 64 ≤ length (now out) ⌝ }
-    ensures { λ r. ⌜ r .at ≤ at + 64 ⌝ }
-    ensures { λ r. ⌜ told (take (r .at) (now (out .exit))) (raw (r .index) (now (log .exit)) (now (snapshot .entry))) ≡ after (take at (now (out .entry))) (printed appendedText (run (append (one k (saidIs said))) true (raw index (now (log .entry)) (now (snapshot .entry))))) ⌝ }
+fn append(index: IndexRecord, log: &mut [u64], snapshot: &[u64], k: u64, said: Said) -> Answered
+    ensures { λ r. ⌜ telling (r .reply) (raw (r .index) (now (log .exit)) (now (snapshot .entry))) ≡ printed appendedText (run (append (one k (saidIs said))) true (raw index (now (log .entry)) (now (snapshot .entry)))) ⌝ }
 {
     let to = internal_storage::append::append_entry_with_batching(index, log, snapshot, k, said);
     let answer = to.answer;
-    put_answer(out, at, to.index, appended_line(answer))
+    let next = to.index;
+    let line = appended_line(answer);
+    Answered {
+        index: next,
+        reply: Reply::Line(line),
+    }
 }
 
-fn read(
-    index: IndexRecord,
-    log: &[u64],
-    snapshot: &[u64],
-    from: u64,
-    to: u64,
-    out: &mut [u8],
-    at: usize,
-) -> Stepped
-    requires { ⌜ (at + answerRoom ≤ length (now out)) × (length (now log) ≡ logWords) ⌝ }
-    ensures { λ r. ⌜ r .at ≤ at + answerRoom ⌝ }
-    ensures { λ r. ⌜ told (take (r .at) (now (out .exit))) (raw (r .index) (now (log .entry)) (now (snapshot .entry))) ≡ after (take at (now (out .entry))) (answering (Read from to) (raw index (now (log .entry)) (now (snapshot .entry)))) ⌝ }
+fn read(index: IndexRecord, log: &[u64], snapshot: &[u64], from: u64, to: u64) -> Answered
+    ensures { λ r. ⌜ telling (r .reply) (raw (r .index) (now (log .entry)) (now (snapshot .entry))) ≡ answering (Read from to) (raw index (now (log .entry)) (now (snapshot .entry))) ⌝ }
 {
     let first = LogIndex(from);
     let end = LogIndex(to);
@@ -135,52 +121,49 @@ fn read(
         Bound::Included(first),
         Bound::Excluded(end),
     );
-    let o = super::shown::put_read(out, at, reply, index, log);
-    Stepped { index, at: o }
+    Answered {
+        index,
+        reply: Reply::Read(reply),
+    }
 }
 
-fn flush(index: IndexRecord, log: &[u64], snapshot: &[u64], out: &mut [u8], at: usize) -> Stepped
-    requires { ⌜ at + 64 ≤ length (now out) ⌝ }
-    ensures { λ r. ⌜ r .at ≤ at + 64 ⌝ }
-    ensures { λ r. ⌜ told (take (r .at) (now (out .exit))) (raw (r .index) (now (log .entry)) (now (snapshot .entry))) ≡ after (take at (now (out .entry))) (answering Flush (raw index (now (log .entry)) (now (snapshot .entry)))) ⌝ }
+fn flush(index: IndexRecord, log: &[u64], snapshot: &[u64]) -> Answered
+    ensures { λ r. ⌜ telling (r .reply) (raw (r .index) (now (log .entry)) (now (snapshot .entry))) ≡ answering Flush (raw index (now (log .entry)) (now (snapshot .entry))) ⌝ }
 {
     let to = internal_storage::flush::flush_batch(index, log, snapshot);
     let answer = to.answer;
-    put_answer(out, at, to.index, accepted_line(answer))
+    let next = to.index;
+    let line = accepted_line(answer);
+    Answered {
+        index: next,
+        reply: Reply::Line(line),
+    }
 }
 
-fn decide(
-    index: IndexRecord,
-    log: &[u64],
-    snapshot: &[u64],
-    i: u64,
-    out: &mut [u8],
-    at: usize,
-) -> Stepped
-    requires { ⌜ at + 64 ≤ length (now out) ⌝ }
-    ensures { λ r. ⌜ r .at ≤ at + 64 ⌝ }
-    ensures { λ r. ⌜ told (take (r .at) (now (out .exit))) (raw (r .index) (now (log .entry)) (now (snapshot .entry))) ≡ after (take at (now (out .entry))) (answering (Decide i) (raw index (now (log .entry)) (now (snapshot .entry)))) ⌝ }
+fn decide(index: IndexRecord, log: &[u64], snapshot: &[u64], i: u64) -> Answered
+    ensures { λ r. ⌜ telling (r .reply) (raw (r .index) (now (log .entry)) (now (snapshot .entry))) ≡ answering (Decide i) (raw index (now (log .entry)) (now (snapshot .entry))) ⌝ }
 {
     let to = internal_storage::decide::set_decided_idx(index, log, snapshot, LogIndex(i));
     let answer = to.answer;
-    put_answer(out, at, to.index, settled_line(answer))
+    let next = to.index;
+    let line = settled_line(answer);
+    Answered {
+        index: next,
+        reply: Reply::Line(line),
+    }
 }
 
-fn snap(
-    index: IndexRecord,
-    log: &mut [u64],
-    snapshot: &mut [u64],
-    upto: Upto,
-    out: &mut [u8],
-    at: usize,
-) -> Stepped
-    requires { ⌜ at + 64 ≤ length (now out) ⌝ }
-    ensures { λ r. ⌜ r .at ≤ at + 64 ⌝ }
-    ensures { λ r. ⌜ told (take (r .at) (now (out .exit))) (raw (r .index) (now (log .exit)) (now (snapshot .exit))) ≡ after (take at (now (out .entry))) (printed settledText (run (snapshotCall (uptoOf upto)) true (raw index (now (log .entry)) (now (snapshot .entry))))) ⌝ }
+fn snap(index: IndexRecord, log: &mut [u64], snapshot: &mut [u64], upto: Upto) -> Answered
+    ensures { λ r. ⌜ telling (r .reply) (raw (r .index) (now (log .exit)) (now (snapshot .exit))) ≡ printed settledText (run (snapshotCall (uptoOf upto)) true (raw index (now (log .entry)) (now (snapshot .entry)))) ⌝ }
 {
     let to = compaction::try_snapshot(index, log, snapshot, upto);
     let answer = to.answer;
-    put_answer(out, at, to.index, settled_line(answer))
+    let next = to.index;
+    let line = settled_line(answer);
+    Answered {
+        index: next,
+        reply: Reply::Line(line),
+    }
 }
 
 // Node 1 and no metadata.
@@ -211,39 +194,61 @@ fn stop_line(answer: Appended, last: Accepted) -> Line
     }
 }
 
-fn stop(
-    index: IndexRecord,
-    log: &[u64],
-    snapshot: &[u64],
-    c: u32,
-    out: &mut [u8],
-    at: usize,
-) -> Stepped
-    requires { ⌜ at + 64 ≤ length (now out) ⌝ }
-    ensures { λ r. ⌜ r .at ≤ at + 64 ⌝ }
-    ensures { λ r. ⌜ told (take (r .at) (now (out .exit))) (raw (r .index) (now (log .entry)) (now (snapshot .entry))) ≡ after (take at (now (out .entry))) (answering (Stop c) (raw index (now (log .entry)) (now (snapshot .entry)))) ⌝ }
+fn stop(index: IndexRecord, log: &[u64], snapshot: &[u64], c: u32) -> Answered
+    ensures { λ r. ⌜ telling (r .reply) (raw (r .index) (now (log .entry)) (now (snapshot .entry))) ≡ answering (Stop c) (raw index (now (log .entry)) (now (snapshot .entry))) ⌝ }
 {
     let to = internal_storage::stop::append_stopsign(index, log, snapshot, stop_sign(c));
-    let last = state_cache::get_accepted_idx(to.index, log, snapshot);
     let answer = to.answer;
-    put_answer(out, at, to.index, stop_line(answer, last))
+    let next = to.index;
+    let last = state_cache::get_accepted_idx(next, log, snapshot);
+    let line = stop_line(answer, last);
+    Answered {
+        index: next,
+        reply: Reply::Line(line),
+    }
 }
 
-fn trim(
-    index: IndexRecord,
-    log: &mut [u64],
-    snapshot: &[u64],
-    i: u64,
-    out: &mut [u8],
-    at: usize,
-) -> Stepped
-    requires { ⌜ at + 64 ≤ length (now out) ⌝ }
-    ensures { λ r. ⌜ r .at ≤ at + 64 ⌝ }
-    ensures { λ r. ⌜ told (take (r .at) (now (out .exit))) (raw (r .index) (now (log .exit)) (now (snapshot .entry))) ≡ after (take at (now (out .entry))) (answering (Trim i) (raw index (now (log .entry)) (now (snapshot .entry)))) ⌝ }
+fn trim(index: IndexRecord, log: &mut [u64], snapshot: &[u64], i: u64) -> Answered
+    ensures { λ r. ⌜ telling (r .reply) (raw (r .index) (now (log .exit)) (now (snapshot .entry))) ≡ answering (Trim i) (raw index (now (log .entry)) (now (snapshot .entry))) ⌝ }
 {
     let to = compaction::try_trim(index, log, snapshot, LogIndex(i));
     let answer = to.answer;
-    put_answer(out, at, to.index, settled_line(answer))
+    let next = to.index;
+    let line = settled_line(answer);
+    Answered {
+        index: next,
+        reply: Reply::Line(line),
+    }
+}
+
+// Does what a line says.
+fn carry_out(
+    index: IndexRecord,
+    log: &mut [u64],
+    snapshot: &mut [u64],
+    command: Command,
+) -> Answered
+    ensures { λ r. ⌜ telling (r .reply) (raw (r .index) (now (log .exit)) (now (snapshot .exit))) ≡ answering command (raw index (now (log .entry)) (now (snapshot .entry))) ⌝ }
+{
+    match command {
+        Command::Batch(n) => batch(index, log, snapshot, n),
+        Command::Put(k, p) => {
+            let said = Said::Place(BlockPlace(p));
+            append(index, log, snapshot, k, said)
+        }
+        Command::Del(k) => append(index, log, snapshot, k, Said::Removed),
+        Command::Read(from, to) => read(index, log, snapshot, from, to),
+        Command::Flush => flush(index, log, snapshot),
+        Command::Decide(i) => decide(index, log, snapshot, i),
+        Command::Snap(i) => snap(index, log, snapshot, Upto::Index(LogIndex(i))),
+        Command::SnapAll => snap(index, log, snapshot, Upto::Decided),
+        Command::Stop(c) => stop(index, log, snapshot, c),
+        Command::Trim(i) => trim(index, log, snapshot, i),
+        Command::BadLine => Answered {
+            index,
+            reply: Reply::Line(Line::BadLine),
+        },
+    }
 }
 
 // Does what a line says, and puts its answer.
@@ -259,20 +264,9 @@ pub(crate) fn step(
     ensures { λ r. ⌜ r .at ≤ at + answerRoom ⌝ }
     ensures { λ r. ⌜ told (take (r .at) (now (out .exit))) (raw (r .index) (now (log .exit)) (now (snapshot .exit))) ≡ after (take at (now (out .entry))) (answering command (raw index (now (log .entry)) (now (snapshot .entry)))) ⌝ }
 {
-    match command {
-        Command::Batch(n) => batch(index, log, snapshot, n, out, at),
-        Command::Put(k, p) => {
-            let said = Said::Place(BlockPlace(p));
-            append(index, log, snapshot, k, said, out, at)
-        }
-        Command::Del(k) => append(index, log, snapshot, k, Said::Removed, out, at),
-        Command::Read(from, to) => read(index, log, snapshot, from, to, out, at),
-        Command::Flush => flush(index, log, snapshot, out, at),
-        Command::Decide(i) => decide(index, log, snapshot, i, out, at),
-        Command::Snap(i) => snap(index, log, snapshot, Upto::Index(LogIndex(i)), out, at),
-        Command::SnapAll => snap(index, log, snapshot, Upto::Decided, out, at),
-        Command::Stop(c) => stop(index, log, snapshot, c, out, at),
-        Command::Trim(i) => trim(index, log, snapshot, i, out, at),
-        Command::BadLine => put_answer(out, at, index, Line::BadLine),
-    }
+    let done = carry_out(index, log, snapshot, command);
+    let next = done.index;
+    let reply = done.reply;
+    let o = super::shown::put_reply(out, at, reply, next, log);
+    Stepped { index: next, at: o }
 }

@@ -1,4 +1,5 @@
 // The lines of what a read shows. Each function puts bytes into out from index `at` on, and answers the index after them.
+use super::answer::Reply;
 use reading::Marker;
 use reading::ReadReply;
 use reading::ShownRun;
@@ -14,7 +15,7 @@ ghost use Rattle.entry.specs.Limits.{logWords};
 ghost use Rattle.model.specs.Log.{given};
 ghost use Rattle.state_cache.specs.State.{raw, oneIf};
 ghost use Rattle.reading.specs.Replies.{markerSaid, shownSaid, readSaid};
-ghost use Rattle.replay.specs.Answering.{markerText, stopText, shownText, readText};
+ghost use Rattle.replay.specs.Answering.{markerText, stopText, shownText, readText, replyText};
 ghost use Rattle.replay.specs.Feeding.{answerRoom};
 
 // A marker's line, or none.
@@ -71,13 +72,7 @@ fn put_shown(out: &mut [u8], at: usize, run: ShownRun, index: IndexRecord, log: 
     put_stop(out, c, run, index)
 }
 
-pub(crate) fn put_read(
-    out: &mut [u8],
-    at: usize,
-    reply: ReadReply,
-    index: IndexRecord,
-    log: &[u64],
-) -> usize
+fn put_read(out: &mut [u8], at: usize, reply: ReadReply, index: IndexRecord, log: &[u64]) -> usize
     requires { ⌜ (at + answerRoom ≤ length (now out)) × (length (now log) ≡ logWords) ⌝ }
     ensures { λ r. ⌜ r ≤ at + answerRoom ⌝ }
     ensures { λ r. ⌜ ((snapshot : List ℕ) → take r (now (out .exit)) ≡ take at (now (out .entry)) ++ readText (readSaid (raw index (now (log .entry)) snapshot) reply)) ⌝ }
@@ -88,5 +83,23 @@ pub(crate) fn put_read(
         ReadReply::Refused(refusal) => {
             text::inner::put_line(out, at, Line::Refused(entry::number(refusal)))
         }
+    }
+}
+
+// What answers a command.
+pub(crate) fn put_reply(
+    out: &mut [u8],
+    at: usize,
+    reply: Reply,
+    index: IndexRecord,
+    log: &[u64],
+) -> usize
+    requires { ⌜ (at + answerRoom ≤ length (now out)) × (length (now log) ≡ logWords) ⌝ }
+    ensures { λ r. ⌜ r ≤ at + answerRoom ⌝ }
+    ensures { λ r. ⌜ ((snapshot : List ℕ) → take r (now (out .exit)) ≡ take at (now (out .entry)) ++ replyText (raw index (now (log .entry)) snapshot) reply) ⌝ }
+{
+    match reply {
+        Reply::Line(line) => text::inner::put_line(out, at, line),
+        Reply::Read(read) => put_read(out, at, read, index, log),
     }
 }

@@ -1,5 +1,4 @@
--- `replay::answer::append` meets its contract: the call's outcome is what is printed.
-use lib.ListN.{take}
+-- `replay::answer::append` meets its contract: the call's outcome is what is told.
 use denote.Ref.{now}
 use Rattle.state_cache.specs.State.{raw}
 use Rattle.internal_storage.specs.Replies.{appended}
@@ -15,29 +14,16 @@ append-entry-with-batching-requires c κs = search needs
 appended-line-requires : tie.Need-appended-line-requires
 appended-line-requires c κs = search needs
 
-put-answer-requires : tie.Need-put-answer-requires
-put-answer-requires c κs = search needs
-
 same-length : tie.Need-same-length
 same-length c = search needs
 
-same-length-2 : tie.Need-same-length-2
-same-length-2 c = search needs
-
 returns : tie.Need-returns
 returns c =
-    let a = c .before .before .before .before .before .before .before .before .before .before .before .before .args in
-    let to = c .before .before .before .before .before .before .before .append-entry-with-batching in
-    let put = c .before .before .put-answer in
-    (put .ensures .0, tells appendedText (take (a .at) (now (a .out))) _ _ (appended (to .result .answer)) (raw (to .result .index) (to .last .1 .0) (now (a .snapshot))) _ (to .ensures) (c .before .before .before .appended-line .ensures) (put .ensures .1 (to .last .1 .0) (now (a .snapshot))))
+    let a = c .before .before .before .before .before .before .before .before .args in
+    let to = c .before .before .before .before .append-entry-with-batching in
+    tells appendedText _ (appended (to .result .answer)) (raw (to .result .index) (to .last .1 .0) (now (a .snapshot))) _ (to .ensures) (c .appended-line .ensures)
 
 pub append-spec : {M : Type 1} → statement M
 append-spec =
     tie.close
-    (tie.spec
-    append-entry-with-batching-requires
-    appended-line-requires
-    put-answer-requires
-    same-length
-    same-length-2
-    returns)
+    (tie.spec append-entry-with-batching-requires appended-line-requires same-length returns)

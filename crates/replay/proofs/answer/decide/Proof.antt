@@ -1,5 +1,4 @@
--- `replay::answer::decide` meets its contract: the call's outcome is what is printed.
-use lib.ListN.{take}
+-- `replay::answer::decide` meets its contract: the call's outcome is what is told.
 use denote.Ref.{now}
 use Rattle.state_cache.specs.State.{raw}
 use Rattle.state_cache.specs.Run.{settled}
@@ -15,26 +14,12 @@ set-decided-idx-requires c κs = search needs
 settled-line-requires : tie.Need-settled-line-requires
 settled-line-requires c κs = search needs
 
-put-answer-requires : tie.Need-put-answer-requires
-put-answer-requires c κs = search needs
-
-same-length : tie.Need-same-length
-same-length c = search needs
-
 returns : tie.Need-returns
 unfolding answering
 returns c =
-    let a = c .before .before .before .before .before .before .before .before .before .args in
-    let to = c .before .before .before .before .before .set-decided-idx in
-    let put = c .before .before .put-answer in
-    (put .ensures .0, tells settledText (take (a .at) (now (a .out))) _ _ (settled (to .result .answer)) (raw (to .result .index) (now (a .log)) (now (a .snapshot))) _ (to .ensures) (c .before .before .before .settled-line .ensures) (put .ensures .1 (now (a .log)) (now (a .snapshot))))
+    let a = c .before .before .before .before .before .args in
+    let to = c .before .before .set-decided-idx in
+    tells settledText _ (settled (to .result .answer)) (raw (to .result .index) (now (a .log)) (now (a .snapshot))) _ (to .ensures) (c .settled-line .ensures)
 
 pub decide-spec : {M : Type 1} → statement M
-decide-spec =
-    tie.close
-    (tie.spec
-    set-decided-idx-requires
-    settled-line-requires
-    put-answer-requires
-    same-length
-    returns)
+decide-spec = tie.close (tie.spec set-decided-idx-requires settled-line-requires returns)

@@ -1,5 +1,4 @@
--- `replay::answer::flush` meets its contract: the call's outcome is what is printed.
-use lib.ListN.{take}
+-- `replay::answer::flush` meets its contract: the call's outcome is what is told.
 use denote.Ref.{now}
 use Rattle.state_cache.specs.State.{raw}
 use Rattle.state_cache.specs.Run.{accepted}
@@ -15,21 +14,12 @@ flush-batch-requires c κs = search needs
 accepted-line-requires : tie.Need-accepted-line-requires
 accepted-line-requires c κs = search needs
 
-put-answer-requires : tie.Need-put-answer-requires
-put-answer-requires c κs = search needs
-
-same-length : tie.Need-same-length
-same-length c = search needs
-
 returns : tie.Need-returns
 unfolding answering
 returns c =
-    let a = c .before .before .before .before .before .before .before .before .before .args in
-    let to = c .before .before .before .before .before .flush-batch in
-    let put = c .before .before .put-answer in
-    (put .ensures .0, tells acceptedText (take (a .at) (now (a .out))) _ _ (accepted (to .result .answer)) (raw (to .result .index) (now (a .log)) (now (a .snapshot))) _ (to .ensures) (c .before .before .before .accepted-line .ensures) (put .ensures .1 (now (a .log)) (now (a .snapshot))))
+    let a = c .before .before .before .before .before .args in
+    let to = c .before .before .flush-batch in
+    tells acceptedText _ (accepted (to .result .answer)) (raw (to .result .index) (now (a .log)) (now (a .snapshot))) _ (to .ensures) (c .accepted-line .ensures)
 
 pub flush-spec : {M : Type 1} → statement M
-flush-spec =
-    tie.close
-    (tie.spec flush-batch-requires accepted-line-requires put-answer-requires same-length returns)
+flush-spec = tie.close (tie.spec flush-batch-requires accepted-line-requires returns)

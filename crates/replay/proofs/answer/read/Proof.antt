@@ -1,5 +1,4 @@
--- `replay::answer::read` meets its contract: what the reply says is printed.
-use lib.ListN.{take}
+-- `replay::answer::read` meets its contract: what the reply says is told.
 use denote.Ref.{now}
 use Rattle.model.specs.Read.{included, excluded}
 use Rattle.model.specs.Calls.{read}
@@ -14,20 +13,12 @@ use Rattle.replay.proofs.answer.read.Tie as tie
 read-reply-requires : tie.Need-read-reply-requires
 read-reply-requires c κs = search needs
 
-put-read-requires : tie.Need-put-read-requires
-put-read-requires c κs = search needs
-
-same-length : tie.Need-same-length
-same-length c = search needs
-
 returns : tie.Need-returns
 unfolding answering
 returns c =
-    let a = c .before .before .before .before .before .before .before .before .args in
-    let reply = c .before .before .before .before .read-reply in
-    let put = c .before .before .put-read in
+    let a = c .before .before .before .args in
     let x = raw (a .index) (now (a .log)) (now (a .snapshot)) in
-    (put .ensures .0, asks (read (included (a .from)) (excluded (a .to))) readText (take (a .at) (now (a .out))) _ (readSaid x (reply .result)) x (reply .ensures .0) (put .ensures .1 (now (a .snapshot))))
+    asks (read (included (a .from)) (excluded (a .to))) readText (readSaid x (c .read-reply .result)) x (c .read-reply .ensures .0)
 
 pub read-spec : {M : Type 1} → statement M
-read-spec = tie.close (tie.spec read-reply-requires put-read-requires same-length returns)
+read-spec = tie.close (tie.spec read-reply-requires returns)

@@ -1,6 +1,4 @@
--- `replay::answer::snap` meets its contract: the call's outcome is what is printed.
-use lib.ListN.{take}
-use denote.Ref.{now}
+-- `replay::answer::snap` meets its contract: the call's outcome is what is told.
 use Rattle.state_cache.specs.State.{raw}
 use Rattle.state_cache.specs.Run.{settled}
 use Rattle.replay.specs.Answering.{settledText}
@@ -15,33 +13,18 @@ try-snapshot-requires c κs = search needs
 settled-line-requires : tie.Need-settled-line-requires
 settled-line-requires c κs = search needs
 
-put-answer-requires : tie.Need-put-answer-requires
-put-answer-requires c κs = search needs
-
 same-length : tie.Need-same-length
 same-length c = search needs
 
 same-length-2 : tie.Need-same-length-2
 same-length-2 c = search needs
 
-same-length-3 : tie.Need-same-length-3
-same-length-3 c = search needs
-
 returns : tie.Need-returns
 returns c =
-    let a = c .before .before .before .before .before .before .before .before .before .before .before .before .before .before .before .args in
-    let to = c .before .before .before .before .before .before .before .before .before .try-snapshot in
-    let put = c .before .before .put-answer in
-    (put .ensures .0, tells settledText (take (a .at) (now (a .out))) _ _ (settled (to .result .answer)) (raw (to .result .index) (to .last .1 .0) (to .last .1 .1 .0)) _ (to .ensures) (c .before .before .before .settled-line .ensures) (put .ensures .1 (to .last .1 .0) (to .last .1 .1 .0)))
+    let to = c .before .before .before .before .before .before .try-snapshot in
+    tells settledText _ (settled (to .result .answer)) (raw (to .result .index) (to .last .1 .0) (to .last .1 .1 .0)) _ (to .ensures) (c .settled-line .ensures)
 
 pub snap-spec : {M : Type 1} → statement M
 snap-spec =
     tie.close
-    (tie.spec
-    try-snapshot-requires
-    settled-line-requires
-    put-answer-requires
-    same-length
-    same-length-2
-    same-length-3
-    returns)
+    (tie.spec try-snapshot-requires settled-line-requires same-length same-length-2 returns)

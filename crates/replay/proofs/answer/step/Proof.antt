@@ -1,81 +1,21 @@
--- `replay::answer::step` meets its contract: each arm knows its command.
-use mathlib.Core.Path.{sym, ap, _∙_}
-use native.Mathlib.Omega.{arith}
+-- `replay::answer::step` meets its contract: what is told is put.
+use Prim.Native.Nat.{ℕ}
+use mathlib.Core.Path.{ap, _∙_}
+use mathlib.Core.List.{List}
 use lib.ListN.{take}
 use denote.Ref.{now}
 use Rattle.state_cache.specs.State.{raw}
-use Rattle.text.specs.declared.Command.{Command}
-use Rattle.replay.specs.Answering.{answering}
+use Rattle.replay.specs.Answering.{told}
 use Rattle.replay.specs.Feeding.{after}
 use borrow.Author.Needs.{needs}
 use Rattle.replay.proofs.answer.step.Statement.{statement}
 use Rattle.replay.proofs.answer.step.Tie as tie
 
-enum-known-command : tie.Need-enum-known-command
-enum-known-command c = search needs
+carry-out-requires : tie.Need-carry-out-requires
+carry-out-requires c κs = search needs
 
-batch-requires : tie.Need-batch-requires
-batch-requires c κs = search needs
-
-enum-known-command-2 : tie.Need-enum-known-command-2
-enum-known-command-2 c = search needs
-
-append-requires : tie.Need-append-requires
-append-requires c κs = search needs
-
-enum-known-command-3 : tie.Need-enum-known-command-3
-enum-known-command-3 c = search needs
-
-append-requires-2 : tie.Need-append-requires-2
-append-requires-2 c κs = search needs
-
-enum-known-command-4 : tie.Need-enum-known-command-4
-enum-known-command-4 c = search needs
-
-read-requires : tie.Need-read-requires
-read-requires c κs = search needs
-
-enum-told : tie.Need-enum-told
-enum-told c = search needs
-
-flush-requires : tie.Need-flush-requires
-flush-requires c κs = search needs
-
-enum-known-command-5 : tie.Need-enum-known-command-5
-enum-known-command-5 c = search needs
-
-decide-requires : tie.Need-decide-requires
-decide-requires c κs = search needs
-
-enum-known-command-6 : tie.Need-enum-known-command-6
-enum-known-command-6 c = search needs
-
-snap-requires : tie.Need-snap-requires
-snap-requires c κs = search needs
-
-enum-told-2 : tie.Need-enum-told-2
-enum-told-2 c = search needs
-
-snap-requires-2 : tie.Need-snap-requires-2
-snap-requires-2 c κs = search needs
-
-enum-known-command-7 : tie.Need-enum-known-command-7
-enum-known-command-7 c = search needs
-
-stop-requires : tie.Need-stop-requires
-stop-requires c κs = search needs
-
-enum-known-command-8 : tie.Need-enum-known-command-8
-enum-known-command-8 c = search needs
-
-trim-requires : tie.Need-trim-requires
-trim-requires c κs = search needs
-
-enum-told-3 : tie.Need-enum-told-3
-enum-told-3 c = search needs
-
-put-answer-requires : tie.Need-put-answer-requires
-put-answer-requires c κs = search needs
+put-reply-requires : tie.Need-put-reply-requires
+put-reply-requires c κs = search needs
 
 same-length : tie.Need-same-length
 same-length c = search needs
@@ -89,223 +29,18 @@ same-length-3 c = search needs
 returns : tie.Need-returns
 returns c =
     let a = c .before .before .before .before .before .before .before .before .before .before .before .before .before .before .before .before .args in
-    let done = c .before .before .before .before .before .before .batch in
-    (omega (arith, done .ensures .0), done .ensures .1 ∙ sym (ap (λ (x : Command). after (take (a .at) (now (a .out))) (answering x (raw (a .index) (now (a .log)) (now (a .snapshot))))) (c .before .before .before .before .before .before .before .before .before .before .before .command .given .1)))
-
-same-length-4 : tie.Need-same-length-4
-same-length-4 c = search needs
-
-same-length-5 : tie.Need-same-length-5
-same-length-5 c = search needs
-
-same-length-6 : tie.Need-same-length-6
-same-length-6 c = search needs
-
-returns-2 : tie.Need-returns-2
-unfolding answering
-returns-2 c =
-    let a = c .before .before .before .before .before .before .before .before .before .before .before .before .before .before .args in
-    let done = c .before .before .before .before .append in
-    (omega (arith, done .ensures .0), done .ensures .1 ∙ sym (ap (λ (x : Command). after (take (a .at) (now (a .out))) (answering x (raw (a .index) (now (a .log)) (now (a .snapshot))))) (c .before .before .before .before .before .before .before .before .before .command2 .given .1)))
-
-same-length-7 : tie.Need-same-length-7
-same-length-7 c = search needs
-
-same-length-8 : tie.Need-same-length-8
-same-length-8 c = search needs
-
-same-length-9 : tie.Need-same-length-9
-same-length-9 c = search needs
-
-returns-3 : tie.Need-returns-3
-unfolding answering
-returns-3 c =
-    let a = c .before .before .before .before .before .before .before .before .before .before .before .before .before .before .args in
-    let done = c .before .before .before .before .append2 in
-    (omega (arith, done .ensures .0), done .ensures .1 ∙ sym (ap (λ (x : Command). after (take (a .at) (now (a .out))) (answering x (raw (a .index) (now (a .log)) (now (a .snapshot))))) (c .before .before .before .before .before .before .before .before .before .command3 .given .1)))
-
-same-length-10 : tie.Need-same-length-10
-same-length-10 c = search needs
-
-same-length-11 : tie.Need-same-length-11
-same-length-11 c = search needs
-
-same-length-12 : tie.Need-same-length-12
-same-length-12 c = search needs
-
-returns-4 : tie.Need-returns-4
-returns-4 c =
-    let a = c .before .before .before .before .before .before .before .before .before .before .before .before .args in
-    let done = c .before .before .read in
-    (omega (arith, done .ensures .0), done .ensures .1 ∙ sym (ap (λ (x : Command). after (take (a .at) (now (a .out))) (answering x (raw (a .index) (now (a .log)) (now (a .snapshot))))) (c .before .before .before .before .before .before .before .command4 .given .1)))
-
-same-length-13 : tie.Need-same-length-13
-same-length-13 c = search needs
-
-same-length-14 : tie.Need-same-length-14
-same-length-14 c = search needs
-
-same-length-15 : tie.Need-same-length-15
-same-length-15 c = search needs
-
-returns-5 : tie.Need-returns-5
-returns-5 c =
-    let a = c .before .before .before .before .before .before .before .before .before .before .before .args in
-    let done = c .before .before .flush in
-    (omega (arith, done .ensures .0), done .ensures .1 ∙ sym (ap (λ (x : Command). after (take (a .at) (now (a .out))) (answering x (raw (a .index) (now (a .log)) (now (a .snapshot))))) (c .before .before .before .before .before .before .enum-told .given .1)))
-
-same-length-16 : tie.Need-same-length-16
-same-length-16 c = search needs
-
-same-length-17 : tie.Need-same-length-17
-same-length-17 c = search needs
-
-same-length-18 : tie.Need-same-length-18
-same-length-18 c = search needs
-
-returns-6 : tie.Need-returns-6
-returns-6 c =
-    let a = c .before .before .before .before .before .before .before .before .before .before .before .before .args in
-    let done = c .before .before .decide in
-    (omega (arith, done .ensures .0), done .ensures .1 ∙ sym (ap (λ (x : Command). after (take (a .at) (now (a .out))) (answering x (raw (a .index) (now (a .log)) (now (a .snapshot))))) (c .before .before .before .before .before .before .before .command5 .given .1)))
-
-same-length-19 : tie.Need-same-length-19
-same-length-19 c = search needs
-
-same-length-20 : tie.Need-same-length-20
-same-length-20 c = search needs
-
-same-length-21 : tie.Need-same-length-21
-same-length-21 c = search needs
-
-returns-7 : tie.Need-returns-7
-unfolding answering
-returns-7 c =
-    let a = c .before .before .before .before .before .before .before .before .before .before .before .before .before .before .before .before .args in
-    let done = c .before .before .before .before .before .before .snap in
-    (omega (arith, done .ensures .0), done .ensures .1 ∙ sym (ap (λ (x : Command). after (take (a .at) (now (a .out))) (answering x (raw (a .index) (now (a .log)) (now (a .snapshot))))) (c .before .before .before .before .before .before .before .before .before .before .before .command6 .given .1)))
-
-same-length-22 : tie.Need-same-length-22
-same-length-22 c = search needs
-
-same-length-23 : tie.Need-same-length-23
-same-length-23 c = search needs
-
-same-length-24 : tie.Need-same-length-24
-same-length-24 c = search needs
-
-returns-8 : tie.Need-returns-8
-unfolding answering
-returns-8 c =
-    let a = c .before .before .before .before .before .before .before .before .before .before .before .before .before .before .before .args in
-    let done = c .before .before .before .before .before .before .snap2 in
-    (omega (arith, done .ensures .0), done .ensures .1 ∙ sym (ap (λ (x : Command). after (take (a .at) (now (a .out))) (answering x (raw (a .index) (now (a .log)) (now (a .snapshot))))) (c .before .before .before .before .before .before .before .before .before .before .enum-told2 .given .1)))
-
-same-length-25 : tie.Need-same-length-25
-same-length-25 c = search needs
-
-same-length-26 : tie.Need-same-length-26
-same-length-26 c = search needs
-
-same-length-27 : tie.Need-same-length-27
-same-length-27 c = search needs
-
-returns-9 : tie.Need-returns-9
-returns-9 c =
-    let a = c .before .before .before .before .before .before .before .before .before .before .before .before .args in
-    let done = c .before .before .stop in
-    (omega (arith, done .ensures .0), done .ensures .1 ∙ sym (ap (λ (x : Command). after (take (a .at) (now (a .out))) (answering x (raw (a .index) (now (a .log)) (now (a .snapshot))))) (c .before .before .before .before .before .before .before .command7 .given .1)))
-
-same-length-28 : tie.Need-same-length-28
-same-length-28 c = search needs
-
-same-length-29 : tie.Need-same-length-29
-same-length-29 c = search needs
-
-same-length-30 : tie.Need-same-length-30
-same-length-30 c = search needs
-
-returns-10 : tie.Need-returns-10
-returns-10 c =
-    let a = c .before .before .before .before .before .before .before .before .before .before .before .before .before .before .args in
-    let done = c .before .before .before .before .trim in
-    (omega (arith, done .ensures .0), done .ensures .1 ∙ sym (ap (λ (x : Command). after (take (a .at) (now (a .out))) (answering x (raw (a .index) (now (a .log)) (now (a .snapshot))))) (c .before .before .before .before .before .before .before .before .before .command8 .given .1)))
-
-same-length-31 : tie.Need-same-length-31
-same-length-31 c = search needs
-
-returns-11 : tie.Need-returns-11
-unfolding answering
-returns-11 c =
-    let a = c .before .before .before .before .before .before .before .before .before .args in
-    let done = c .before .before .put-answer in
-    (omega (arith, done .ensures .0), done .ensures .1 (now (a .log)) (now (a .snapshot)) ∙ sym (ap (λ (x : Command). after (take (a .at) (now (a .out))) (answering x (raw (a .index) (now (a .log)) (now (a .snapshot))))) (c .before .before .before .before .enum-told3 .given .1)))
+    let did = c .before .before .before .before .before .before .before .before .before .before .carry-out in
+    let put = c .before .before .put-reply in
+    let x = raw (did .result .index) (did .last .1 .0) (did .last .1 .1 .0) in
+    (put .ensures .0, ap (λ (l : List ℕ). told l x) (put .ensures .1 (x .snapshot)) ∙ ap (after (take (a .at) (now (a .out)))) (did .ensures))
 
 pub step-spec : {M : Type 1} → statement M
 step-spec =
     tie.close
     (tie.spec
-    enum-known-command
-    batch-requires
-    enum-known-command-2
-    append-requires
-    enum-known-command-3
-    append-requires-2
-    enum-known-command-4
-    read-requires
-    enum-told
-    flush-requires
-    enum-known-command-5
-    decide-requires
-    enum-known-command-6
-    snap-requires
-    enum-told-2
-    snap-requires-2
-    enum-known-command-7
-    stop-requires
-    enum-known-command-8
-    trim-requires
-    enum-told-3
-    put-answer-requires
+    carry-out-requires
+    put-reply-requires
     same-length
     same-length-2
     same-length-3
-    returns
-    same-length-4
-    same-length-5
-    same-length-6
-    returns-2
-    same-length-7
-    same-length-8
-    same-length-9
-    returns-3
-    same-length-10
-    same-length-11
-    same-length-12
-    returns-4
-    same-length-13
-    same-length-14
-    same-length-15
-    returns-5
-    same-length-16
-    same-length-17
-    same-length-18
-    returns-6
-    same-length-19
-    same-length-20
-    same-length-21
-    returns-7
-    same-length-22
-    same-length-23
-    same-length-24
-    returns-8
-    same-length-25
-    same-length-26
-    same-length-27
-    returns-9
-    same-length-28
-    same-length-29
-    same-length-30
-    returns-10
-    same-length-31
-    returns-11)
+    returns)

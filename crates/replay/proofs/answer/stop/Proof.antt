@@ -1,7 +1,6 @@
--- `replay::answer::stop` meets its contract: the call's outcome, and the accepted index after it, are what is printed.
+-- `replay::answer::stop` meets its contract: the call's outcome, and the accepted index after it, are what is told.
 use mathlib.Core.Path.{ap, _∙_}
 use mathlib.Core.Bool.{true}
-use lib.ListN.{take}
 use denote.Ref.{now}
 use Rattle.entry.specs.declared.StopSign.{StopSign}
 use Rattle.model.specs.Calls.{appendStop}
@@ -26,21 +25,14 @@ get-accepted-idx-requires c κs = search needs
 stop-line-requires : tie.Need-stop-line-requires
 stop-line-requires c κs = search needs
 
-put-answer-requires : tie.Need-put-answer-requires
-put-answer-requires c κs = search needs
-
-same-length : tie.Need-same-length
-same-length c = search needs
-
 returns : tie.Need-returns
 unfolding answering
 returns c =
-    let a = c .before .before .before .before .before .before .before .before .before .before .before .args in
-    let to = c .before .before .before .before .before .before .append-stopsign in
-    let last = c .before .before .before .before .before .get-accepted-idx in
-    let put = c .before .before .put-answer in
-    let e = to .ensures ∙ ap (λ (g : StopSign). run (appendStop g) true (raw (a .index) (now (a .log)) (now (a .snapshot)))) (c .before .before .before .before .before .before .before .stop-sign .ensures) in
-    (put .ensures .0, stops (take (a .at) (now (a .out))) _ _ (appended (to .result .answer)) (accepted (last .result)) (raw (to .result .index) (now (a .log)) (now (a .snapshot))) _ e (last .ensures) (c .before .before .before .stop-line .ensures) (put .ensures .1 (now (a .log)) (now (a .snapshot))))
+    let a = c .before .before .before .before .before .before .before .args in
+    let to = c .before .before .before .append-stopsign in
+    let last = c .before .get-accepted-idx in
+    let e = to .ensures ∙ ap (λ (g : StopSign). run (appendStop g) true (raw (a .index) (now (a .log)) (now (a .snapshot)))) (c .before .before .before .before .stop-sign .ensures) in
+    stops _ (appended (to .result .answer)) (accepted (last .result)) (raw (to .result .index) (now (a .log)) (now (a .snapshot))) _ e (last .ensures) (c .stop-line .ensures)
 
 pub stop-spec : {M : Type 1} → statement M
 stop-spec =
@@ -50,6 +42,4 @@ stop-spec =
     append-stopsign-requires
     get-accepted-idx-requires
     stop-line-requires
-    put-answer-requires
-    same-length
     returns)

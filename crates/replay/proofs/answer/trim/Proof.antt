@@ -1,5 +1,4 @@
--- `replay::answer::trim` meets its contract: the call's outcome is what is printed.
-use lib.ListN.{take}
+-- `replay::answer::trim` meets its contract: the call's outcome is what is told.
 use denote.Ref.{now}
 use Rattle.state_cache.specs.State.{raw}
 use Rattle.state_cache.specs.Run.{settled}
@@ -15,30 +14,15 @@ try-trim-requires c κs = search needs
 settled-line-requires : tie.Need-settled-line-requires
 settled-line-requires c κs = search needs
 
-put-answer-requires : tie.Need-put-answer-requires
-put-answer-requires c κs = search needs
-
 same-length : tie.Need-same-length
 same-length c = search needs
-
-same-length-2 : tie.Need-same-length-2
-same-length-2 c = search needs
 
 returns : tie.Need-returns
 unfolding answering
 returns c =
-    let a = c .before .before .before .before .before .before .before .before .before .before .before .before .args in
-    let to = c .before .before .before .before .before .before .before .try-trim in
-    let put = c .before .before .put-answer in
-    (put .ensures .0, tells settledText (take (a .at) (now (a .out))) _ _ (settled (to .result .answer)) (raw (to .result .index) (to .last .1 .0) (now (a .snapshot))) _ (to .ensures) (c .before .before .before .settled-line .ensures) (put .ensures .1 (to .last .1 .0) (now (a .snapshot))))
+    let a = c .before .before .before .before .before .before .before .before .args in
+    let to = c .before .before .before .before .try-trim in
+    tells settledText _ (settled (to .result .answer)) (raw (to .result .index) (to .last .1 .0) (now (a .snapshot))) _ (to .ensures) (c .settled-line .ensures)
 
 pub trim-spec : {M : Type 1} → statement M
-trim-spec =
-    tie.close
-    (tie.spec
-    try-trim-requires
-    settled-line-requires
-    put-answer-requires
-    same-length
-    same-length-2
-    returns)
+trim-spec = tie.close (tie.spec try-trim-requires settled-line-requires same-length returns)

@@ -1,62 +1,14 @@
-// What the program holds beside its areas of words, and how a line sets a part of it. A number that is too large for a field changes
-// nothing: what sets the field is asked only after `..._fits`.
-use super::reply::Reply;
+// The record and what is lent beside words, a field at a time. A number that is too large for a field changes nothing: what sets the field
+// is asked only after `..._fits`.
+use answering::Given;
+use answering::ballot;
+use answering::ballot::narrow;
+use backend::Op;
+use backend::OpKind;
 use entry::Ballot;
 use entry::LogIndex;
 use entry::StopSign;
 use state_cache::IndexRecord;
-
-// Operations that a list holds.
-pub const OPERATIONS: usize = 8;
-
-// The operations of the Rust's StorageOp but AppendEntry, in its order: 0 AppendEntries, 1 AppendOnPrefix, 2 SetPromise,
-// 3 SetDecidedIndex, 4 SetAcceptedRound, 5 SetCompactedIdx, 6 Trim, 7 SetStopsign, 8 SetSnapshot.
-pub const KINDS: u64 = 9;
-
-// An operation of a list: what it does, and the index, the flag and the ballot for those that take one.
-pub struct Operation {
-    pub kind: u64,
-    pub index: LogIndex,
-    pub flag: bool,
-    pub ballot: Ballot,
-}
-
-pub struct State {
-    pub index: IndexRecord,
-    pub sign: StopSign,
-    pub ballot: Ballot,
-    // How many words of each area are lent.
-    pub lent: [usize; 5],
-    pub count: usize,
-    pub operations: [Operation; OPERATIONS],
-}
-
-// What the program holds after a line, and what the line is answered.
-pub struct Stepped {
-    pub state: State,
-    pub reply: Reply,
-}
-
-// Everything zero, and every area lent whole.
-pub(crate) fn start() -> State {
-    let index = state_cache::inner::fresh_index(0);
-    let sign = index.stop;
-    let ballot = index.promise;
-    let none = Operation {
-        kind: 0,
-        index: LogIndex(0),
-        flag: false,
-        ballot,
-    };
-    State {
-        index,
-        sign,
-        ballot,
-        lent: [2048, 1024, 2048, 1024, 1024],
-        count: 0,
-        operations: [none; OPERATIONS],
-    }
-}
 
 // How many words an area has; none where there is no such area.
 pub(crate) fn words_of(area: u64) -> u64 {
@@ -64,23 +16,6 @@ pub(crate) fn words_of(area: u64) -> u64 {
         0 | 2 => entry::LOG_WORDS as u64,
         1 | 3 | 4 => entry::SNAPSHOT_WORDS as u64,
         _ => 0,
-    }
-}
-
-fn narrow(v: u64) -> u32 {
-    (v % 0x1_0000_0000) as u32
-}
-
-pub(crate) fn ballot_fits(c: u64, n: u64, p: u64) -> bool {
-    (c < 0x1_0000_0000) & ((n < 0x1_0000_0000) & (p < 0x1_0000_0000))
-}
-
-pub(crate) fn ballot_of(c: u64, n: u64, p: u64, pid: u64) -> Ballot {
-    Ballot {
-        config_id: narrow(c),
-        n: narrow(n),
-        priority: narrow(p),
-        pid,
     }
 }
 
@@ -231,4 +166,70 @@ pub(crate) fn set_field(index: IndexRecord, f: u64, v: u64) -> IndexRecord {
     let s = set_sign(index.stop, f - 16, v);
     r.stop = s;
     r
+}
+
+// A list keeps eight operations and counts a ninth.
+pub(crate) fn operation_fits(count: usize, kind: u64, flag: u64) -> bool {
+    (count < 9) & ((kind < 9) & (flag < 2))
+}
+
+fn operation(kind: u64) -> OpKind {
+    match kind {
+        0 => OpKind::AppendEntries,
+        1 => OpKind::AppendOnPrefix,
+        2 => OpKind::SetPromise,
+        3 => OpKind::SetDecidedIndex,
+        4 => OpKind::SetAcceptedRound,
+        5 => OpKind::SetCompactedIdx,
+        6 => OpKind::Trim,
+        7 => OpKind::SetStopsign,
+        _ => OpKind::SetSnapshot,
+    }
+}
+
+// With the operation added that the numbers say, with the ballot as it is now.
+fn add_operation(held: Given, kind: u64, i: u64, flag: u64) -> Given {
+    let ballot = held.ballot;
+    let kind = operation(kind);
+    let o = Op {
+        kind,
+        index: LogIndex(i),
+        ballot,
+        given: flag == 1,
+    };
+    let list = backend::inner::put(held.list, o);
+    let mut g = held;
+    g.list = list;
+    g
+}
+
+fn sign_set(held: Given, f: u64, v: u64) -> Given {
+    let sign = set_sign(held.sign, f, v);
+    let mut g = held;
+    g.sign = sign;
+    g
+}
+
+fn ballot_set(held: Given, c: u64, n: u64, p: u64, pid: u64) -> Given {
+    let ballot = ballot::of(c, n, p, pid);
+    let mut g = held;
+    g.ballot = ballot;
+    g
+}
+
+fn list_emptied(held: Given) -> Given {
+    let list = backend::inner::empty();
+    let mut g = held;
+    g.list = list;
+    g
+}
+
+// Lines 5 to 8.
+pub(crate) fn set_given(held: Given, a: &[u64; 64]) -> Given {
+    match a[0] {
+        5 => sign_set(held, a[1], a[2]),
+        6 => ballot_set(held, a[1], a[2], a[3], a[4]),
+        7 => add_operation(held, a[1], a[2], a[3]),
+        _ => list_emptied(held),
+    }
 }

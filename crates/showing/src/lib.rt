@@ -1,13 +1,13 @@
 // The lines of answers. Each function puts bytes into out from index `at` on, for which it asks room, and answers the index after them.
-use super::reply::MOST;
-use super::reply::Reply;
+use answering::reply::MOST;
+use answering::reply::Reply;
 use entry::Ballot;
 use entry::StopSign;
 use state_cache::IndexRecord;
 use text::Line;
 ghost use Prim.Native.Nat.{_+_, _*_, _≤_};
 ghost use lib.ListN.{length};
-ghost use Rattle.calls.specs.Rooms.{answerRoom};
+ghost use Rattle.showing.specs.Rooms.{answerRoom, areaRoom};
 
 // A space and a number.
 fn put_word(out: &mut [u8], at: usize, w: u64) -> usize
@@ -188,7 +188,7 @@ fn put_areas(
 }
 
 // The state's line.
-pub(crate) fn put_state(
+pub fn put_state(
     out: &mut [u8],
     at: usize,
     index: IndexRecord,
@@ -202,26 +202,25 @@ pub(crate) fn put_state(
     put_areas(out, a, log, snapshot)
 }
 
-// An area's line.
-pub(crate) fn put_area_line(out: &mut [u8], at: usize, words: &[u64]) -> usize
-    requires { ⌜ at + 21 * length (now words) + 21 ≤ length (now out) ⌝ }
-    ensures { λ r. ⌜ r ≤ at + 21 * length (now (words .entry)) + 21 ⌝ }
-{
-    let a = put_area(out, at, words);
-    text::inner::put(out, a, b"\n")
-}
-
-// The line of a part of the log, which is no longer than the log.
-pub(crate) fn put_part(out: &mut [u8], at: usize, words: &[u64]) -> usize
-    requires { ⌜ at + answerRoom ≤ length (now out) ⌝ }
-    ensures { λ r. ⌜ r ≤ at + answerRoom ⌝ }
+// The line of an area, or of a part of one: no area has more words than the log, and more are not shown.
+pub fn put_area_line(out: &mut [u8], at: usize, words: &[u64]) -> usize
+    requires { ⌜ at + areaRoom ≤ length (now out) ⌝ }
+    ensures { λ r. ⌜ r ≤ at + areaRoom ⌝ }
 {
     if words.len() > entry::LOG_WORDS {
         return text::inner::put_line(out, at, Line::BadLine);
     }
-    let a = text::inner::put(out, at, b"1");
-    let b = put_next_area(out, a, words);
-    text::inner::put(out, b, b"\n")
+    let a = put_area(out, at, words);
+    text::inner::put(out, a, b"\n")
+}
+
+// The same after a 1: a part of the log.
+pub fn put_part(out: &mut [u8], at: usize, words: &[u64]) -> usize
+    requires { ⌜ at + answerRoom ≤ length (now out) ⌝ }
+    ensures { λ r. ⌜ r ≤ at + answerRoom ⌝ }
+{
+    let a = text::inner::put(out, at, b"1 ");
+    put_area_line(out, a, words)
 }
 
 // A reply's numbers but the first.
@@ -233,7 +232,7 @@ fn put_rest(out: &mut [u8], at: usize, numbers: &[u64; MOST], n: usize) -> usize
 }
 
 // A reply's line.
-pub(crate) fn put_reply(out: &mut [u8], at: usize, reply: Reply) -> usize
+pub fn put_reply(out: &mut [u8], at: usize, reply: Reply) -> usize
     requires { ⌜ at + 210 ≤ length (now out) ⌝ }
     ensures { λ r. ⌜ r ≤ at + 210 ⌝ }
 {

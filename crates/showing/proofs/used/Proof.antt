@@ -1,9 +1,9 @@
--- `calls::shown::used` meets its contract.
+-- `showing::used` meets its contract.
 use Prim.Native.Nat.{_≤_}
 use lib.ListN.{length}
 use native.Mathlib.Omega.{arith}
-use Rattle.calls.proofs.shown.used.Statement.{statement}
-use Rattle.calls.proofs.shown.used.Tie as tie
+use Rattle.showing.proofs.used.Statement.{statement}
+use Rattle.showing.proofs.used.Tie as tie
 
 abbrev Inv-loop : tie.InvT-loop
 Inv-loop words n₀ n = n ≤ length words

@@ -33,28 +33,28 @@ pub struct Replied {
     pub reply: Reply,
 }
 
-pub(crate) fn bad() -> Reply {
+pub fn bad() -> Reply {
     Reply {
         count: 0,
         numbers: [0; MOST],
     }
 }
 
-pub(crate) fn one(a: u64) -> Reply {
+pub fn one(a: u64) -> Reply {
     Reply {
         count: 1,
         numbers: [a, 0, 0, 0, 0, 0, 0, 0, 0],
     }
 }
 
-pub(crate) fn two(a: u64, b: u64) -> Reply {
+pub fn two(a: u64, b: u64) -> Reply {
     Reply {
         count: 2,
         numbers: [a, b, 0, 0, 0, 0, 0, 0, 0],
     }
 }
 
-pub(crate) fn three(a: u64, b: u64, c: u64) -> Reply {
+pub fn three(a: u64, b: u64, c: u64) -> Reply {
     Reply {
         count: 3,
         numbers: [a, b, c, 0, 0, 0, 0, 0, 0],
@@ -65,25 +65,25 @@ fn refused(refusal: Refusal) -> Reply {
     three(0, entry::number(refusal), entry::carried(refusal))
 }
 
-pub(crate) fn of_bool(b: bool) -> Reply {
+pub fn of_bool(b: bool) -> Reply {
     two(1, state_cache::inner::one_if(b))
 }
 
-pub(crate) fn of_settled(answer: Settled) -> Reply {
+pub fn of_settled(answer: Settled) -> Reply {
     match answer {
         Settled::Done => one(1),
         Settled::Refused(refusal) => refused(refusal),
     }
 }
 
-pub(crate) fn of_accepted(answer: Accepted) -> Reply {
+pub fn of_accepted(answer: Accepted) -> Reply {
     match answer {
         Accepted::At(i) => two(1, i.0),
         Accepted::Refused(refusal) => refused(refusal),
     }
 }
 
-pub(crate) fn of_flag(answer: Flag) -> Reply {
+pub fn of_flag(answer: Flag) -> Reply {
     match answer {
         Flag::Is(b) => of_bool(b),
         Flag::Refused(refusal) => refused(refusal),
@@ -138,7 +138,7 @@ fn of_shown(run: ShownRun) -> Reply {
     }
 }
 
-pub(crate) fn of_read(answer: ReadReply) -> Reply {
+pub fn of_read(answer: ReadReply) -> Reply {
     match answer {
         ReadReply::Nothing => one(1),
         ReadReply::Run(run) => of_shown(run),
@@ -146,14 +146,14 @@ pub(crate) fn of_read(answer: ReadReply) -> Reply {
     }
 }
 
-pub(crate) fn of_span(answer: Span) -> Reply {
+pub fn of_span(answer: Span) -> Reply {
     match answer {
         Span::Run { first, count } => three(1, first as u64, count as u64),
         Span::Refused(refusal) => refused(refusal),
     }
 }
 
-pub(crate) fn of_found(answer: Found) -> Reply {
+pub fn of_found(answer: Found) -> Reply {
     match answer {
         Found::Place(p) => two(2, p.0),
         Found::Absent => one(1),
@@ -161,14 +161,14 @@ pub(crate) fn of_found(answer: Found) -> Reply {
     }
 }
 
-pub(crate) fn of_folded(answer: Folded) -> Reply {
+pub fn of_folded(answer: Folded) -> Reply {
     match answer {
         Folded::Keys(keys) => two(1, keys as u64),
         Folded::Refused(refusal) => refused(refusal),
     }
 }
 
-pub(crate) fn of_diff(answer: Diff) -> Reply {
+pub fn of_diff(answer: Diff) -> Reply {
     match answer {
         Diff::Nothing { log_decided } => two(1, log_decided.0),
         Diff::Complete { keys, log_decided } => three(2, keys as u64, log_decided.0),
@@ -177,7 +177,7 @@ pub(crate) fn of_diff(answer: Diff) -> Reply {
     }
 }
 
-pub(crate) fn of_order(order: Ordering) -> u64 {
+pub fn of_order(order: Ordering) -> u64 {
     match order {
         Ordering::Less => 0,
         Ordering::Equal => 1,
@@ -186,32 +186,32 @@ pub(crate) fn of_order(order: Ordering) -> u64 {
 }
 
 // A line that leaves the record as it is.
-pub(crate) fn kept(index: IndexRecord, reply: Reply) -> Replied {
+pub fn kept(index: IndexRecord, reply: Reply) -> Replied {
     Replied { index, reply }
 }
 
-pub(crate) fn after_settled(from: SettledAt) -> Replied {
+pub fn after_settled(from: SettledAt) -> Replied {
     let answer = from.answer;
     let index = from.index;
     let reply = of_settled(answer);
     Replied { index, reply }
 }
 
-pub(crate) fn after_accepted(from: AcceptedAt) -> Replied {
+pub fn after_accepted(from: AcceptedAt) -> Replied {
     let answer = from.answer;
     let index = from.index;
     let reply = of_accepted(answer);
     Replied { index, reply }
 }
 
-pub(crate) fn after_appended(from: AppendedAt) -> Replied {
+pub fn after_appended(from: AppendedAt) -> Replied {
     let answer = from.answer;
     let index = from.index;
     let reply = of_appended(answer);
     Replied { index, reply }
 }
 
-pub(crate) fn after_accepted_idx(from: AcceptedIdxAt) -> Replied {
+pub fn after_accepted_idx(from: AcceptedIdxAt) -> Replied {
     let answer = from.answer;
     let index = from.index;
     let reply = of_accepted_idx(answer);

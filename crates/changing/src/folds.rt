@@ -1,7 +1,7 @@
 // Lines 40 to 45.
-use super::reply;
-use super::reply::Replied;
-use super::reply::Reply;
+use answering::reply;
+use answering::reply::Replied;
+use answering::reply::Reply;
 use compaction::Upto;
 use entry::Ballot;
 use entry::LogIndex;
@@ -11,7 +11,12 @@ use sync::LogSync;
 use sync::SnapshotType;
 
 // Lines 40 to 42.
-fn compact(index: IndexRecord, a: &[u64; 64], log: &mut [u64], snapshot: &mut [u64]) -> Replied {
+pub(crate) fn compact(
+    index: IndexRecord,
+    a: &[u64; 64],
+    log: &mut [u64],
+    snapshot: &mut [u64],
+) -> Replied {
     let i = LogIndex(a[1]);
     match a[0] {
         40 => reply::after_settled(compaction::try_trim(index, log, snapshot, i)),
@@ -24,7 +29,7 @@ fn compact(index: IndexRecord, a: &[u64; 64], log: &mut [u64], snapshot: &mut [u
 }
 
 // Lines 43 and 44.
-fn create(
+pub(crate) fn create(
     index: IndexRecord,
     a: &[u64; 64],
     log: &[u64],
@@ -61,7 +66,7 @@ fn part_of(a: &[u64; 64], sign: StopSign) -> LogSync {
     }
 }
 
-fn sync_to(
+pub(crate) fn sync_to(
     index: IndexRecord,
     sign: StopSign,
     round: Ballot,
@@ -89,24 +94,4 @@ fn sync_to(
         entries,
     );
     reply::after_accepted(to)
-}
-
-pub(crate) fn call(
-    index: IndexRecord,
-    sign: StopSign,
-    ballot: Ballot,
-    a: &[u64; 64],
-    log: &mut [u64],
-    snapshot: &mut [u64],
-    entries: &[u64],
-    second: &[u64],
-    output: &mut [u64],
-) -> Replied {
-    if a[0] < 43 {
-        return compact(index, a, log, snapshot);
-    }
-    if a[0] < 45 {
-        return reply::kept(index, create(index, a, log, snapshot, output));
-    }
-    sync_to(index, sign, ballot, a, log, snapshot, entries, second)
 }

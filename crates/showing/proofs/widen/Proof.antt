@@ -1,8 +1,8 @@
--- `calls::shown::widen` is safe and ends.
+-- `showing::widen` is safe and ends.
 use Prim.Native.Nat.{_≤_, _-_}
 use native.Mathlib.Omega.{arith}
-use Rattle.calls.proofs.shown.widen.Statement.{statement}
-use Rattle.calls.proofs.shown.widen.Tie as tie
+use Rattle.showing.proofs.widen.Statement.{statement}
+use Rattle.showing.proofs.widen.Tie as tie
 
 abbrev Inv-loop : tie.InvT-loop
 Inv-loop bytes words₀ i₀ words i = i ≤ 32

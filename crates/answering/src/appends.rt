@@ -1,7 +1,7 @@
 // Lines 20 to 29.
+use super::Given;
 use super::reply;
 use super::reply::Replied;
-use entry::Ballot;
 use entry::BlockPlace;
 use entry::LogIndex;
 use entry::StopSign;
@@ -86,8 +86,7 @@ fn set_stop(
 // Lines 24 to 29.
 fn settle(
     index: IndexRecord,
-    sign: StopSign,
-    ballot: Ballot,
+    given: Given,
     a: &[u64; 64],
     log: &[u64],
     snapshot: &[u64],
@@ -100,11 +99,16 @@ fn settle(
             reply::after_appended(to)
         }
         26 => {
+            let sign = given.sign;
             let to = internal_storage::stop::append_stopsign(index, log, snapshot, sign);
             reply::after_appended(to)
         }
-        27 => set_stop(index, a[1], sign, log, snapshot),
+        27 => {
+            let sign = given.sign;
+            set_stop(index, a[1], sign, log, snapshot)
+        }
         28 => {
+            let ballot = given.ballot;
             let to = internal_storage::decide::set_promise(index, log, snapshot, ballot);
             reply::after_settled(to)
         }
@@ -116,10 +120,9 @@ fn settle(
     }
 }
 
-pub(crate) fn call(
+pub fn call(
     index: IndexRecord,
-    sign: StopSign,
-    ballot: Ballot,
+    given: Given,
     a: &[u64; 64],
     log: &mut [u64],
     snapshot: &[u64],
@@ -128,5 +131,5 @@ pub(crate) fn call(
     if a[0] < 24 {
         return append(index, a, log, snapshot, entries);
     }
-    settle(index, sign, ballot, a, log, snapshot)
+    settle(index, given, a, log, snapshot)
 }

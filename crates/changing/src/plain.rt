@@ -1,23 +1,22 @@
 // Lines 50 to 57: the calls on words, stop-signs and ballots alone.
-use super::reply;
-use super::reply::Reply;
-use super::state;
+use answering::Given;
+use answering::ballot;
+use answering::reply;
+use answering::reply::Reply;
 use entry::Ballot;
-use entry::StopSign;
 
-fn compare(ballot: Ballot, a: &[u64; 64]) -> Reply {
-    if !state::ballot_fits(a[1], a[2], a[3]) {
+fn compare(held: Ballot, a: &[u64; 64]) -> Reply {
+    if !ballot::fits(a[1], a[2], a[3]) {
         return reply::bad();
     }
-    let other = state::ballot_of(a[1], a[2], a[3], a[4]);
-    let order = reply::of_order(ballot.cmp(other));
-    let equal = state_cache::inner::one_if(ballot.eq(other));
+    let other = ballot::of(a[1], a[2], a[3], a[4]);
+    let order = reply::of_order(held.cmp(other));
+    let equal = state_cache::inner::one_if(held.eq(other));
     reply::three(1, order, equal)
 }
 
 pub(crate) fn call(
-    sign: StopSign,
-    ballot: Ballot,
+    given: Given,
     a: &[u64; 64],
     snapshot: &[u64],
     entries: &[u64],
@@ -35,8 +34,14 @@ pub(crate) fn call(
         53 => reply::of_bool(snapshot::snapshot_formed(second, n)),
         54 => reply::of_bool(entry::entries_formed(entries)),
         55 => reply::of_bool(entry::place_formed(word)),
-        56 => reply::of_bool(entry::sign_formed(sign)),
-        57 => compare(ballot, a),
+        56 => {
+            let sign = given.sign;
+            reply::of_bool(entry::sign_formed(sign))
+        }
+        57 => {
+            let held = given.ballot;
+            compare(held, a)
+        }
         _ => reply::bad(),
     }
 }

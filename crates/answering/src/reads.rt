@@ -25,7 +25,7 @@ fn read(index: IndexRecord, a: &[u64; 64], log: &[u64], snapshot: &[u64]) -> Rep
     reply::of_read(reading::read_reply(index, log, snapshot, from, to))
 }
 
-pub(crate) fn call(index: IndexRecord, a: &[u64; 64], log: &[u64], snapshot: &[u64]) -> Reply {
+pub fn call(index: IndexRecord, a: &[u64; 64], log: &[u64], snapshot: &[u64]) -> Reply {
     let i = LogIndex(a[1]);
     let j = LogIndex(a[2]);
     let key = a[1];

@@ -1,0 +1,18 @@
+// A call of the library made from a line of numbers, on a record and lent words: what it is answered, in numbers, and the record after
+// it. docs/CALLS.md says what each line does. Here are the answers, and the lines that append and read; `changing` has the others.
+use backend::OpList;
+use entry::Ballot;
+use entry::StopSign;
+
+pub mod appends;
+pub mod ballot;
+pub mod cache;
+pub mod reads;
+pub mod reply;
+
+// What is lent to a call beside words.
+pub struct Given {
+    pub sign: StopSign,
+    pub ballot: Ballot,
+    pub list: OpList,
+}

@@ -1,7 +1,6 @@
 // What a line of numbers does, and the line that answers it.
 use answering::reply;
 use holding::State;
-use state_cache::IndexRecord;
 ghost use Prim.Native.Nat.{_+_, _≤_};
 ghost use lib.ListN.{length};
 ghost use Rattle.showing.specs.Rooms.{answerRoom};
@@ -16,10 +15,10 @@ pub struct Answered {
 fn numbers_in(kind: u64) -> usize {
     match kind {
         0 | 8 | 9 | 11..=15 | 21..=26 | 28 | 42 | 50 | 54 | 56 => 1,
-        1 | 10 | 27 | 29 | 31 | 33 | 34 | 40 | 41 | 43 | 44 | 53 | 55 => 2,
+        1 | 10 | 27 | 29 | 31 | 33 | 34 | 40 | 41 | 43 | 44 | 48 | 49 | 53 | 55 => 2,
         3 | 4 | 5 | 32 | 51 | 52 | 60 => 3,
-        2 | 7 | 20 | 46 => 4,
-        6 | 30 | 57 => 5,
+        2 | 7 | 20 | 46 | 61 => 4,
+        6 | 30 | 35 | 57 => 5,
         45 => 7,
         _ => 0,
     }
@@ -31,65 +30,6 @@ fn counted(kind: u64, n: usize) -> bool {
         return n >= k;
     }
     n == k
-}
-
-// A part of the lent words of the log.
-fn show_entries(a: &[u64; 64], lent: usize, log: &[u64], out: &mut [u8], at: usize) -> usize
-    requires { ⌜ at + answerRoom ≤ length (now out) ⌝ }
-    ensures { λ r. ⌜ r ≤ at + answerRoom ⌝ }
-{
-    let n = holding::within(lent, log.len());
-    let part = reading::entries_of(&log[..n], a[1] as usize, a[2] as usize);
-    showing::put_part(out, at, part)
-}
-
-// An area, where there is one with that number.
-fn show_area(
-    k: u64,
-    log: &[u64; entry::LOG_WORDS],
-    snapshot: &[u64; entry::SNAPSHOT_WORDS],
-    entries: &[u64; entry::LOG_WORDS],
-    second: &[u64; entry::SNAPSHOT_WORDS],
-    output: &[u64; entry::SNAPSHOT_WORDS],
-    out: &mut [u8],
-    at: usize,
-) -> usize
-    requires { ⌜ at + answerRoom ≤ length (now out) ⌝ }
-    ensures { λ r. ⌜ r ≤ at + answerRoom ⌝ }
-{
-    match k {
-        0 => showing::put_area_line(out, at, log),
-        1 => showing::put_area_line(out, at, snapshot),
-        2 => showing::put_area_line(out, at, entries),
-        3 => showing::put_area_line(out, at, second),
-        4 => showing::put_area_line(out, at, output),
-        _ => showing::put_reply(out, at, reply::bad()),
-    }
-}
-
-// The lines that show something.
-fn show(
-    index: IndexRecord,
-    lent: usize,
-    a: &[u64; 64],
-    log: &[u64; entry::LOG_WORDS],
-    snapshot: &[u64; entry::SNAPSHOT_WORDS],
-    entries: &[u64; entry::LOG_WORDS],
-    second: &[u64; entry::SNAPSHOT_WORDS],
-    output: &[u64; entry::SNAPSHOT_WORDS],
-    out: &mut [u8],
-    at: usize,
-) -> usize
-    requires { ⌜ at + answerRoom ≤ length (now out) ⌝ }
-    ensures { λ r. ⌜ r ≤ at + answerRoom ⌝ }
-{
-    if a[0] == 0 {
-        return showing::put_state(out, at, index, log, snapshot);
-    }
-    if a[0] == 1 {
-        return show_area(a[1], log, snapshot, entries, second, output, out, at);
-    }
-    show_entries(a, lent, log, out, at)
 }
 
 // Does what a line of n numbers says, and puts its answer.
@@ -113,11 +53,12 @@ pub(crate) fn answer(
         let o = showing::put_reply(out, at, reply::bad());
         return Answered { state: st, at: o };
     }
-    if (kind < 2) | (kind == 60) {
+    if showing::lines::shows(kind) {
         let lent = st.lent;
-        let o = show(
+        let o = showing::lines::show(
             st.index,
             lent[0],
+            lent[1],
             a,
             log,
             snapshot,

@@ -6,9 +6,10 @@ use state_cache::IndexRecord;
 
 mod folds;
 mod lists;
+mod places;
 mod plain;
 
-// Lines 40 to 46.
+// Lines 40 to 49.
 fn change(
     index: IndexRecord,
     given: Given,
@@ -30,8 +31,11 @@ fn change(
         let ballot = given.ballot;
         return folds::sync_to(index, sign, ballot, a, log, snapshot, entries, second);
     }
-    let list = given.list;
-    lists::call(index, sign, list, a, log, snapshot, entries, second)
+    if a[0] < 47 {
+        let list = given.list;
+        return lists::call(index, sign, list, a, log, snapshot, entries, second);
+    }
+    places::call(index, a, log, snapshot)
 }
 
 pub fn call(

@@ -3,7 +3,6 @@ use answering::Given;
 use answering::reply;
 use answering::reply::Reply;
 use state_cache::IndexRecord;
-ghost use Prim.Native.Nat.{_≤_};
 
 mod fields;
 mod setting;
@@ -34,13 +33,6 @@ pub fn start() -> State {
     }
 }
 
-// So many words of an area are lent; line 3 sets no more than it has.
-pub fn within(n: usize, words: usize) -> usize
-    ensures { λ r. ⌜ r ≤ words ⌝ }
-{
-    if n <= words { n } else { words }
-}
-
 // Lends the areas' words to the call, and keeps the record that it hands back.
 fn lend(
     st: State,
@@ -52,11 +44,11 @@ fn lend(
     output: &mut [u64],
 ) -> Stepped {
     let lent = st.lent;
-    let i = within(lent[0], log.len());
-    let j = within(lent[1], snapshot.len());
-    let k = within(lent[2], entries.len());
-    let l = within(lent[3], second.len());
-    let m = within(lent[4], output.len());
+    let i = answering::within(lent[0], log.len());
+    let j = answering::within(lent[1], snapshot.len());
+    let k = answering::within(lent[2], entries.len());
+    let l = answering::within(lent[3], second.len());
+    let m = answering::within(lent[4], output.len());
     let done = changing::call(
         st.index,
         st.given,

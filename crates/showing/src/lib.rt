@@ -9,6 +9,8 @@ ghost use Prim.Native.Nat.{_+_, _*_, _≤_};
 ghost use lib.ListN.{length};
 ghost use Rattle.showing.specs.Rooms.{answerRoom, areaRoom};
 
+pub mod lines;
+
 // A space and a number.
 fn put_word(out: &mut [u8], at: usize, w: u64) -> usize
     requires { ⌜ at + 21 ≤ length (now out) ⌝ }
@@ -231,6 +233,15 @@ fn put_rest(out: &mut [u8], at: usize, numbers: &[u64; MOST], n: usize) -> usize
     put_words(out, at, numbers, 1, n)
 }
 
+// A reply of nine numbers, with no line end.
+fn put_all(out: &mut [u8], at: usize, numbers: &[u64; MOST]) -> usize
+    requires { ⌜ at + 209 ≤ length (now out) ⌝ }
+    ensures { λ r. ⌜ r ≤ at + 209 ⌝ }
+{
+    let a = text::inner::put_number(out, at, numbers[0]);
+    put_rest(out, a, numbers, MOST)
+}
+
 // A reply's line.
 pub fn put_reply(out: &mut [u8], at: usize, reply: Reply) -> usize
     requires { ⌜ at + 210 ≤ length (now out) ⌝ }
@@ -247,4 +258,18 @@ pub fn put_reply(out: &mut [u8], at: usize, reply: Reply) -> usize
     let a = text::inner::put_number(out, at, numbers[0]);
     let b = put_rest(out, a, &numbers, n);
     text::inner::put(out, b, b"\n")
+}
+
+// A read's line: its reply and, where that is a run, its entries.
+pub fn put_read(out: &mut [u8], at: usize, reply: Reply, words: &[u64]) -> usize
+    requires { ⌜ at + answerRoom ≤ length (now out) ⌝ }
+    ensures { λ r. ⌜ r ≤ at + answerRoom ⌝ }
+{
+    let numbers = reply.numbers;
+    if reply.count < MOST {
+        return put_reply(out, at, reply);
+    }
+    let a = put_all(out, at, &numbers);
+    let b = text::inner::put(out, a, b" ");
+    put_area_line(out, b, words)
 }

@@ -31,7 +31,7 @@ fn change(
         let ballot = given.ballot;
         return folds::sync_to(index, sign, ballot, a, log, snapshot, entries, second);
     }
-    if a[0] < 47 {
+    if a[0] < 48 {
         let list = given.list;
         return lists::call(index, sign, list, a, log, snapshot, entries, second);
     }

@@ -84,6 +84,27 @@ fn restart(
     }
 }
 
+// Lines 2 and 9, which set words.
+fn set_words(
+    st: State,
+    a: &[u64; 64],
+    n: usize,
+    log: &mut [u64],
+    snapshot: &mut [u64],
+    entries: &mut [u64],
+    second: &mut [u64],
+    output: &mut [u64],
+) -> Stepped {
+    if a[0] == 9 {
+        return restart(log, snapshot, entries, second, output);
+    }
+    let said = setting::set_area(a, n, log, snapshot, entries, second, output);
+    Stepped {
+        state: st,
+        reply: said,
+    }
+}
+
 // Does what a line of n numbers says: lines 2 to 9 set something, the others make a call.
 pub fn step(
     st: State,
@@ -96,15 +117,8 @@ pub fn step(
     output: &mut [u64],
 ) -> Stepped {
     let kind = a[0];
-    if kind == 2 {
-        let said = setting::set_area(a, n, log, snapshot, entries, second, output);
-        return Stepped {
-            state: st,
-            reply: said,
-        };
-    }
-    if kind == 9 {
-        return restart(log, snapshot, entries, second, output);
+    if (kind == 2) | (kind == 9) {
+        return set_words(st, a, n, log, snapshot, entries, second, output);
     }
     if kind < 10 {
         return setting::set_held(st, a);

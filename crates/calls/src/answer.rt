@@ -32,6 +32,60 @@ fn counted(kind: u64, n: usize) -> bool {
     n == k
 }
 
+// A line that shows something.
+fn view(
+    st: State,
+    a: &[u64; 64],
+    log: &[u64; entry::LOG_WORDS],
+    snapshot: &[u64; entry::SNAPSHOT_WORDS],
+    entries: &[u64; entry::LOG_WORDS],
+    second: &[u64; entry::SNAPSHOT_WORDS],
+    output: &[u64; entry::SNAPSHOT_WORDS],
+    out: &mut [u8],
+    at: usize,
+) -> usize
+    requires { ⌜ at + answerRoom ≤ length (now out) ⌝ }
+    ensures { λ r. ⌜ r ≤ at + answerRoom ⌝ }
+{
+    let lent = st.lent;
+    showing::lines::show(
+        st.index,
+        lent[0],
+        lent[1],
+        a,
+        log,
+        snapshot,
+        entries,
+        second,
+        output,
+        out,
+        at,
+    )
+}
+
+// A line that sets something or makes a call.
+fn act(
+    st: State,
+    a: &[u64; 64],
+    n: usize,
+    log: &mut [u64; entry::LOG_WORDS],
+    snapshot: &mut [u64; entry::SNAPSHOT_WORDS],
+    entries: &mut [u64; entry::LOG_WORDS],
+    second: &mut [u64; entry::SNAPSHOT_WORDS],
+    output: &mut [u64; entry::SNAPSHOT_WORDS],
+    out: &mut [u8],
+    at: usize,
+) -> Answered
+    requires { ⌜ at + answerRoom ≤ length (now out) ⌝ }
+    ensures { λ r. ⌜ r .at ≤ at + answerRoom ⌝ }
+{
+    let done = holding::step(st, a, n, log, snapshot, entries, second, output);
+    let next = done.state;
+    let said = done.reply;
+    let o = showing::put_reply(out, at, said);
+    Answered { state: next, at: o }
+}
+
 // Does what a line of n numbers says, and puts its answer.
 pub(crate) fn answer(
     st: State,
@@ -54,25 +108,8 @@ pub(crate) fn answer(
         return Answered { state: st, at: o };
     }
     if showing::lines::shows(kind) {
-        let lent = st.lent;
-        let o = showing::lines::show(
-            st.index,
-            lent[0],
-            lent[1],
-            a,
-            log,
-            snapshot,
-            entries,
-            second,
-            output,
-            out,
-            at,
-        );
+        let o = view(st, a, log, snapshot, entries, second, output, out, at);
         return Answered { state: st, at: o };
     }
-    let done = holding::step(st, a, n, log, snapshot, entries, second, output);
-    let next = done.state;
-    let said = done.reply;
-    let o = showing::put_reply(out, at, said);
-    Answered { state: next, at: o }
+    act(st, a, n, log, snapshot, entries, second, output, out, at)
 }

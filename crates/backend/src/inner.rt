@@ -426,7 +426,7 @@ pub fn write_at(
     }
 }
 
-fn empty() -> OpList
+pub fn empty() -> OpList
     ensures { λ r. ⌜ r ≡ noOps ⌝ }
 {
     let ballot = Ballot {
@@ -446,7 +446,7 @@ fn empty() -> OpList
 }
 
 // One operation more; the ninth is counted and not kept.
-fn put(list: OpList, o: Op) -> OpList
+pub fn put(list: OpList, o: Op) -> OpList
     ensures { λ r. ⌜ r ≡ putOf list o ⌝ }
 {
     let n = list.count;

@@ -1,13 +1,9 @@
 // What a line of numbers does, and the line that answers it.
-use super::calls;
-use super::reply;
-use super::setting;
-use super::shown;
-use super::state::State;
-use super::state::Stepped;
+use answering::reply;
+use holding::State;
 ghost use Prim.Native.Nat.{_+_, _≤_};
 ghost use lib.ListN.{length};
-ghost use Rattle.calls.specs.Rooms.{answerRoom};
+ghost use Rattle.showing.specs.Rooms.{answerRoom};
 
 // What the program holds after a line, and the index after its answer's bytes.
 pub struct Answered {
@@ -19,10 +15,10 @@ pub struct Answered {
 fn numbers_in(kind: u64) -> usize {
     match kind {
         0 | 8 | 9 | 11..=15 | 21..=26 | 28 | 42 | 50 | 54 | 56 => 1,
-        1 | 10 | 27 | 29 | 31 | 33 | 34 | 40 | 41 | 43 | 44 | 53 | 55 => 2,
+        1 | 10 | 27 | 29 | 31 | 33 | 34 | 40 | 41 | 43 | 44 | 48 | 49 | 53 | 55 => 2,
         3 | 4 | 5 | 32 | 51 | 52 | 60 => 3,
-        2 | 7 | 20 => 4,
-        6 | 30 | 57 => 5,
+        2 | 7 | 20 | 46 | 47 | 61 => 4,
+        6 | 30 | 35 | 57 => 5,
         45 => 7,
         _ => 0,
     }
@@ -36,18 +32,8 @@ fn counted(kind: u64, n: usize) -> bool {
     n == k
 }
 
-// A part of the lent words of the log.
-fn show_entries(a: &[u64; 64], lent: usize, log: &[u64], out: &mut [u8], at: usize) -> usize
-    requires { ⌜ at + answerRoom ≤ length (now out) ⌝ }
-    ensures { λ r. ⌜ r ≤ at + answerRoom ⌝ }
-{
-    let n = calls::within(lent, log.len());
-    let part = reading::entries_of(&log[..n], a[1] as usize, a[2] as usize);
-    shown::put_part(out, at, part)
-}
-
-// The lines that show something.
-fn show(
+// A line that shows something.
+fn view(
     st: State,
     a: &[u64; 64],
     log: &[u64; entry::LOG_WORDS],
@@ -61,25 +47,24 @@ fn show(
     requires { ⌜ at + answerRoom ≤ length (now out) ⌝ }
     ensures { λ r. ⌜ r ≤ at + answerRoom ⌝ }
 {
-    if a[0] == 0 {
-        return shown::put_state(out, at, st.index, log, snapshot);
-    }
-    if a[0] == 60 {
-        let lent = st.lent;
-        return show_entries(a, lent[0], log, out, at);
-    }
-    match a[1] {
-        0 => shown::put_area_line(out, at, log),
-        1 => shown::put_area_line(out, at, snapshot),
-        2 => shown::put_area_line(out, at, entries),
-        3 => shown::put_area_line(out, at, second),
-        4 => shown::put_area_line(out, at, output),
-        _ => shown::put_reply(out, at, reply::bad()),
-    }
+    let lent = st.lent;
+    showing::lines::show(
+        st.index,
+        lent[0],
+        lent[1],
+        a,
+        log,
+        snapshot,
+        entries,
+        second,
+        output,
+        out,
+        at,
+    )
 }
 
-// The lines that set something or make a call.
-fn step(
+// A line that sets something or makes a call.
+fn act(
     st: State,
     a: &[u64; 64],
     n: usize,
@@ -88,11 +73,17 @@ fn step(
     entries: &mut [u64; entry::LOG_WORDS],
     second: &mut [u64; entry::SNAPSHOT_WORDS],
     output: &mut [u64; entry::SNAPSHOT_WORDS],
-) -> Stepped {
-    if a[0] < 10 {
-        return setting::set(st, a, n, log, snapshot, entries, second, output);
-    }
-    calls::lend(st, a, log, snapshot, entries, second, output)
+    out: &mut [u8],
+    at: usize,
+) -> Answered
+    requires { ⌜ at + answerRoom ≤ length (now out) ⌝ }
+    ensures { λ r. ⌜ r .at ≤ at + answerRoom ⌝ }
+{
+    let done = holding::step(st, a, n, log, snapshot, entries, second, output);
+    let next = done.state;
+    let said = done.reply;
+    let o = showing::put_reply(out, at, said);
+    Answered { state: next, at: o }
 }
 
 // Does what a line of n numbers says, and puts its answer.
@@ -113,16 +104,12 @@ pub(crate) fn answer(
 {
     let kind = a[0];
     if (n == 0) | !counted(kind, n) {
-        let o = shown::put_reply(out, at, reply::bad());
+        let o = showing::put_reply(out, at, reply::bad());
         return Answered { state: st, at: o };
     }
-    if (kind < 2) | (kind == 60) {
-        let o = show(st, a, log, snapshot, entries, second, output, out, at);
+    if showing::lines::shows(kind) {
+        let o = view(st, a, log, snapshot, entries, second, output, out, at);
         return Answered { state: st, at: o };
     }
-    let done = step(st, a, n, log, snapshot, entries, second, output);
-    let next = done.state;
-    let said = done.reply;
-    let o = shown::put_reply(out, at, said);
-    Answered { state: next, at: o }
+    act(st, a, n, log, snapshot, entries, second, output, out, at)
 }

@@ -7,16 +7,7 @@ ghost use Prim.Native.Nat.{_≤_};
 ghost use Rattle.calls.specs.Rooms.{lineRoom, outRoom};
 
 mod answer;
-mod appends;
-mod calls;
 mod feed;
-mod folds;
-mod plain;
-mod reads;
-mod reply;
-mod setting;
-mod shown;
-mod state;
 
 // Writes the answers that wait, so that none is kept back while more input is awaited; then reads once, and does what came.
 fn take_turn(
@@ -86,7 +77,7 @@ fn main() {
     let mut second = [0u64; entry::SNAPSHOT_WORDS];
     let mut output = [0u64; entry::SNAPSHOT_WORDS];
     let mut out = [0u8; feed::OUT_ROOM];
-    let state = state::start();
+    let state = holding::start();
     let mut s = Feed {
         state,
         held: Partial {

@@ -77,7 +77,7 @@ fn main() {
     let mut second = [0u64; entry::SNAPSHOT_WORDS];
     let mut output = [0u64; entry::SNAPSHOT_WORDS];
     let mut out = [0u8; feed::OUT_ROOM];
-    let state = holding::start();
+    let state = holding::inner::start();
     let mut s = Feed {
         state,
         held: Partial {

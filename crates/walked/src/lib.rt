@@ -1,7 +1,5 @@
 // The calls on references that a program cannot make without a walk by hand: each as a function on plain slices and values, which a
 // program can call. Each contract is that of the call.
-use backend::Lent;
-use backend::Op;
 use entry::LogIndex;
 use reading::Bound;
 use reading::ReadReply;
@@ -10,15 +8,13 @@ use state_cache::Settled;
 use state_cache::SettledAt;
 ghost use mathlib.Core.Path.{_≡_};
 ghost use mathlib.Core.Bool.{true};
-ghost use mathlib.Core.List.{map};
-ghost use Prim.Native.Nat.{_≤_};
-ghost use lib.ListN.{take};
-ghost use Rattle.model.specs.Calls.{decide, trim, write};
+ghost use Rattle.model.specs.Calls.{decide, trim};
 ghost use Rattle.state_cache.specs.State.{raw};
 ghost use Rattle.state_cache.specs.Run.{outcome, run, settled};
-ghost use Rattle.backend.specs.Ops.{opOf, lentOf, wholeLent};
 ghost use Rattle.reading.specs.Replies.{boundOf, shownPart};
 ghost use Rattle.reading.specs.Numbered.{rangeReply};
+
+pub mod inner;
 
 // The reply of `reader::read`.
 pub fn read_reply(
@@ -75,21 +71,4 @@ pub fn try_trim(index: IndexRecord, log: &mut [u64], snapshot: &[u64], idx: LogI
     let mut held = index;
     let answer = in_place::try_trim(&mut held, log, snapshot, idx);
     settled_with(answer, held)
-}
-
-// `backend::write_atomically` of the first n of nine operations.
-pub fn write_atomically(
-    index: IndexRecord,
-    log: &mut [u64],
-    snapshot: &mut [u64],
-    entries: &[u64],
-    incoming: &[u64],
-    lent: Lent,
-    ops: [Op; 9],
-    n: usize,
-) -> SettledAt
-    requires { ⌜ n ≤ 9 ⌝ }
-    ensures { λ r. ⌜ outcome (settled (r .answer)) (raw (r .index) (now (log .exit)) (now (snapshot .exit))) ≡ run (write (lentOf lent (now (entries .entry)) (now (incoming .entry))) (map opOf (take n ops))) (wholeLent lent (now (entries .entry)) (now (incoming .entry))) (raw index (now (log .entry)) (now (snapshot .entry))) ⌝ }
-{
-    backend::write_atomically(index, log, snapshot, entries, incoming, lent, &ops[..n])
 }

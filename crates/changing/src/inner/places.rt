@@ -1,6 +1,6 @@
 // Lines 48 and 49: the record is altered where it stands.
-use answering::reply;
-use answering::reply::Replied;
+use answering::inner::reply;
+use answering::inner::reply::Replied;
 use entry::LogIndex;
 use state_cache::IndexRecord;
 

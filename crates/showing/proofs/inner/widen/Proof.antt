@@ -1,8 +1,8 @@
--- `showing::widen` is safe and ends.
+-- `showing::inner::widen` is safe and ends.
 use Prim.Native.Nat.{_≤_, _-_}
 use native.Mathlib.Omega.{arith}
-use Rattle.showing.proofs.widen.Statement.{statement}
-use Rattle.showing.proofs.widen.Tie as tie
+use Rattle.showing.proofs.inner.widen.Statement.{statement}
+use Rattle.showing.proofs.inner.widen.Tie as tie
 
 abbrev Inv-loop : tie.InvT-loop
 Inv-loop bytes words₀ i₀ words i = i ≤ 32

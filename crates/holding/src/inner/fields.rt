@@ -1,8 +1,8 @@
 // The record and what is lent beside words, a field at a time. A number that is too large for a field changes nothing: what sets the field
 // is asked only after `..._fits`.
-use answering::Given;
-use answering::ballot;
-use answering::ballot::narrow;
+use answering::inner::Given;
+use answering::inner::ballot;
+use answering::inner::ballot::narrow;
 use backend::Op;
 use backend::OpKind;
 use entry::Ballot;

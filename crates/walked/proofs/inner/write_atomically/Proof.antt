@@ -1,4 +1,4 @@
--- `walked::write_atomically` meets its contract: a walk of its MIR, by hand. The operations are copied to a local array, whose first n are lent for a
+-- `walked::inner::write_atomically` meets its contract: a walk of its MIR, by hand. The operations are copied to a local array, whose first n are lent for a
 -- lifetime made for the call; the lifetime is ended after it, and the array is whole again. All that the proof knows of the call is that it meets
 -- its contract.
 use mathlib.Core.Path.{_≡_, refl, sym, subst}
@@ -72,10 +72,10 @@ use Rattle.backend.proofs.write_atomically as callee
 use Rattle.backend.proofs.write_atomically.Symbol as callee-def
 use Rattle.backend.proofs.write_atomically.Symbol.{name as #callee}
 use Rattle.backend.proofs.write_atomically.Met as callee-thm
-use Rattle.walked.proofs.write_atomically.Key.{name as #fn}
-use Rattle.walked.proofs.write_atomically as f
-use Rattle.walked.proofs.write_atomically.Statement as stated
-use Rattle.walked.proofs.write_atomically.Code as code
+use Rattle.walked.proofs.inner.write_atomically.Key.{name as #fn}
+use Rattle.walked.proofs.inner.write_atomically as f
+use Rattle.walked.proofs.inner.write_atomically.Statement as stated
+use Rattle.walked.proofs.inner.write_atomically.Code as code
 
 abbrev Ops : RattleType
 Ops = Array O.the-row 9

@@ -1,10 +1,10 @@
--- `showing::put_words` meets its contract: each word that is put takes at most 21 bytes.
+-- `showing::inner::put_words` meets its contract: each word that is put takes at most 21 bytes.
 use Prim.Native.Nat.{_≤_, _+_, _-_, _*_}
 use mathlib.Core.Path.{_≡_}
 use lib.ListN.{length}
 use native.Mathlib.Omega.{arith}
-use Rattle.showing.proofs.put_words.Statement.{statement}
-use Rattle.showing.proofs.put_words.Tie as tie
+use Rattle.showing.proofs.inner.put_words.Statement.{statement}
+use Rattle.showing.proofs.inner.put_words.Tie as tie
 
 abbrev Inv-loop : tie.InvT-loop
 Inv-loop out₀ at words from to o₀ i₀ out o i = (i ≤ to) × (o ≤ at + 21 * i) × (length out ≡ length out₀)

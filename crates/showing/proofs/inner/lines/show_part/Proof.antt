@@ -3,8 +3,8 @@ use mathlib.Core.Path.{sym}
 use lib.Seq.{length-take-le}
 use native.Mathlib.Omega.{arith}
 use borrow.Author.Needs.{needs}
-use Rattle.showing.proofs.lines.show_part.Statement.{statement}
-use Rattle.showing.proofs.lines.show_part.Tie as tie
+use Rattle.showing.proofs.inner.lines.show_part.Statement.{statement}
+use Rattle.showing.proofs.inner.lines.show_part.Tie as tie
 
 within-requires : tie.Need-within-requires
 within-requires c κs = search needs

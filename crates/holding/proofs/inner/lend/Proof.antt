@@ -1,10 +1,10 @@
--- `holding::lend` is safe.
+-- `holding::inner::lend` is safe.
 use mathlib.Core.Path.{sym}
 use lib.Seq.{length-take-le}
 use native.Mathlib.Omega.{arith}
 use borrow.Author.Needs.{needs}
-use Rattle.holding.proofs.lend.Statement.{statement}
-use Rattle.holding.proofs.lend.Tie as tie
+use Rattle.holding.proofs.inner.lend.Statement.{statement}
+use Rattle.holding.proofs.inner.lend.Tie as tie
 
 array-read-within : tie.Need-array-read-within
 array-read-within c = search needs

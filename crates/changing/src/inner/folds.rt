@@ -1,7 +1,7 @@
 // Lines 40 to 45.
-use answering::reply;
-use answering::reply::Replied;
-use answering::reply::Reply;
+use answering::inner::reply;
+use answering::inner::reply::Replied;
+use answering::inner::reply::Reply;
 use compaction::Upto;
 use entry::Ballot;
 use entry::LogIndex;

@@ -2,9 +2,9 @@
 use super::State;
 use super::Stepped;
 use super::fields;
-use answering::ballot;
-use answering::reply;
-use answering::reply::Reply;
+use answering::inner::ballot;
+use answering::inner::reply;
+use answering::inner::reply::Reply;
 
 // Sets an area's words from `at` on, where they all lie in it.
 fn set_words(area: &mut [u64], at: u64, values: &[u64]) -> Reply {

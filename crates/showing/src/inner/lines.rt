@@ -1,6 +1,6 @@
 // The lines that show something: 0, 1, 35, 60 and 61.
-use answering::reads;
-use answering::reply;
+use answering::inner::reads;
+use answering::inner::reply;
 use state_cache::IndexRecord;
 ghost use Prim.Native.Nat.{_+_, _≤_};
 ghost use lib.ListN.{length};
@@ -76,8 +76,8 @@ fn show_part(
     requires { ⌜ at + answerRoom ≤ length (now out) ⌝ }
     ensures { λ r. ⌜ r ≤ at + answerRoom ⌝ }
 {
-    let i = answering::within(n, log.len());
-    let j = answering::within(m, snapshot.len());
+    let i = answering::inner::within(n, log.len());
+    let j = answering::inner::within(m, snapshot.len());
     show_lent(index, a, &log[..i], &snapshot[..j], out, at)
 }
 

@@ -1,8 +1,8 @@
 // Lines 50 to 57: the calls on words, stop-signs and ballots alone.
-use answering::Given;
-use answering::ballot;
-use answering::reply;
-use answering::reply::Reply;
+use answering::inner::Given;
+use answering::inner::ballot;
+use answering::inner::reply;
+use answering::inner::reply::Reply;
 use entry::Ballot;
 
 fn compare(held: Ballot, a: &[u64; 64]) -> Reply {

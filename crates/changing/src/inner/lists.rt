@@ -1,6 +1,6 @@
 // Lines 46 and 47: an operation list.
-use answering::reply;
-use answering::reply::Replied;
+use answering::inner::reply;
+use answering::inner::reply::Replied;
 use backend::Lent;
 use backend::Op;
 use backend::OpList;
@@ -49,7 +49,7 @@ fn write_slice(
         return reply::kept(index, reply::bad());
     }
     let ops = nine(list);
-    let to = walked::write_atomically(index, log, snapshot, entries, second, lent, ops, n);
+    let to = walked::inner::write_atomically(index, log, snapshot, entries, second, lent, ops, n);
     reply::after_settled(to)
 }
 

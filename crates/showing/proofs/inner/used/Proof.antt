@@ -1,9 +1,9 @@
--- `showing::used` meets its contract.
+-- `showing::inner::used` meets its contract.
 use Prim.Native.Nat.{_≤_}
 use lib.ListN.{length}
 use native.Mathlib.Omega.{arith}
-use Rattle.showing.proofs.used.Statement.{statement}
-use Rattle.showing.proofs.used.Tie as tie
+use Rattle.showing.proofs.inner.used.Statement.{statement}
+use Rattle.showing.proofs.inner.used.Tie as tie
 
 abbrev Inv-loop : tie.InvT-loop
 Inv-loop words n₀ n = n ≤ length words

@@ -1,189 +1,33 @@
-//! A call, asked of the port and of the Rust, and whether the two agree.
+//! An accepted call, asked of the Rust: its reply and its state after it beside the port's.
 use crate::backend::{Backend, Change, Keys, Shared};
 use crate::ballot_leader_election::Ballot;
-use crate::port::{changes, lend, lend_stop, words, State};
+use crate::call::{Call, Form, Kind, List, Op, OpKind, Part};
+use crate::rules::{folded, held_with, merged};
+use crate::state::{changes, entries_formed, place_formed, words, State};
 use crate::storage::internal_storage::{InternalStorage, InternalStorageConfig};
-use crate::storage::{SnapshotType, StopSign};
+use crate::storage::{Snapshot, SnapshotType, Storage, StorageOp};
 use crate::util::{AcceptedMetaData, LogEntry, LogSync};
+use std::cmp::Ordering;
+use std::fmt::Debug;
 use std::ops::Bound;
 use std::panic::{catch_unwind, AssertUnwindSafe};
 use std::{cell::RefCell, rc::Rc};
 
-#[derive(Clone, Debug)]
-pub enum Given {
-    Plain,
-    Complete(Vec<Change>),
-    Delta(Vec<Change>),
-}
-
-#[derive(Clone, Debug)]
-pub struct Part {
-    pub idx: u64,
-    pub given: Given,
-    pub suffix: Vec<Change>,
-    pub stop: Option<StopSign>,
-}
-
-#[derive(Clone, Debug)]
-pub enum Call {
-    Fresh(u64),
-    Reload,
-    AppendEntry(Change),
-    Append(Vec<Change>),
-    AppendIdx(Vec<Change>),
-    AppendNow(Vec<Change>),
-    Flush,
-    FlushEntries,
-    AppendStop(StopSign),
-    SetStop(Option<StopSign>),
-    Promise(Ballot),
-    Decide(u64),
-    Read(Bound<u64>, Bound<u64>),
-    ReadDecided(u64),
-    Entries(u64, u64),
-    Suffix(u64),
-    Lookup(u64),
-    Trim(u64),
-    Snapshot(Option<u64>),
-    Create(u64),
-    Diff(u64),
-    Sync(Ballot, u64, Option<Part>),
-}
-
-/// What the port shows after a call: its answer, and the output area.
-pub struct Told {
-    pub answer: Vec<u64>,
-    pub out: Vec<u64>,
-    pub after: State,
+/// What the port shows after a call: its answer, the output area, and the state.
+pub struct Told<'a> {
+    pub answer: &'a [u64],
+    pub out: &'a [u64],
+    pub after: &'a State,
 }
 
 pub enum Verdict {
+    /// The Rust says the same.
     Same,
-    /// A difference that document 01 lists, or that docs/DIFFERENCES.md does.
+    /// docs/DIFFERENCES.md lists it: the port's answer is the one that document 01 asks for, and not the Rust's.
     Listed(&'static str),
+    /// There is nothing of the Rust's to ask: the port's answer is the one that document 01 asks for.
+    Ours,
     Differs(String),
-}
-
-impl Call {
-    pub fn name(&self) -> &'static str {
-        match self {
-            Call::Fresh(_) => "fresh",
-            Call::Reload => "load_cache",
-            Call::AppendEntry(_) => "append_entry_with_batching",
-            Call::Append(_) => "append_entries_with_batching",
-            Call::AppendIdx(_) => "append_entries_and_get_accepted_idx",
-            Call::AppendNow(_) => "append_entries_without_batching",
-            Call::Flush => "flush_batch",
-            Call::FlushEntries => "flush_batch_and_get_entries",
-            Call::AppendStop(_) => "append_stopsign",
-            Call::SetStop(_) => "set_stopsign",
-            Call::Promise(_) => "set_promise",
-            Call::Decide(_) => "set_decided_idx",
-            Call::Read(..) => "read",
-            Call::ReadDecided(_) => "read_decided_suffix",
-            Call::Entries(..) => "get_entries",
-            Call::Suffix(_) => "get_suffix",
-            Call::Lookup(_) => "lookup",
-            Call::Trim(_) => "try_trim",
-            Call::Snapshot(_) => "try_snapshot",
-            Call::Create(_) => "create_snapshot",
-            Call::Diff(_) => "create_diff_snapshot",
-            Call::Sync(..) => "sync_log",
-        }
-    }
-
-    /// The lines that ask it; the last is the call.
-    pub fn lines(&self) -> Vec<Vec<u64>> {
-        let bound = |b: &Bound<u64>| match b {
-            Bound::Included(i) => [0, *i],
-            Bound::Excluded(i) => [1, *i],
-            Bound::Unbounded => [2, 0],
-        };
-        let ballot = |b: &Ballot| vec![6, b.config_id as u64, b.n as u64, b.priority as u64, b.pid];
-        let mut lines = vec![];
-        let call = match self {
-            Call::Fresh(n) => vec![10, *n],
-            Call::Reload => vec![11],
-            Call::AppendEntry(e) => vec![20, e.key, e.place.is_none() as u64, e.place.unwrap_or(0)],
-            Call::Append(es) | Call::AppendIdx(es) | Call::AppendNow(es) => {
-                lines = lend(2, &words(es));
-                vec![match self {
-                    Call::Append(_) => 21,
-                    Call::AppendIdx(_) => 22,
-                    _ => 23,
-                }]
-            }
-            Call::Flush => vec![24],
-            Call::FlushEntries => vec![25],
-            Call::AppendStop(s) => {
-                lines = lend_stop(s);
-                vec![26]
-            }
-            Call::SetStop(s) => {
-                lines = s.as_ref().map(lend_stop).unwrap_or_default();
-                vec![27, s.is_some() as u64]
-            }
-            Call::Promise(b) => {
-                lines.push(ballot(b));
-                vec![28]
-            }
-            Call::Decide(i) => vec![29, *i],
-            Call::Read(a, b) => [&[30], &bound(a)[..], &bound(b)[..]].concat(),
-            Call::ReadDecided(i) => vec![31, *i],
-            Call::Entries(a, b) => vec![32, *a, *b],
-            Call::Suffix(a) => vec![33, *a],
-            Call::Lookup(k) => vec![34, *k],
-            Call::Trim(i) => vec![40, *i],
-            Call::Snapshot(Some(i)) => vec![41, *i],
-            Call::Snapshot(None) => vec![42],
-            Call::Create(i) => vec![43, *i],
-            Call::Diff(i) => vec![44, *i],
-            Call::Sync(b, d, part) => {
-                lines.push(ballot(b));
-                match part {
-                    None => vec![45, 0, *d, 0, 0, 0, 0],
-                    Some(p) => {
-                        lines.extend(lend(2, &words(&p.suffix)));
-                        if let Some(s) = &p.stop {
-                            lines.extend(lend_stop(s));
-                        }
-                        let (kind, keys) = match &p.given {
-                            Given::Plain => (0, vec![]),
-                            Given::Complete(es) => (1, es.clone()),
-                            Given::Delta(es) => (2, es.clone()),
-                        };
-                        let mut shot = words(&keys);
-                        shot.resize(1024, 0);
-                        if kind > 0 {
-                            lines.extend(lend(3, &shot));
-                        }
-                        vec![
-                            45,
-                            1,
-                            *d,
-                            p.idx,
-                            kind,
-                            keys.len() as u64,
-                            p.stop.is_some() as u64,
-                        ]
-                    }
-                }
-            }
-        };
-        lines.push(call);
-        lines
-    }
-}
-
-/// A run as both sides can show it: the marker (0 none, 1 trimmed, 2 snapshot) with its index and keys, the entries, how many are
-/// decided, and the stop-sign's state.
-#[derive(Debug, PartialEq)]
-struct Shown {
-    marker: (u64, u64, u64),
-    entries: Vec<Change>,
-    decided: u64,
-    stop: bool,
-    stop_decided: bool,
 }
 
 pub struct Judge {
@@ -200,28 +44,205 @@ fn storage_of(shared: &Shared, size: u64) -> InternalStorage<Shared, Change> {
     )
 }
 
-fn keys_of(entries: &[Change]) -> Keys {
-    Keys(entries.iter().map(|e| (e.key, e.place)).collect())
+fn differ<T: PartialEq + Debug + ?Sized>(what: &str, rust: &T, port: &T) -> Result<(), String> {
+    if rust == port {
+        return Ok(());
+    }
+    Err(format!("{what}: the Rust has {rust:?}, the port {port:?}"))
+}
+
+/// The words of entries as an area shows them.
+fn area(words: &[u64]) -> Vec<u64> {
+    let used = words.iter().rposition(|w| *w != 0).map_or(0, |i| i + 1);
+    let mut shown = vec![used as u64];
+    shown.extend(&words[..used]);
+    shown
+}
+
+fn keys_words(keys: &Keys) -> Vec<u64> {
+    keys.0
+        .iter()
+        .flat_map(|(key, place)| [*key, place.unwrap_or(u64::MAX)])
+        .collect()
+}
+
+/// A snapshot against the answer's first numbers and the words of the output area.
+fn written(kind: u64, rest: &[u64], made: &Keys, told: &Told) -> Result<(), String> {
+    let mut answer = vec![kind, made.0.len() as u64];
+    answer.extend(rest);
+    differ("the answer", &answer[..], told.answer)?;
+    differ("the output", &area(&keys_words(made)), &area(told.out))
+}
+
+/// A run as both sides can show it: the marker (0 none, 1 trimmed, 2 snapshot) with its index and keys, the entries, how many are
+/// decided, and the stop-sign's state.
+#[derive(Debug, Default, PartialEq)]
+struct Shown {
+    marker: (u64, u64, u64),
+    entries: Vec<Change>,
+    decided: u64,
+    stop: bool,
+    stop_decided: bool,
+}
+
+/// What the port answers to a read: of its own form also the entries, which must be those that the reply counts.
+fn port_shows(form: Form, answer: &[u64], before: &State) -> Result<Option<Shown>, String> {
+    let wrong = || Err(format!("the port answers {answer:?}"));
+    if answer == [1] {
+        return Ok(None);
+    }
+    let Some((&[2, marker, index, keys, first, count, decided, stop, stop_decided], beside)) =
+        answer.split_first_chunk::<9>()
+    else {
+        return wrong();
+    };
+    let Some(entries) = before
+        .entries()
+        .get(first as usize..(first + count) as usize)
+        .map(<[_]>::to_vec)
+    else {
+        return wrong();
+    };
+    let beside_due = match form {
+        Form::Covered => vec![],
+        Form::ByHand => area(&words(&entries)),
+    };
+    if beside != beside_due {
+        return wrong();
+    }
+    Ok(Some(Shown {
+        marker: (marker, index, keys),
+        entries,
+        decided,
+        stop: stop == 1,
+        stop_decided: stop_decided == 1,
+    }))
+}
+
+fn rust_shows(list: Option<Vec<LogEntry<Change>>>, before: &State) -> Option<Shown> {
+    let mut shown = Shown::default();
+    for entry in list? {
+        match entry {
+            LogEntry::Trimmed(i) => shown.marker = (1, i as u64, 0),
+            LogEntry::Snapshotted(s) => {
+                assert_eq!(Some(&s.snapshot), before.snapshot().as_ref());
+                shown.marker = (2, s.trimmed_idx as u64, s.snapshot.0.len() as u64);
+            }
+            LogEntry::Decided(e) => {
+                assert_eq!(shown.decided, shown.entries.len() as u64);
+                shown.entries.push(e);
+                shown.decided += 1;
+            }
+            LogEntry::Undecided(e) => shown.entries.push(e),
+            LogEntry::StopSign(g, decided) => {
+                assert_eq!(Some(&g), before.stop_sign().as_ref());
+                shown.stop = true;
+                shown.stop_decided = decided;
+            }
+        }
+    }
+    Some(shown)
+}
+
+/// A read that docs/DIFFERENCES.md lists, and what the port is to show of it.
+fn read_listed(
+    a: &Bound<u64>,
+    b: &Bound<u64>,
+    before: &State,
+) -> Option<(&'static str, Option<Shown>)> {
+    let from = match a {
+        Bound::Included(i) => *i as u128,
+        Bound::Excluded(i) => *i as u128 + 1,
+        Bound::Unbounded => 0,
+    };
+    let to = match b {
+        Bound::Included(i) => *i as u128 + 1,
+        Bound::Excluded(i) => *i as u128,
+        Bound::Unbounded => before.accepted(),
+    };
+    let past_compacted = to > before.compacted as u128 && to <= before.accepted();
+    if past_compacted && from == u64::MAX as u128 {
+        return Some(("a read from 2^64-1", None));
+    }
+    let at_stop = before.stop_held && from == before.end();
+    (past_compacted && at_stop && to <= from).then(|| {
+        (
+            "a read at the stop-sign with to at or below from",
+            Some(Shown::default()),
+        )
+    })
+}
+
+fn log_sync(p: &Part) -> LogSync<Change> {
+    LogSync {
+        decided_snapshot: match p.kind {
+            Kind::Plain => None,
+            Kind::Complete => Some(SnapshotType::Complete(p.shot.held())),
+            Kind::Delta => Some(SnapshotType::Delta(p.shot.held())),
+        },
+        suffix: changes(&p.suffix, p.suffix.len() / 2),
+        sync_idx: p.idx as usize,
+        stopsign: p.stop.map(|sign| sign.held()),
+    }
+}
+
+/// The state that a delta sync is to leave.
+fn after_delta(before: &State, round: &Ballot, decided: u64, p: &Part) -> State {
+    let base = folded(before, before.log_decided());
+    let keys: Vec<Change> = merged(&base, &p.shot.held())
+        .0
+        .into_iter()
+        .map(|(key, place)| Change { key, place })
+        .collect();
+    let suffix = changes(&p.suffix, p.suffix.len() / 2);
+    let all = [suffix.clone(), before.batch()].concat();
+    let mut after = State {
+        compacted: p.idx,
+        decided: before.decided.max(decided),
+        round: *round,
+        stop_held: p.stop.is_some(),
+        stop: p.stop.unwrap_or_default(),
+        ..before.clone()
+    };
+    after = after.with_entries(&all, suffix.len());
+    after.with_shot(&keys)
+}
+
+fn operation(op: &Op, list: &List) -> StorageOp<Change> {
+    let entries = || changes(&list.entries, list.entries.len() / 2);
+    let index = op.index as usize;
+    match op.kind {
+        OpKind::AppendEntries => StorageOp::AppendEntries(entries()),
+        OpKind::AppendOnPrefix => StorageOp::AppendOnPrefix(index, entries()),
+        OpKind::SetPromise => StorageOp::SetPromise(op.ballot),
+        OpKind::SetDecidedIndex => StorageOp::SetDecidedIndex(index),
+        OpKind::SetAcceptedRound => StorageOp::SetAcceptedRound(op.ballot),
+        OpKind::SetCompactedIdx => StorageOp::SetCompactedIdx(index),
+        OpKind::Trim => StorageOp::Trim(index),
+        OpKind::SetStopsign => {
+            StorageOp::SetStopsign(list.stop.filter(|_| op.given).map(|sign| sign.held()))
+        }
+        OpKind::SetSnapshot => StorageOp::SetSnapshot(op.given.then(|| list.shot.held())),
+    }
 }
 
 impl Judge {
-    /// The Rust in a state that the port is in, if it is one that the Rust can be brought to.
+    /// The Rust in a state that the port is in.
     pub fn of(state: &State) -> Self {
         let shared = Shared(Rc::new(RefCell::new(Backend {
             start: state.compacted as usize,
-            log: state.retained.clone(),
+            log: state.entries(),
             promise: Some(state.promise),
             round: Some(state.round),
             decided: state.decided as usize,
             compacted: state.compacted as usize,
-            snapshot: state.snapshot.clone(),
-            stop: state.stop.clone(),
+            snapshot: state.snapshot(),
+            stop: state.stop_sign(),
         })));
         let mut storage = storage_of(&shared, state.size);
-        if !state.batched.is_empty() {
-            let flushed = storage
-                .append_entries_with_batching(state.batched.clone())
-                .unwrap();
+        let batch = state.batch();
+        if !batch.is_empty() {
+            let flushed = storage.append_entries_with_batching(batch).unwrap();
             assert!(flushed.is_none(), "a batch at its size is not well formed");
         }
         Judge { shared, storage }
@@ -229,321 +250,259 @@ impl Judge {
 
     /// Where the Rust's state is another than the port's. The batch's entries are not in sight: their number is, and they are compared
     /// when they are flushed.
-    fn apart(&self, port: &State) -> Option<String> {
+    fn apart(&self, port: &State) -> Result<(), String> {
         let s = &self.storage;
         let held = self.shared.0.borrow();
-        let sides = [
-            (
-                "compacted",
-                format!("{:?}", s.get_compacted_idx()),
-                format!("{:?}", port.compacted),
-            ),
-            (
-                "the run's start",
-                format!("{:?}", held.start),
-                format!("{:?}", port.compacted),
-            ),
-            (
-                "decided",
-                format!("{:?}", s.get_decided_idx()),
-                format!("{:?}", port.decided),
-            ),
-            (
-                "decided, stored",
-                format!("{:?}", held.decided),
-                format!("{:?}", port.decided),
-            ),
-            (
-                "accepted",
-                format!("{:?}", s.get_accepted_idx()),
-                format!("{:?}", port.accepted()),
-            ),
-            (
-                "promise",
-                format!("{:?}", s.get_promise()),
-                format!("{:?}", port.promise),
-            ),
-            (
-                "accepted round",
-                format!("{:?}", s.get_accepted_round()),
-                format!("{:?}", port.round),
-            ),
-            (
-                "batched",
-                format!("{:?}", s.get_batched_len()),
-                format!("{:?}", port.batched.len()),
-            ),
-            (
-                "the entries",
-                format!("{:?}", held.log),
-                format!("{:?}", port.retained),
-            ),
-            (
-                "the snapshot",
-                format!("{:?}", s.get_snapshot().unwrap()),
-                format!("{:?}", port.snapshot),
-            ),
-            (
-                "the stop-sign",
-                format!("{:?}", s.get_stopsign()),
-                format!("{:?}", port.stop),
-            ),
-            (
-                "the stop-sign, stored",
-                format!("{:?}", held.stop),
-                format!("{:?}", port.stop),
-            ),
-            (
-                "whether it is decided",
-                format!("{:?}", s.stopsign_is_decided()),
-                format!("{:?}", port.stop_decided()),
-            ),
-        ];
-        sides
-            .into_iter()
-            .find(|(_, rust, port)| rust != port)
-            .map(|(what, rust, port)| format!("{what}: the Rust has {rust}, the port {port}"))
+        let accepted = port.accepted() as usize;
+        differ(
+            "compacted",
+            &s.get_compacted_idx(),
+            &(port.compacted as usize),
+        )?;
+        differ("the run's start", &held.start, &(port.compacted as usize))?;
+        differ("decided", &s.get_decided_idx(), &(port.decided as usize))?;
+        differ("decided, stored", &held.decided, &(port.decided as usize))?;
+        differ("accepted", &s.get_accepted_idx(), &accepted)?;
+        differ("promise", &s.get_promise(), &port.promise)?;
+        differ("accepted round", &s.get_accepted_round(), &port.round)?;
+        differ("batched", &s.get_batched_len(), &(port.batched as usize))?;
+        differ("the entries", &held.log, &port.entries())?;
+        differ("the snapshot", &held.snapshot, &port.snapshot())?;
+        differ("the stop-sign", &s.get_stopsign(), &port.stop_sign())?;
+        differ("the stop-sign, stored", &held.stop, &port.stop_sign())?;
+        differ(
+            "whether it is decided",
+            &s.stopsign_is_decided(),
+            &port.stop_decided(),
+        )
     }
 
     /// An accepted call: the Rust's reply and state against the port's.
     pub fn judge(&mut self, call: &Call, before: &State, told: &Told) -> Verdict {
-        match call {
-            Call::Sync(
-                _,
-                _,
-                Some(Part {
-                    given: Given::Delta(_),
-                    ..
-                }),
-            ) => return Verdict::Listed("a delta sync"),
-            Call::Create(i) if before.stop_decided() && *i == before.decided => {
-                return Verdict::Listed("a creation at a decided stop-sign")
-            }
-            Call::Read(a, b) => {
-                let start = match a {
-                    Bound::Included(i) => *i,
-                    Bound::Excluded(i) => *i + 1,
-                    Bound::Unbounded => 0,
-                };
-                let to = match b {
-                    Bound::Included(i) => *i + 1,
-                    Bound::Excluded(i) => *i,
-                    Bound::Unbounded => before.accepted(),
-                };
-                if start == u64::MAX {
-                    return Verdict::Listed("a read from 2^64-1");
-                }
-                if before.stop.is_some()
-                    && start == before.end()
-                    && to <= start
-                    && to > before.compacted
-                {
-                    return Verdict::Listed("a read at the stop-sign up to it");
-                }
-            }
-            _ => (),
-        }
-        let reply = catch_unwind(AssertUnwindSafe(|| self.reply(call, before, told)));
-        match reply {
-            Err(_) => Verdict::Differs("the Rust panics".to_string()),
-            Ok(Some(what)) => Verdict::Differs(what),
-            Ok(None) => match self.apart(&told.after) {
-                Some(what) => Verdict::Differs(what),
-                None => Verdict::Same,
-            },
+        let due = catch_unwind(AssertUnwindSafe(|| self.replies(call, before, told)));
+        let verdict = match due {
+            Err(_) => return Verdict::Differs("the Rust panics".to_string()),
+            Ok(Err(what)) => return Verdict::Differs(what),
+            Ok(Ok(verdict)) => verdict,
+        };
+        // Of a state that is not well formed there is none in the Rust; what is accepted on it leaves it as it is.
+        let state = match told.after.well_formed() {
+            true => self.apart(told.after),
+            false => differ("the state", before, told.after),
+        };
+        match state {
+            Err(what) => Verdict::Differs(what),
+            Ok(()) => verdict,
         }
     }
 
-    /// The Rust's reply against the port's: where they differ.
-    fn reply(&mut self, call: &Call, before: &State, told: &Told) -> Option<String> {
-        let port = &told.answer;
-        let same = |rust: Vec<u64>| {
-            (rust != *port).then(|| format!("the Rust answers {rust:?}, the port {port:?}"))
-        };
-        let flushed = |meta: Option<AcceptedMetaData<Change>>, after: &State| match meta {
-            None => same(vec![1]),
-            Some(m) => same(vec![2, m.accepted_idx as u64, m.entries.len() as u64]).or_else(|| {
-                let shown = &after.retained[after.retained.len() - m.entries.len()..];
-                (m.entries != shown)
-                    .then(|| format!("the Rust flushes {:?}, the port {shown:?}", m.entries))
-            }),
-        };
-        let s = &mut self.storage;
+    /// The replies side by side.
+    fn replies(&mut self, call: &Call, before: &State, told: &Told) -> Result<Verdict, String> {
         match call {
+            Call::Read(form, a, b) => {
+                let ours = port_shows(*form, told.answer, before)?;
+                if let Some((name, due)) = read_listed(a, b, before) {
+                    differ("a listed read", &due, &ours)?;
+                    return Ok(Verdict::Listed(name));
+                }
+                let wide = |x: &Bound<u64>| x.map(|i| i as usize);
+                let rust = self.storage.read((wide(a), wide(b))).unwrap();
+                differ("the run", &rust_shows(rust, before), &ours)?;
+            }
+            Call::Create(i, _) if before.stop_decided() && *i == before.decided => {
+                let made = folded(before, before.log_decided());
+                written(1, &[], &made, told)?;
+                if self.storage.create_snapshot(*i as usize).unwrap() != made {
+                    return Ok(Verdict::Listed("a creation at a decided stop-sign"));
+                }
+            }
+            Call::Sync(round, decided, p) if p.held && p.kind == Kind::Delta => {
+                let due = after_delta(before, round, *decided, p);
+                differ("the state", &due, told.after)?;
+                let accepted = due.accepted() as u64;
+                differ("the answer", &[1, accepted][..], told.answer)?;
+                let rust = self
+                    .storage
+                    .sync_log(*round, *decided as usize, Some(log_sync(p)));
+                if rust.unwrap() as u64 != accepted || self.apart(&due).is_err() {
+                    *self = Judge::of(&due);
+                    return Ok(Verdict::Listed("a delta sync"));
+                }
+            }
+            Call::Write(_, list) => self.written_atomically(list, told)?,
             Call::Fresh(n) => {
-                self.shared = Shared::default();
-                self.storage = storage_of(&self.shared, *n);
-                same(vec![1])
+                differ("the answer", &[1][..], told.answer)?;
+                *self = Judge::of(&State::fresh(*n));
             }
             Call::Reload => {
                 self.storage = storage_of(&self.shared, before.size);
-                same(vec![1, self.storage.get_accepted_idx() as u64])
+                let accepted = self.storage.get_accepted_idx() as u64;
+                differ("the answer", &[1, accepted][..], told.answer)?;
             }
-            Call::AppendEntry(e) => flushed(s.append_entry_with_batching(*e).unwrap(), &told.after),
-            Call::Append(es) => flushed(
-                s.append_entries_with_batching(es.clone()).unwrap(),
-                &told.after,
-            ),
-            Call::AppendIdx(es) => match s.append_entries_and_get_accepted_idx(es.clone()).unwrap()
-            {
-                None => same(vec![1]),
-                Some(i) => same(vec![2, i as u64]),
+            _ if self.asked_of_storage(call, before, told)? => (),
+            _ => {
+                ours(call, before, told)?;
+                return Ok(Verdict::Ours);
+            }
+        }
+        Ok(Verdict::Same)
+    }
+
+    /// The list as the backend performs it, and the storage above it begun anew, with its batch.
+    fn written_atomically(&mut self, list: &List, told: &Told) -> Result<(), String> {
+        let ops = list.ops.iter().map(|op| operation(op, list)).collect();
+        self.shared
+            .write_atomically(ops)
+            .map_err(|e| e.to_string())?;
+        differ("the answer", &[1][..], told.answer)?;
+        self.storage = storage_of(&self.shared, told.after.size);
+        let batch = told.after.batch();
+        if !batch.is_empty() {
+            self.storage.append_entries_with_batching(batch).unwrap();
+        }
+        Ok(())
+    }
+
+    /// A call that the Rust's storage has: whether it is one.
+    fn asked_of_storage(
+        &mut self,
+        call: &Call,
+        before: &State,
+        told: &Told,
+    ) -> Result<bool, String> {
+        let port = told.answer;
+        let same = |rust: &[u64]| differ("the answer", rust, port);
+        let flushed = |meta: Option<AcceptedMetaData<Change>>| match meta {
+            None => same(&[1]),
+            Some(m) => {
+                same(&[2, m.accepted_idx as u64, m.entries.len() as u64])?;
+                let all = told.after.entries();
+                let shown = all[all.len() - m.entries.len()..].to_vec();
+                differ("what is flushed", &m.entries, &shown)
+            }
+        };
+        let part = |rust: Vec<Change>| {
+            let [1, first, count] = port[..] else {
+                return Err(format!("the port answers {port:?}"));
+            };
+            let shown = before.entries()[first as usize..(first + count) as usize].to_vec();
+            differ("the entries", &rust, &shown)
+        };
+        let list = |es: &[u64]| changes(es, es.len() / 2);
+        let s = &mut self.storage;
+        match call {
+            Call::GetAccepted => same(&[1, s.get_accepted_idx() as u64])?,
+            Call::StopIsDecided => same(&[1, s.stopsign_is_decided() as u64])?,
+            Call::AppendEntry(key, place) => flushed(
+                s.append_entry_with_batching(Change {
+                    key: *key,
+                    place: *place,
+                })
+                .unwrap(),
+            )?,
+            Call::Append(es) => flushed(s.append_entries_with_batching(list(es)).unwrap())?,
+            Call::AppendIdx(es) => match s.append_entries_and_get_accepted_idx(list(es)).unwrap() {
+                None => same(&[1])?,
+                Some(i) => same(&[2, i as u64])?,
             },
-            Call::AppendNow(es) => same(vec![
+            Call::AppendNow(es) => same(&[
                 1,
-                s.append_entries_without_batching(es.clone()).unwrap() as u64,
-            ]),
-            Call::Flush => same(vec![1, s.flush_batch().unwrap() as u64]),
-            Call::FlushEntries => flushed(s.flush_batch_and_get_entries().unwrap(), &told.after),
-            Call::AppendStop(g) => flushed(s.append_stopsign(g.clone()).unwrap(), &told.after),
-            Call::SetStop(g) => same(vec![1, s.set_stopsign(g.clone()).unwrap() as u64]),
+                s.append_entries_without_batching(list(es)).unwrap() as u64,
+            ])?,
+            Call::Flush => same(&[1, s.flush_batch().unwrap() as u64])?,
+            Call::FlushEntries => flushed(s.flush_batch_and_get_entries().unwrap())?,
+            Call::AppendStop(sign) => flushed(s.append_stopsign(sign.held()).unwrap())?,
+            Call::SetStop(sign) => {
+                let sign = sign.map(|sign| sign.held());
+                same(&[1, s.set_stopsign(sign).unwrap() as u64])?
+            }
             Call::Promise(b) => {
                 s.set_promise(*b).unwrap();
-                same(vec![1])
+                same(&[1])?
             }
-            Call::Decide(i) => {
+            Call::Decide(_, i) => {
                 s.set_decided_idx(*i as usize).unwrap();
-                same(vec![1])
-            }
-            Call::Read(a, b) => {
-                let wide = |x: &Bound<u64>| match x {
-                    Bound::Included(i) => Bound::Included(*i as usize),
-                    Bound::Excluded(i) => Bound::Excluded(*i as usize),
-                    Bound::Unbounded => Bound::Unbounded,
-                };
-                let rust = s.read((wide(a), wide(b))).unwrap();
-                shown_same(rust, port, before)
+                same(&[1])?
             }
             Call::ReadDecided(i) => {
                 let rust = s.read_decided_suffix(*i as usize).unwrap();
-                shown_same(rust, port, before)
+                let ours = port_shows(Form::Covered, port, before)?;
+                differ("the run", &rust_shows(rust, before), &ours)?
             }
-            Call::Entries(a, b) => part_same(
-                s.get_entries(*a as usize, *b as usize).unwrap(),
-                port,
-                before,
-            ),
-            Call::Suffix(a) => part_same(s.get_suffix(*a as usize).unwrap(), port, before),
-            Call::Lookup(k) => {
-                let end =
-                    (before.decided - before.stop_decided() as u64 - before.compacted) as usize;
-                let newest = before.retained[..end]
-                    .iter()
-                    .rev()
-                    .find(|e| e.key == *k)
-                    .map(|e| e.place);
-                let place = newest.unwrap_or_else(|| {
-                    before
-                        .snapshot
-                        .as_ref()
-                        .and_then(|s| s.0.get(k).copied().flatten())
-                });
-                same(place.map_or(vec![1], |p| vec![2, p]))
-            }
-            Call::Trim(i) => {
+            Call::Entries(a, b) => part(s.get_entries(*a as usize, *b as usize).unwrap())?,
+            Call::Suffix(a) => part(s.get_suffix(*a as usize).unwrap())?,
+            Call::Trim(_, i) => {
                 s.try_trim(*i as usize).unwrap();
-                same(vec![1])
+                same(&[1])?
             }
             Call::Snapshot(i) => {
                 s.try_snapshot(i.map(|i| i as usize)).unwrap();
-                same(vec![1])
+                same(&[1])?
             }
-            Call::Create(i) => {
+            Call::Create(i, _) => {
                 let made = s.create_snapshot(*i as usize).unwrap();
-                same(vec![1, made.0.len() as u64]).or_else(|| written(&made, &told.out))
+                written(1, &[], &made, told)?
             }
-            Call::Diff(i) => {
+            Call::Diff(i, _) => {
                 let (made, upto) = s.create_diff_snapshot(*i as usize).unwrap();
                 match made {
-                    None => same(vec![1, upto as u64]),
-                    Some(SnapshotType::Complete(c)) => same(vec![2, c.0.len() as u64, upto as u64])
-                        .or_else(|| written(&c, &told.out)),
-                    Some(SnapshotType::Delta(d)) => same(vec![3, d.0.len() as u64, upto as u64])
-                        .or_else(|| written(&d, &told.out)),
+                    None => same(&[1, upto as u64])?,
+                    Some(SnapshotType::Complete(c)) => written(2, &[upto as u64], &c, told)?,
+                    Some(SnapshotType::Delta(d)) => written(3, &[upto as u64], &d, told)?,
                 }
             }
-            Call::Sync(b, d, part) => {
-                let sync = part.as_ref().map(|p| LogSync {
-                    decided_snapshot: match &p.given {
-                        Given::Plain => None,
-                        Given::Complete(es) => Some(SnapshotType::Complete(keys_of(es))),
-                        Given::Delta(es) => Some(SnapshotType::Delta(keys_of(es))),
-                    },
-                    suffix: p.suffix.clone(),
-                    sync_idx: p.idx as usize,
-                    stopsign: p.stop.clone(),
-                });
-                same(vec![1, s.sync_log(*b, *d as usize, sync).unwrap() as u64])
+            Call::Sync(b, d, p) => {
+                let sync = p.held.then(|| log_sync(p));
+                same(&[1, s.sync_log(*b, *d as usize, sync).unwrap() as u64])?
             }
+            Call::Compare(a, b) => {
+                let order = match a.cmp(b) {
+                    Ordering::Less => 0,
+                    Ordering::Equal => 1,
+                    Ordering::Greater => 2,
+                };
+                same(&[1, order, (a == b) as u64])?
+            }
+            _ => return Ok(false),
         }
+        Ok(true)
     }
 }
 
-/// A snapshot against the words of the output area.
-fn written(made: &Keys, out: &[u64]) -> Option<String> {
-    let port = changes(out, made.0.len());
-    let rust: Vec<Change> = made
-        .0
-        .iter()
-        .map(|(k, p)| Change { key: *k, place: *p })
-        .collect();
-    (rust != port || out.len() > 2 * rust.len())
-        .then(|| format!("the Rust makes {rust:?}, the port {out:?}"))
-}
-
-fn part_same(rust: Vec<Change>, port: &[u64], before: &State) -> Option<String> {
-    let [1, first, count] = port[..] else {
-        return Some(format!("the port answers {port:?}"));
+/// A call of which the Rust has none: what document 01 says of it.
+fn ours(call: &Call, before: &State, told: &Told) -> Result<(), String> {
+    let same = |due: &[u64]| differ("the answer", due, told.answer);
+    let found = |keys: &Keys, key: &u64| match keys.0.get(key).copied().flatten() {
+        None => same(&[1]),
+        Some(place) => same(&[2, place]),
     };
-    let shown = &before.retained[first as usize..(first + count) as usize];
-    (rust != shown).then(|| format!("the Rust gives {rust:?}, the port {shown:?}"))
-}
-
-fn shown_same(rust: Option<Vec<LogEntry<Change>>>, port: &[u64], before: &State) -> Option<String> {
-    let ours = match port {
-        [1] => None,
-        [2, marker, index, keys, first, count, decided, stop, stop_decided] => Some(Shown {
-            marker: (*marker, *index, *keys),
-            entries: before.retained[*first as usize..(*first + *count) as usize].to_vec(),
-            decided: *decided,
-            stop: *stop == 1,
-            stop_decided: *stop_decided == 1,
-        }),
-        other => return Some(format!("the port answers {other:?}")),
+    let part = |first: u64, count: u64| {
+        let mut log = before.log.clone();
+        log.resize(before.lent[0], 0);
+        let (first, end) = (2 * first as u128, 2 * (first as u128 + count as u128));
+        let held = log.get(first as usize..end as usize);
+        let held = held.filter(|_| end <= before.lent[0] as u128);
+        let mut due = vec![1];
+        due.extend(area(held.unwrap_or_default()));
+        same(&due)
     };
-    let theirs = rust.as_ref().map(|list| {
-        let mut shown = Shown {
-            marker: (0, 0, 0),
-            entries: vec![],
-            decided: 0,
-            stop: false,
-            stop_decided: false,
-        };
-        for entry in list {
-            match entry {
-                LogEntry::Trimmed(i) => shown.marker = (1, *i as u64, 0),
-                LogEntry::Snapshotted(s) => {
-                    assert_eq!(Some(&s.snapshot), before.snapshot.as_ref());
-                    shown.marker = (2, s.trimmed_idx as u64, s.snapshot.0.len() as u64);
-                }
-                LogEntry::Decided(e) => {
-                    assert_eq!(
-                        shown.decided,
-                        shown.entries.len() as u64,
-                        "decided entries come first"
-                    );
-                    shown.entries.push(*e);
-                    shown.decided += 1;
-                }
-                LogEntry::Undecided(e) => shown.entries.push(*e),
-                LogEntry::StopSign(g, decided) => {
-                    assert_eq!(Some(g), before.stop.as_ref());
-                    shown.stop = true;
-                    shown.stop_decided = *decided;
-                }
-            }
+    match call {
+        Call::WellFormed => same(&[1, before.well_formed() as u64]),
+        Call::GetLogDecided => same(&[1, before.log_decided()]),
+        Call::Lookup(key) => found(&folded(before, before.log_decided()), key),
+        Call::Fold(es, _) => written(1, &[], &Keys::create(&changes(es, es.len() / 2)), told),
+        Call::Merge(n, shot, _) => {
+            let made = merged(&held_with(before, *n).held(), &shot.held());
+            written(1, &[], &made, told)
         }
-        shown
-    });
-    (theirs != ours).then(|| format!("the Rust shows {theirs:?}, the port {ours:?}"))
+        Call::Find(shot, key) => found(&shot.held(), key),
+        Call::ShotFormed(shot) => same(&[1, shot.formed() as u64]),
+        Call::EntriesFormed(es) => same(&[1, entries_formed(es) as u64]),
+        Call::PlaceFormed(word) => same(&[1, place_formed(*word) as u64]),
+        Call::SignFormed(sign) => same(&[1, sign.formed() as u64]),
+        Call::EntriesOf(first, count) => part(*first, *count),
+        Call::EntriesShown(2, first, count) => part(*first, *count),
+        Call::EntriesShown(..) => same(&[1, 0]),
+        other => Err(format!("{other:?} is judged nowhere")),
+    }
 }

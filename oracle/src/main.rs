@@ -1,27 +1,56 @@
 //! The Rust as the judge of the port.
 //!
 //!     oracle replay SCRIPT ANSWERS [SCRIPT ANSWERS ..]
-//!     oracle calls N SEED PROGRAM [ARGS..]
+//!     oracle calls STEPS EVERY N SEED PROGRAM [ARGS..]
+//!     oracle differences PROGRAM [ARGS..]
+//!     oracle record FOLDER PROGRAM [ARGS..]
 // The judged files hold more than is asked of them.
 #![allow(dead_code)]
 mod backend;
-mod calls;
+mod call;
+mod dice;
+mod differences;
+mod edges;
 mod judge;
 mod port;
+mod random;
+mod record;
 mod replay;
+mod rules;
+mod runner;
 mod shims;
+mod small;
+mod state;
 pub use shims::*;
 include!(concat!(env!("OUT_DIR"), "/judged.rs"));
+use runner::Runner;
+
+/// Small scopes up to so many steps, one boundary state in so many, and so many calls at random.
+fn calls(numbers: &[String], program: &[String]) -> Result<bool, String> {
+    let number = |at: usize| numbers[at].parse::<u64>().expect("a number");
+    let mut runner = Runner::start(program);
+    small::run(&mut runner, number(0))?;
+    edges::run(&mut runner, number(1) as usize)?;
+    random::run(&mut runner, number(2), number(3))?;
+    Ok(runner.report.print())
+}
 
 fn main() {
+    // A panic of the Rust is a difference that is told, not a trace.
+    std::panic::set_hook(Box::new(|_| ()));
     let words: Vec<String> = std::env::args().skip(1).collect();
-    let same = match words.first().map(String::as_str) {
-        Some("replay") => replay::run(&words[1..]),
-        Some("calls") if words.len() > 3 => {
-            let number = |at: usize| words[at].parse().expect("a number");
-            calls::run(number(1), number(2), &words[3..])
-        }
-        _ => panic!("oracle replay SCRIPT ANSWERS ..; oracle calls N SEED PROGRAM .."),
+    let found = match words.first().map(String::as_str) {
+        Some("replay") => Ok(replay::run(&words[1..])),
+        Some("calls") if words.len() > 5 => calls(&words[1..5], &words[5..]),
+        Some("differences") if words.len() > 1 => differences::run(&words[1..]),
+        Some("record") if words.len() > 2 => record::run(&words[1], &words[2..]),
+        _ => Err(
+            "usage: oracle replay | calls | differences | record, as src/main.rs says".to_string(),
+        ),
     };
+    let same = found.unwrap_or_else(|what| {
+        println!("A DIFFERENCE\n{what}");
+        false
+    });
     std::process::exit(!same as i32);
 }

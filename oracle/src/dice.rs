@@ -1,0 +1,382 @@
+//! Numbers, states and calls at random, the same at every run.
+use crate::backend::Change;
+use crate::ballot_leader_election::Ballot;
+use crate::call::{Call, Form, Kind, List, Op, OpKind, Part, OP_KINDS};
+use crate::state::{words, Shot, Sign, State, SHOT_WORDS};
+use std::collections::BTreeMap;
+use std::ops::Bound;
+
+/// xorshift64*
+pub struct Dice(u64);
+
+impl Dice {
+    pub fn of(seed: u64) -> Self {
+        Dice(0x9E37_79B9_7F4A_7C15 ^ seed)
+    }
+
+    fn roll(&mut self) -> u64 {
+        self.0 ^= self.0 >> 12;
+        self.0 ^= self.0 << 25;
+        self.0 ^= self.0 >> 27;
+        self.0.wrapping_mul(0x2545_F491_4F6C_DD1D)
+    }
+
+    pub fn below(&mut self, n: u64) -> u64 {
+        (self.roll() >> 11) % n
+    }
+
+    pub fn one_in(&mut self, n: u64) -> bool {
+        self.below(n) == 0
+    }
+
+    pub fn pick<T: Clone>(&mut self, from: &[T]) -> T {
+        from[self.below(from.len() as u64) as usize].clone()
+    }
+
+    /// An index near one that matters, or at an end of what an index may be.
+    fn index(&mut self, s: &State) -> u64 {
+        let accepted = s.accepted() as u64;
+        let near = [
+            0,
+            s.compacted,
+            s.decided,
+            s.end() as u64,
+            accepted,
+            accepted + s.batched,
+        ];
+        match self.below(20) {
+            0 => self.pick(&[(1 << 32) - 1, 1 << 32, u64::MAX - 1, u64::MAX, 1 << 63]),
+            1..=5 => s.compacted + self.below(accepted - s.compacted + 4),
+            _ => {
+                let at = self.pick(&near);
+                self.pick(&[at, at, at + 1, at.saturating_sub(1), at + 2])
+            }
+        }
+    }
+
+    fn key(&mut self, wide: bool) -> u64 {
+        if wide {
+            return self.below(2000);
+        }
+        self.pick(&[0, 1, 2, 3, 5, 9, u64::MAX, 1 << 63])
+    }
+
+    fn change(&mut self, wide: bool) -> Change {
+        let place = self.pick(&[Some(0), Some(1), Some((1 << 48) - 1), None]);
+        let place = if self.one_in(2) {
+            Some(self.below(1000))
+        } else {
+            place
+        };
+        Change {
+            key: self.key(wide),
+            place,
+        }
+    }
+
+    fn changes(&mut self, n: u64, wide: bool) -> Vec<Change> {
+        (0..n).map(|_| self.change(wide)).collect()
+    }
+
+    /// The words of some entries; one list in 60 is out of form.
+    fn entries(&mut self, wide: bool) -> Vec<u64> {
+        let n = match self.below(12) {
+            0 => 0,
+            1..=7 => 1 + self.below(4),
+            8..=10 => self.below(70),
+            _ if wide => self.below(1025),
+            _ => self.below(20),
+        };
+        let mut words = words(&self.changes(n, wide));
+        if n > 0 && self.one_in(60) {
+            self.bend(&mut words);
+        }
+        words
+    }
+
+    /// Makes entries of another form: an odd number of words, or a place that is none.
+    fn bend(&mut self, words: &mut Vec<u64>) {
+        if self.one_in(2) {
+            words.pop();
+            return;
+        }
+        let at = 2 * self.below(words.len() as u64 / 2) as usize + 1;
+        words[at] = self.pick(&[1 << 48, u64::MAX - 1]);
+    }
+
+    /// So many different keys, ascending.
+    fn keys(&mut self, n: u64, wide: bool) -> Vec<Change> {
+        let mut keys = BTreeMap::new();
+        while (keys.len() as u64) < n {
+            let c = self.change(wide);
+            keys.insert(c.key, c.place);
+        }
+        keys.into_iter()
+            .map(|(key, place)| Change { key, place })
+            .collect()
+    }
+
+    /// A snapshot; one in 30 is out of form.
+    fn shot(&mut self, wide: bool) -> Shot {
+        let n = if wide && self.one_in(3) {
+            505 + self.below(8)
+        } else {
+            self.below(6)
+        };
+        let mut shot = Shot::of(&self.keys(n, wide));
+        if self.one_in(30) {
+            match self.below(5) {
+                0 => shot.words.truncate(SHOT_WORDS - 2),
+                1 => shot.keys = self.pick(&[n + 1, 513, u64::MAX]),
+                2 if n > 0 => shot.keys -= 1,
+                3 if n > 1 => shot.words.swap(0, 2),
+                _ => shot.words[SHOT_WORDS - 1] = 1,
+            }
+        }
+        shot
+    }
+
+    /// A stop-sign; one in 12 is out of form.
+    fn sign(&mut self) -> Sign {
+        let nodes: Vec<u64> = (0..1 + self.below(7)).map(|_| self.below(9)).collect();
+        let metadata: Option<Vec<u8>> = if self.one_in(2) {
+            None
+        } else {
+            Some((0..self.below(33)).map(|_| self.below(256) as u8).collect())
+        };
+        let config = self.pick(&[0, 1, 7, u32::MAX]);
+        let mut sign = Sign::of(config, &nodes, metadata.as_deref());
+        if self.one_in(12) {
+            match self.below(4) {
+                0 => sign.node_count = self.pick(&[0, 8, u64::MAX]),
+                1 => sign.metadata_len = self.pick(&[33, u64::MAX]),
+                2 => sign.metadata[31] = 1,
+                _ => sign.nodes[6] = 1,
+            }
+        }
+        sign
+    }
+
+    fn ballot(&mut self) -> Ballot {
+        Ballot::with(
+            self.below(3) as u32,
+            self.below(4) as u32,
+            self.below(3) as u32,
+            self.below(4),
+        )
+    }
+
+    /// How many words of the output area are lent.
+    fn output(&mut self) -> usize {
+        if self.one_in(40) {
+            self.pick(&[0, 1023])
+        } else {
+            SHOT_WORDS
+        }
+    }
+
+    fn form(&mut self) -> Form {
+        self.pick(&[Form::Covered, Form::Covered, Form::ByHand])
+    }
+
+    fn bound(&mut self, s: &State) -> Bound<u64> {
+        let i = self.index(s);
+        self.pick(&[
+            Bound::Included(i),
+            Bound::Excluded(i),
+            Bound::Included(i),
+            Bound::Excluded(i),
+            Bound::Unbounded,
+        ])
+    }
+
+    fn read(&mut self, s: &State) -> Call {
+        let (from, to) = (self.bound(s), self.bound(s));
+        Call::Read(self.form(), from, to)
+    }
+
+    fn sync(&mut self, s: &State, wide: bool) -> Call {
+        let part = Part {
+            held: !self.one_in(4),
+            idx: self.index(s),
+            kind: self.pick(&[Kind::Plain, Kind::Plain, Kind::Complete, Kind::Delta]),
+            shot: self.shot(wide),
+            suffix: self.entries(wide),
+            stop: self.one_in(6).then(|| self.sign()),
+        };
+        Call::Sync(self.ballot(), self.index(s), part)
+    }
+
+    fn op(&mut self, s: &State) -> Op {
+        Op {
+            kind: self.pick(&OP_KINDS),
+            index: self.index(s),
+            given: self.one_in(2),
+            ballot: self.ballot(),
+        }
+    }
+
+    /// An operation list. A trim and the compacted index mostly come together, as a list that stands needs them.
+    fn list(&mut self, s: &State, wide: bool) -> List {
+        let mut ops = vec![];
+        for _ in 0..self.pick(&[0, 1, 1, 1, 2, 2, 3, 4, 8, 9]) {
+            let op = self.op(s);
+            let pair = match op.kind {
+                OpKind::Trim => Some(OpKind::SetCompactedIdx),
+                OpKind::SetCompactedIdx => Some(OpKind::Trim),
+                _ => None,
+            };
+            ops.push(op);
+            if let Some(kind) = pair.filter(|_| ops.len() < 8 && !self.one_in(5)) {
+                ops.push(Op { kind, ..op });
+            }
+        }
+        List {
+            ops,
+            entries: self.entries(wide),
+            shot_lent: self.one_in(2),
+            shot: self.shot(wide),
+            stop: self.one_in(2).then(|| self.sign()),
+        }
+    }
+
+    fn plain(&mut self, s: &State, wide: bool) -> Call {
+        let count = self.pick(&[0, 1, 2, s.retained, 1023, 1024, u64::MAX]);
+        let first = self.pick(&[0, 1, s.retained, 1023, 1024, 1 << 63, u64::MAX]);
+        match self.below(14) {
+            0..=2 => Call::Fold(self.entries(wide), self.output()),
+            3..=5 => {
+                let keys = self.pick(&[s.keys, s.keys, s.keys, s.keys + 1]);
+                Call::Merge(keys, self.shot(wide), self.output())
+            }
+            6 => Call::Find(self.shot(wide), self.key(wide)),
+            7 => Call::ShotFormed(self.shot(wide)),
+            8 => Call::EntriesFormed(self.entries(wide)),
+            9 => Call::PlaceFormed(self.pick(&[0, (1 << 48) - 1, 1 << 48, u64::MAX - 1, u64::MAX])),
+            10 => Call::SignFormed(self.sign()),
+            11 => Call::Compare(self.ballot(), self.ballot()),
+            12 => Call::EntriesOf(first, count),
+            _ => Call::EntriesShown(self.below(3), first, count),
+        }
+    }
+
+    pub fn call(&mut self, s: &State, wide: bool) -> Call {
+        match self.below(110) {
+            0..=15 => {
+                let c = self.change(wide);
+                let place = if self.one_in(50) {
+                    self.pick(&[Some(1 << 48), Some(u64::MAX)])
+                } else {
+                    c.place
+                };
+                Call::AppendEntry(c.key, place)
+            }
+            16..=23 => Call::Append(self.entries(wide)),
+            24..=27 => Call::AppendIdx(self.entries(wide)),
+            28..=33 => Call::AppendNow(self.entries(wide)),
+            34..=36 => Call::Flush,
+            37..=39 => Call::FlushEntries,
+            40 => Call::AppendStop(self.sign()),
+            41..=42 => Call::SetStop(self.one_in(2).then(|| self.sign())),
+            43 => Call::Promise(self.ballot()),
+            44..=56 => Call::Decide(self.form(), self.index(s)),
+            57..=64 => self.read(s),
+            65..=66 => Call::ReadDecided(self.index(s)),
+            67..=68 => Call::Entries(self.index(s), self.index(s)),
+            69 => Call::Suffix(self.index(s)),
+            70..=72 => Call::Lookup(self.key(wide)),
+            73..=76 => Call::Trim(self.form(), self.index(s)),
+            77..=81 => Call::Snapshot((!self.one_in(3)).then(|| self.index(s))),
+            82..=84 => Call::Create(self.index(s), self.output()),
+            85..=87 => Call::Diff(self.index(s), self.output()),
+            88..=94 => self.sync(s, wide),
+            95..=98 => Call::Write(self.form(), self.list(s, wide)),
+            99 => self.pick(&[
+                Call::Reload,
+                Call::GetAccepted,
+                Call::GetLogDecided,
+                Call::StopIsDecided,
+                Call::WellFormed,
+            ]),
+            100..=104 => self.plain(s, wide),
+            105 if self.one_in(20) => Call::Fresh(self.pick(&[0, 1, 2, 63, 64, 65, u64::MAX])),
+            _ => Call::Decide(Form::Covered, s.accepted() as u64),
+        }
+    }
+
+    /// A well-formed state: mostly a fresh one.
+    pub fn state(&mut self, wide: bool) -> State {
+        let size = self.pick(&[0, 0, 1, 2, 2, 3, 5, 63, 64]);
+        if !self.one_in(3) {
+            return State::fresh(size);
+        }
+        loop {
+            let retained = match wide {
+                true => self.pick(&[0, 1, 511, 512, 513, 1000, 1023, 1024]),
+                false => self.below(6),
+            };
+            let batched = self.below(size.max(1));
+            let entries = self.changes(retained + batched, wide);
+            let mut s = State::fresh(size).with_entries(&entries, retained as usize);
+            s.compacted = self.pick(&[0, 1, 2, 1 << 31, (1 << 32) - 1 - retained - batched]);
+            s.compacted = s.compacted.saturating_sub(self.below(3));
+            s.promise = self.ballot();
+            s.round = self.ballot();
+            if self.one_in(2) {
+                let n = if wide {
+                    self.pick(&[0, 1, 511, 512])
+                } else {
+                    self.below(6)
+                };
+                s = s.with_shot(&self.keys(n, wide));
+            }
+            if self.one_in(3) {
+                s = s.with_stop(self.sign());
+            }
+            s.decided = s.compacted + self.below(s.accepted() as u64 - s.compacted + 1);
+            if s.well_formed() {
+                return s;
+            }
+        }
+    }
+
+    /// A line that sets something of the state to something else.
+    pub fn spoil(&mut self, s: &State) -> Vec<u64> {
+        match self.below(4) {
+            0 => {
+                let at = self.pick(&[0, 1, 2 * (s.retained + s.batched), 2046, 2047]);
+                vec![2, 0, at.min(2047), self.pick(&[0, 1, 1 << 48, u64::MAX])]
+            }
+            1 => {
+                let at = self.pick(&[0, 1, 2, 3, 2 * s.keys, 1023]);
+                vec![2, 1, at.min(1023), self.pick(&[0, 1, 1 << 48, u64::MAX])]
+            }
+            2 if self.one_in(4) => self.pick(&[
+                vec![3, 0, 2047],
+                vec![3, 0, 0],
+                vec![3, 1, 1023],
+                vec![3, 1, 2],
+            ]),
+            _ => {
+                let f = self.below(59);
+                let old = s.fields()[f as usize];
+                let v = match f {
+                    13 | 15 | 25 => 1 - old,
+                    5..=7 | 9..=11 | 16 => self.pick(&[0, 1, u32::MAX as u64]),
+                    27..=58 => self.pick(&[0, 1, 255]),
+                    _ => self.pick(&[
+                        0,
+                        1,
+                        old.wrapping_add(1),
+                        old.wrapping_sub(1),
+                        65,
+                        1025,
+                        1 << 32,
+                        u64::MAX,
+                    ]),
+                };
+                vec![4, f, v]
+            }
+        }
+    }
+}

@@ -1,0 +1,222 @@
+//! The port and the Rust side by side: each call is asked of the program; its refusal is held to document 01's rules, and where it is
+//! not refused its reply and the whole state after it are held to the Rust's.
+use crate::call::Call;
+use crate::judge::{Judge, Told, Verdict};
+use crate::port::Port;
+use crate::record::Sample;
+use crate::rules;
+use crate::state::State;
+use std::collections::BTreeMap;
+
+#[derive(Default)]
+pub struct Report {
+    /// call, then refusal number (0: accepted)
+    counts: BTreeMap<&'static str, BTreeMap<u64, u64>>,
+    listed: BTreeMap<&'static str, u64>,
+    same: u64,
+    ours: u64,
+}
+
+impl Report {
+    pub fn asked(&self) -> u64 {
+        self.counts.values().flat_map(|row| row.values()).sum()
+    }
+
+    /// How many calls were answered otherwise than by the Rust, as is listed.
+    pub fn listed(&self) -> u64 {
+        self.listed.values().sum()
+    }
+
+    /// What no call of this run met: an exported call that was never accepted, or a refusal that it never gave.
+    fn missing(&self) -> Vec<String> {
+        let met =
+            |name: &str, n: &u64| self.counts.get(name).is_some_and(|row| row.contains_key(n));
+        Call::all()
+            .into_iter()
+            .flat_map(|(name, refusals)| {
+                [vec![0], refusals]
+                    .concat()
+                    .into_iter()
+                    .map(move |n| (name, n))
+            })
+            .filter(|(name, n)| !met(name, n))
+            .map(|(name, n)| format!("{name} {}", cell(n)))
+            .collect()
+    }
+
+    /// Prints the table. Whether everything was met.
+    pub fn print(&self) -> bool {
+        println!("call × refusal × how often (`-` is accepted)");
+        for (name, row) in &self.counts {
+            let cells: Vec<String> = row
+                .iter()
+                .map(|(n, times)| format!("{}:{times}", cell(*n)))
+                .collect();
+            println!("  {name:46} {}", cells.join("  "));
+        }
+        for (name, times) in &self.listed {
+            println!("  not as the Rust, listed: {name}: {times}");
+        }
+        let asked = self.asked();
+        let refused: u64 = asked
+            - self
+                .counts
+                .values()
+                .filter_map(|row| row.get(&0))
+                .sum::<u64>();
+        println!(
+            "{asked} calls: {} as the Rust, {} of calls that it has not, {refused} refused as document 01 says",
+            self.same, self.ours
+        );
+        let missing = self.missing();
+        for cell in &missing {
+            println!("NOT MET: {cell}");
+        }
+        missing.is_empty()
+    }
+}
+
+fn cell(refusal: u64) -> String {
+    match refusal {
+        0 => "-".to_string(),
+        n => n.to_string(),
+    }
+}
+
+pub struct Runner {
+    pub port: Port,
+    pub report: Report,
+    /// What is kept of the calls, where some are.
+    pub sample: Option<Sample>,
+    pub state: State,
+    /// What the last call was answered.
+    pub answer: Vec<u64>,
+    output: Vec<u64>,
+    /// The Rust in the same state, where that is well formed.
+    judge: Option<Judge>,
+    /// The state that was set last, and the calls since.
+    from: State,
+    path: Vec<Call>,
+}
+
+impl Runner {
+    pub fn start(command: &[String]) -> Self {
+        let fresh = State::fresh(0);
+        Runner {
+            port: Port::start(command),
+            report: Report::default(),
+            sample: None,
+            answer: vec![],
+            output: vec![],
+            judge: Some(Judge::of(&fresh)),
+            from: fresh.clone(),
+            state: fresh,
+            path: vec![],
+        }
+    }
+
+    /// Brings both into a state.
+    pub fn set(&mut self, state: &State) {
+        let mut lines = state.lines_from(&self.state);
+        lines.push(vec![0]);
+        let answers = self.port.ask(lines);
+        let shown = State::read(answers.last().unwrap(), state.lent);
+        assert_eq!(shown, *state, "a state that is set is shown");
+        self.stand(shown);
+    }
+
+    /// Changes the port's state by lines that set.
+    pub fn poke(&mut self, line: Vec<u64>) {
+        let mut lent = self.state.lent;
+        if line[0] == 3 {
+            lent[line[1] as usize] = line[2] as usize;
+        }
+        let answers = self.port.ask(vec![line, vec![0]]);
+        self.stand(State::read(answers.last().unwrap(), lent));
+    }
+
+    fn stand(&mut self, state: State) {
+        self.judge = state.well_formed().then(|| Judge::of(&state));
+        self.from = state.clone();
+        self.state = state;
+        self.path.clear();
+    }
+
+    fn ask(&mut self, call: &Call) -> (Vec<u64>, State, Vec<u64>) {
+        let mut lines = call.lines();
+        lines.push(vec![0]);
+        if call.writes() {
+            lines.push(vec![1, 4]);
+        }
+        let mut answers = self.port.ask(lines);
+        let output = match call.writes() {
+            true => answers.pop().unwrap()[1..].to_vec(),
+            false => self.output.clone(),
+        };
+        let after = State::read(&answers.pop().unwrap(), self.state.lent);
+        (answers.pop().unwrap(), after, output)
+    }
+
+    /// One call. Whether the port accepts it, or the difference found, with the calls that led there.
+    pub fn turn(&mut self, call: &Call) -> Result<bool, String> {
+        self.path.push(call.clone());
+        let (answer, after, output) = self.ask(call);
+        let due = rules::refusal(&self.state, call);
+        let refused = match answer[..] {
+            [0, number, carried] => Some((number, carried)),
+            _ => None,
+        };
+        *self
+            .report
+            .counts
+            .entry(call.name())
+            .or_default()
+            .entry(refused.map_or(0, |(number, _)| number))
+            .or_default() += 1;
+        if refused != due {
+            return Err(self.difference(&format!(
+                "document 01 says {due:?}, the port answers {answer:?}"
+            )));
+        }
+        if let Some(sample) = &mut self.sample {
+            sample.offer(&self.state, call, &answer);
+        }
+        if refused.is_some() {
+            if after != self.state || output != self.output {
+                return Err(self.difference("a refused call changed a word"));
+            }
+            return Ok(false);
+        }
+        let told = Told {
+            answer: &answer,
+            out: &output,
+            after: &after,
+        };
+        let judge = self
+            .judge
+            .get_or_insert_with(|| Judge::of(&State::fresh(0)));
+        match judge.judge(call, &self.state, &told) {
+            Verdict::Same => self.report.same += 1,
+            Verdict::Ours => self.report.ours += 1,
+            Verdict::Listed(name) => *self.report.listed.entry(name).or_default() += 1,
+            Verdict::Differs(what) => return Err(self.difference(&what)),
+        }
+        self.output = output;
+        self.state = after;
+        self.answer = answer;
+        Ok(true)
+    }
+
+    fn difference(&self, what: &str) -> String {
+        let mut lines = vec![what.to_string(), format!("from {:?}", self.from)];
+        lines.extend(self.path.iter().map(|call| format!("  {call:?}")));
+        for line in &mut lines {
+            if line.len() > 500 {
+                line.truncate(500);
+                line.push_str(" ..");
+            }
+        }
+        lines.push(format!("after {} calls of this run", self.report.asked()));
+        lines.join("\n")
+    }
+}

@@ -1,0 +1,382 @@
+//! A state as the program `calls` shows it, well formed or not, and what document 01 says of it.
+use crate::backend::{Change, Keys};
+use crate::ballot_leader_election::Ballot;
+use crate::port::put;
+use crate::storage::StopSign;
+use crate::ClusterConfig;
+
+pub const REMOVED: u64 = u64::MAX;
+pub const PLACES: u64 = 1 << 48;
+pub const LOG_WORDS: usize = 2048;
+pub const SHOT_WORDS: usize = 1024;
+pub const ENTRIES: usize = 1024;
+pub const KEYS: usize = 512;
+pub const LARGEST: u128 = 4_294_967_295;
+
+/// Words as entries.
+pub fn changes(words: &[u64], n: usize) -> Vec<Change> {
+    let word = |at: usize| words.get(at).copied().unwrap_or(0);
+    (0..n)
+        .map(|i| {
+            let place = word(2 * i + 1);
+            Change {
+                key: word(2 * i),
+                place: (place != REMOVED).then_some(place),
+            }
+        })
+        .collect()
+}
+
+pub fn words(entries: &[Change]) -> Vec<u64> {
+    entries
+        .iter()
+        .flat_map(|e| [e.key, e.place.unwrap_or(REMOVED)])
+        .collect()
+}
+
+pub fn place_formed(word: u64) -> bool {
+    word < PLACES || word == REMOVED
+}
+
+/// An entry slice in form.
+pub fn entries_formed(words: &[u64]) -> bool {
+    words.len() % 2 == 0 && words.iter().skip(1).step_by(2).all(|w| place_formed(*w))
+}
+
+/// A lent snapshot: its words, as many as are lent, and the number of keys said of it.
+#[derive(Clone, Debug, PartialEq)]
+pub struct Shot {
+    pub keys: u64,
+    pub words: Vec<u64>,
+}
+
+impl Shot {
+    pub fn of(entries: &[Change]) -> Self {
+        let mut words = words(entries);
+        words.resize(SHOT_WORDS, 0);
+        Shot {
+            keys: entries.len() as u64,
+            words,
+        }
+    }
+
+    pub fn formed(&self) -> bool {
+        let n = self.keys as usize;
+        self.words.len() == SHOT_WORDS
+            && self.keys <= KEYS as u64
+            && entries_formed(&self.words[..2 * n])
+            && (1..n).all(|i| self.words[2 * i - 2] < self.words[2 * i])
+            && self.words[2 * n..].iter().all(|w| *w == 0)
+    }
+
+    pub fn held(&self) -> Keys {
+        let list = changes(&self.words, self.keys as usize);
+        Keys(list.iter().map(|e| (e.key, e.place)).collect())
+    }
+}
+
+/// A stop-sign as its fields.
+#[derive(Clone, Copy, Debug, Default, PartialEq)]
+pub struct Sign {
+    pub config: u32,
+    pub node_count: u64,
+    pub nodes: [u64; 7],
+    pub metadata_held: bool,
+    pub metadata_len: u64,
+    pub metadata: [u8; 32],
+}
+
+impl Sign {
+    pub fn of(config: u32, nodes: &[u64], metadata: Option<&[u8]>) -> Self {
+        let mut sign = Sign {
+            config,
+            node_count: nodes.len() as u64,
+            metadata_held: metadata.is_some(),
+            ..Sign::default()
+        };
+        sign.nodes[..nodes.len()].copy_from_slice(nodes);
+        if let Some(bytes) = metadata {
+            sign.metadata_len = bytes.len() as u64;
+            sign.metadata[..bytes.len()].copy_from_slice(bytes);
+        }
+        sign
+    }
+
+    pub fn formed(&self) -> bool {
+        (1..=7).contains(&self.node_count)
+            && self.metadata_len <= 32
+            && (self.metadata_held || self.metadata_len == 0)
+            && self.nodes[self.node_count as usize..]
+                .iter()
+                .all(|w| *w == 0)
+            && self.metadata[self.metadata_len as usize..]
+                .iter()
+                .all(|b| *b == 0)
+    }
+
+    pub fn held(&self) -> StopSign {
+        StopSign::with(
+            ClusterConfig {
+                configuration_id: self.config,
+                nodes: self.nodes[..self.node_count as usize].to_vec(),
+                flexible_quorum: None,
+            },
+            self.metadata_held
+                .then(|| self.metadata[..self.metadata_len as usize].to_vec()),
+        )
+    }
+
+    /// Its fields in docs/CALLS.md's order.
+    pub fn fields(&self) -> Vec<u64> {
+        let mut fields = vec![self.config as u64, self.node_count];
+        fields.extend(self.nodes);
+        fields.extend([self.metadata_held as u64, self.metadata_len]);
+        fields.extend(self.metadata.map(|b| b as u64));
+        fields
+    }
+
+    /// The lines that lend it as an argument.
+    pub fn lines(&self) -> Vec<Vec<u64>> {
+        (0..)
+            .zip(self.fields())
+            .map(|(i, v)| vec![5, i, v])
+            .collect()
+    }
+}
+
+/// The record and the words of log and snapshot, as line 0 shows them: without the zeros at the end. `lent` says how many words of each
+/// are lent.
+#[derive(Clone, Debug, PartialEq)]
+pub struct State {
+    pub size: u64,
+    pub retained: u64,
+    pub batched: u64,
+    pub compacted: u64,
+    pub decided: u64,
+    pub promise: Ballot,
+    pub round: Ballot,
+    pub snapshot_held: bool,
+    pub keys: u64,
+    pub stop_held: bool,
+    pub stop: Sign,
+    pub log: Vec<u64>,
+    pub shot: Vec<u64>,
+    pub lent: [usize; 2],
+}
+
+/// Words without the zeros at their end.
+pub fn trimmed(mut words: Vec<u64>) -> Vec<u64> {
+    while words.last() == Some(&0) {
+        words.pop();
+    }
+    words
+}
+
+/// The lines that make an area's words these, from others.
+fn words_from(area: u64, due: &[u64], held: &[u64]) -> Vec<Vec<u64>> {
+    let word = |words: &[u64], i: usize| words.get(i).copied().unwrap_or(0);
+    let apart = |i: &usize| word(due, *i) != word(held, *i);
+    let all = 0..due.len().max(held.len());
+    let (Some(first), Some(last)) = (all.clone().find(apart), all.rev().find(apart)) else {
+        return vec![];
+    };
+    let words: Vec<u64> = (first..=last).map(|i| word(due, i)).collect();
+    put(area, first as u64, &words)
+}
+
+impl State {
+    pub fn fresh(size: u64) -> Self {
+        State {
+            size,
+            retained: 0,
+            batched: 0,
+            compacted: 0,
+            decided: 0,
+            promise: Ballot::default(),
+            round: Ballot::default(),
+            snapshot_held: false,
+            keys: 0,
+            stop_held: false,
+            stop: Sign::default(),
+            log: vec![],
+            shot: vec![],
+            lent: [LOG_WORDS, SHOT_WORDS],
+        }
+    }
+
+    /// The same with other entries: so many of them retained, the rest batched.
+    pub fn with_entries(mut self, entries: &[Change], retained: usize) -> Self {
+        self.log = trimmed(words(entries));
+        self.retained = retained as u64;
+        self.batched = (entries.len() - retained) as u64;
+        self
+    }
+
+    pub fn with_shot(mut self, keys: &[Change]) -> Self {
+        self.snapshot_held = true;
+        self.keys = keys.len() as u64;
+        self.shot = trimmed(words(keys));
+        self
+    }
+
+    pub fn with_stop(mut self, sign: Sign) -> Self {
+        self.stop_held = true;
+        self.stop = sign;
+        self
+    }
+
+    /// What line 0 answers.
+    pub fn read(answer: &[u64], lent: [usize; 2]) -> Self {
+        let mut at = answer.iter().copied();
+        let mut next = || at.next().expect("a state is cut off");
+        let (size, retained, batched, compacted, decided) =
+            (next(), next(), next(), next(), next());
+        let mut ballot = || Ballot::with(next() as u32, next() as u32, next() as u32, next());
+        let (promise, round) = (ballot(), ballot());
+        let (snapshot_held, keys, stop_held) = (next() == 1, next(), next() == 1);
+        let area = |next: &mut dyn FnMut() -> u64| -> Vec<u64> {
+            let n = next();
+            (0..n).map(|_| next()).collect()
+        };
+        let mut stop = Sign {
+            config: next() as u32,
+            node_count: next(),
+            ..Sign::default()
+        };
+        for (to, from) in stop.nodes.iter_mut().zip(area(&mut next)) {
+            *to = from;
+        }
+        stop.metadata_held = next() == 1;
+        stop.metadata_len = next();
+        for (to, from) in stop.metadata.iter_mut().zip(area(&mut next)) {
+            *to = from as u8;
+        }
+        let log = area(&mut next);
+        let shot = area(&mut next);
+        assert!(at.next().is_none(), "a state is followed by more");
+        State {
+            size,
+            retained,
+            batched,
+            compacted,
+            decided,
+            promise,
+            round,
+            snapshot_held,
+            keys,
+            stop_held,
+            stop,
+            log,
+            shot,
+            lent,
+        }
+    }
+
+    /// The record's fields in docs/CALLS.md's order.
+    pub fn fields(&self) -> Vec<u64> {
+        let ballot = |b: &Ballot| [b.config_id as u64, b.n as u64, b.priority as u64, b.pid];
+        let mut fields = vec![
+            self.size,
+            self.retained,
+            self.batched,
+            self.compacted,
+            self.decided,
+        ];
+        fields.extend(ballot(&self.promise));
+        fields.extend(ballot(&self.round));
+        fields.extend([self.snapshot_held as u64, self.keys, self.stop_held as u64]);
+        fields.extend(self.stop.fields());
+        fields
+    }
+
+    /// The lines that bring the program into this state from another.
+    pub fn lines_from(&self, now: &State) -> Vec<Vec<u64>> {
+        let mut lines: Vec<Vec<u64>> = (0..)
+            .zip(self.fields().into_iter().zip(now.fields()))
+            .filter(|(_, (due, held))| due != held)
+            .map(|(f, (due, _))| vec![4, f, due])
+            .collect();
+        lines.extend(words_from(0, &self.log, &now.log));
+        lines.extend(words_from(1, &self.shot, &now.shot));
+        for area in [0, 1] {
+            if self.lent[area] != now.lent[area] {
+                lines.push(vec![3, area as u64, self.lent[area] as u64]);
+            }
+        }
+        lines
+    }
+
+    pub fn end(&self) -> u128 {
+        self.compacted as u128 + self.retained as u128
+    }
+
+    pub fn accepted(&self) -> u128 {
+        self.end() + self.stop_held as u128
+    }
+
+    pub fn stop_decided(&self) -> bool {
+        self.stop_held && self.decided as u128 == self.accepted()
+    }
+
+    pub fn log_decided(&self) -> u64 {
+        self.decided - self.stop_decided() as u64
+    }
+
+    pub fn entries(&self) -> Vec<Change> {
+        changes(&self.log, self.retained as usize)
+    }
+
+    pub fn batch(&self) -> Vec<Change> {
+        let all = changes(&self.log, (self.retained + self.batched) as usize);
+        all[self.retained as usize..].to_vec()
+    }
+
+    pub fn held_shot(&self) -> Shot {
+        let mut words = self.shot.clone();
+        words.resize(self.lent[1], 0);
+        Shot {
+            keys: self.keys,
+            words,
+        }
+    }
+
+    pub fn snapshot(&self) -> Option<Keys> {
+        self.snapshot_held.then(|| self.held_shot().held())
+    }
+
+    pub fn stop_sign(&self) -> Option<StopSign> {
+        self.stop_held.then(|| self.stop.held())
+    }
+
+    fn log_formed(&self) -> bool {
+        let n = self.retained as u128 + self.batched as u128;
+        self.lent[0] == LOG_WORDS
+            && n <= ENTRIES as u128
+            && self.log.len() as u128 <= 2 * n
+            && changes(&self.log, n as usize)
+                .iter()
+                .all(|e| e.place.is_none_or(|p| p < PLACES))
+    }
+
+    fn numbers_formed(&self) -> bool {
+        let log_decided = self.decided as u128 - self.stop_decided() as u128;
+        self.size <= 64
+            && self.compacted as u128 <= log_decided
+            && log_decided <= self.end()
+            && self.decided as u128 <= self.accepted()
+            && self.accepted() + self.batched as u128 <= LARGEST
+            && (self.batched == 0 || (self.batched < self.size && !self.stop_held))
+    }
+
+    pub fn well_formed(&self) -> bool {
+        let shot = match self.snapshot_held {
+            true => self.held_shot().formed(),
+            false => self.lent[1] == SHOT_WORDS && self.keys == 0 && self.shot.is_empty(),
+        };
+        let stop = match self.stop_held {
+            true => self.stop.formed(),
+            false => self.stop == Sign::default(),
+        };
+        self.log_formed() && self.numbers_formed() && shot && stop
+    }
+}

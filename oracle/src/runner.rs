@@ -93,7 +93,7 @@ pub struct Runner {
     pub answer: Vec<u64>,
     output: Vec<u64>,
     /// The Rust in the same state, where that is well formed.
-    judge: Option<Judge>,
+    judge: Judge,
     /// The state that was set last, and the calls since.
     from: State,
     path: Vec<Call>,
@@ -108,7 +108,7 @@ impl Runner {
             sample: None,
             answer: vec![],
             output: vec![],
-            judge: Some(Judge::of(&fresh)),
+            judge: Judge::of(&fresh),
             from: fresh.clone(),
             state: fresh,
             path: vec![],
@@ -136,7 +136,9 @@ impl Runner {
     }
 
     fn stand(&mut self, state: State) {
-        self.judge = state.well_formed().then(|| Judge::of(&state));
+        if state.well_formed() {
+            self.judge = Judge::of(&state);
+        }
         self.from = state.clone();
         self.state = state;
         self.path.clear();
@@ -192,10 +194,7 @@ impl Runner {
             out: &output,
             after: &after,
         };
-        let judge = self
-            .judge
-            .get_or_insert_with(|| Judge::of(&State::fresh(0)));
-        match judge.judge(call, &self.state, &told) {
+        match self.judge.judge(call, &self.state, &told) {
             Verdict::Same => self.report.same += 1,
             Verdict::Ours => self.report.ours += 1,
             Verdict::Listed(name) => *self.report.listed.entry(name).or_default() += 1,

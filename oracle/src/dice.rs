@@ -231,6 +231,8 @@ impl Dice {
                 ops.push(Op { kind, ..op });
             }
         }
+        // A tenth would be a bad line.
+        ops.truncate(9);
         List {
             ops,
             entries: self.entries(wide),

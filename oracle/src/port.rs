@@ -66,8 +66,8 @@ impl Port {
         }
     }
 
-    /// The answer to each line that is asked. A bad line is answered by no numbers.
-    pub fn ask(&mut self, mut lines: Vec<Vec<u64>>) -> Vec<Vec<u64>> {
+    /// The answer to each line that is asked. None where one is a bad line, or where the program has ended.
+    pub fn ask(&mut self, mut lines: Vec<Vec<u64>>) -> Option<Vec<Vec<u64>>> {
         lines.retain(|line| self.set.changes(line));
         for line in &lines {
             let words: Vec<String> = line.iter().map(u64::to_string).collect();
@@ -76,28 +76,20 @@ impl Port {
                 asked.push_str(&text);
                 asked.push('\n');
             }
-            writeln!(self.to, "{text}").expect("the program takes no more lines");
+            writeln!(self.to, "{text}").ok()?;
         }
-        self.to.flush().expect("the program takes no more lines");
-        lines
-            .iter()
-            .map(|line| {
-                let mut text = String::new();
-                self.from.read_line(&mut text).unwrap();
-                if let Some((_, answered)) = &mut self.record {
-                    answered.push_str(&text);
-                }
-                if text == "bad line\n" {
-                    return vec![];
-                }
-                text.split_whitespace()
-                    .map(|w| {
-                        w.parse()
-                            .unwrap_or_else(|_| panic!("{line:?} is answered {text:?}"))
-                    })
-                    .collect()
-            })
-            .collect()
+        self.to.flush().ok()?;
+        lines.iter().map(|_| self.answer()).collect()
+    }
+
+    fn answer(&mut self) -> Option<Vec<u64>> {
+        let mut text = String::new();
+        self.from.read_line(&mut text).ok()?;
+        if let Some((_, answered)) = &mut self.record {
+            answered.push_str(&text);
+        }
+        let numbers: Option<Vec<u64>> = text.split_whitespace().map(|w| w.parse().ok()).collect();
+        numbers.filter(|numbers| !numbers.is_empty())
     }
 }
 

@@ -119,7 +119,7 @@ impl Runner {
     pub fn set(&mut self, state: &State) {
         let mut lines = state.lines_from(&self.state);
         lines.push(vec![0]);
-        let answers = self.port.ask(lines);
+        let answers = self.port.ask(lines).expect("lines that set");
         let shown = State::read(answers.last().unwrap(), state.lent);
         assert_eq!(shown, *state, "a state that is set is shown");
         self.stand(shown);
@@ -131,7 +131,10 @@ impl Runner {
         if line[0] == 3 {
             lent[line[1] as usize] = line[2] as usize;
         }
-        let answers = self.port.ask(vec![line, vec![0]]);
+        let answers = self
+            .port
+            .ask(vec![line, vec![0]])
+            .expect("a line that sets");
         self.stand(State::read(answers.last().unwrap(), lent));
     }
 
@@ -144,25 +147,28 @@ impl Runner {
         self.path.clear();
     }
 
-    fn ask(&mut self, call: &Call) -> (Vec<u64>, State, Vec<u64>) {
+    /// The answer, the state and the output after it.
+    fn ask(&mut self, call: &Call) -> Option<(Vec<u64>, State, Vec<u64>)> {
         let mut lines = call.lines();
         lines.push(vec![0]);
         if call.writes() {
             lines.push(vec![1, 4]);
         }
-        let mut answers = self.port.ask(lines);
+        let mut answers = self.port.ask(lines)?;
         let output = match call.writes() {
-            true => answers.pop().unwrap()[1..].to_vec(),
+            true => answers.pop()?[1..].to_vec(),
             false => self.output.clone(),
         };
-        let after = State::read(&answers.pop().unwrap(), self.state.lent);
-        (answers.pop().unwrap(), after, output)
+        let after = State::read(&answers.pop()?, self.state.lent);
+        Some((answers.pop()?, after, output))
     }
 
     /// One call. Whether the port accepts it, or the difference found, with the calls that led there.
     pub fn turn(&mut self, call: &Call) -> Result<bool, String> {
         self.path.push(call.clone());
-        let (answer, after, output) = self.ask(call);
+        let Some((answer, after, output)) = self.ask(call) else {
+            return Err(self.difference("a bad line, or the program has ended"));
+        };
         let due = rules::refusal(&self.state, call);
         let refused = match answer[..] {
             [0, number, carried] => Some((number, carried)),

@@ -1,9 +1,9 @@
 // What a line of numbers does, and the line that answers it.
-use answering::inner::reply;
-use holding::inner::State;
+use crate::answering::reply;
+use crate::holding::State;
 ghost use Prim.Native.Nat.{_+_, _≤_};
 ghost use lib.ListN.{length};
-ghost use Rattle.showing.specs.Rooms.{answerRoom};
+ghost use Rattle.calls.specs.Rooms.{answerRoom};
 
 // What the program holds after a line, and the index after its answer's bytes.
 pub struct Answered {
@@ -48,7 +48,7 @@ fn view(
     ensures { λ r. ⌜ r ≤ at + answerRoom ⌝ }
 {
     let lent = st.lent;
-    showing::inner::lines::show(
+    crate::showing::lines::show(
         st.index,
         lent[0],
         lent[1],
@@ -79,10 +79,10 @@ fn act(
     requires { ⌜ at + answerRoom ≤ length (now out) ⌝ }
     ensures { λ r. ⌜ r .at ≤ at + answerRoom ⌝ }
 {
-    let done = holding::inner::step(st, a, n, log, snapshot, entries, second, output);
+    let done = crate::holding::step(st, a, n, log, snapshot, entries, second, output);
     let next = done.state;
     let said = done.reply;
-    let o = showing::inner::put_reply(out, at, said);
+    let o = crate::showing::put_reply(out, at, said);
     Answered { state: next, at: o }
 }
 
@@ -104,10 +104,10 @@ pub(crate) fn answer(
 {
     let kind = a[0];
     if (n == 0) | !counted(kind, n) {
-        let o = showing::inner::put_reply(out, at, reply::bad());
+        let o = crate::showing::put_reply(out, at, reply::bad());
         return Answered { state: st, at: o };
     }
-    if showing::inner::lines::shows(kind) {
+    if crate::showing::lines::shows(kind) {
         let o = view(st, a, log, snapshot, entries, second, output, out, at);
         return Answered { state: st, at: o };
     }

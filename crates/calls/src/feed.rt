@@ -1,6 +1,6 @@
 // The input, which comes in parts: lines begin, go on and end in them. Answers wait in `out` until the next might not fit.
 use super::answer;
-use holding::inner::State;
+use crate::holding::State;
 use text::Parsed;
 use text::inner::Partial;
 ghost use Prim.Native.Nat.{_≤_};

@@ -7,7 +7,11 @@ ghost use Prim.Native.Nat.{_≤_};
 ghost use Rattle.calls.specs.Rooms.{lineRoom, outRoom};
 
 mod answer;
+mod answering;
+mod changing;
 mod feed;
+mod holding;
+mod showing;
 
 // Writes the answers that wait, so that none is kept back while more input is awaited; then reads once, and does what came.
 fn take_turn(
@@ -77,7 +81,7 @@ fn main() {
     let mut second = [0u64; entry::SNAPSHOT_WORDS];
     let mut output = [0u64; entry::SNAPSHOT_WORDS];
     let mut out = [0u8; feed::OUT_ROOM];
-    let state = holding::inner::start();
+    let state = crate::holding::start();
     let mut s = Feed {
         state,
         held: Partial {

@@ -2,3 +2,4 @@ pub mod Moving
 pub mod Folding
 pub mod Shots
 pub mod Creates
+pub mod Refused

@@ -1,3 +1,4 @@
 pub mod Giving
 pub mod Telling
 pub mod Unique
+pub mod Refused

@@ -4,5 +4,6 @@ pub mod Traces
 pub mod Finds
 pub mod Flushes
 pub mod Orders
+pub mod Shows
 pub mod Cases
 pub mod Example

@@ -1,9 +1,12 @@
--- The refusals of every call stand in document 01's order, whatever the state and the request.
+-- The refusals of every call are the table's rows in document 01's order, each with what it carries, whatever the state and the request.
 use Prim.Native.Nat.{ℕ}
-use mathlib.Core.Path.{_≡_, refl, ap, _∙_}
-use mathlib.Core.List.{List, [], _∷_, _++_, map}
+use mathlib.Core.Path.{_≡_, refl, sym, ap, _∙_}
+use mathlib.Core.Bool.{Bool, true, false}
+use mathlib.Core.List.{List, [], _∷_, _++_, map, map-append}
 use mathlib.Core.Option.{none, some}
-use Rattle.entry.specs.Guards.{Guard}
+use native.Mathlib.Omega.{arith}
+use Rattle.words.specs.If.{if_then_else_}
+use Rattle.entry.specs.Guards.{Guard, refuses, first}
 use Rattle.model.specs.Numbers.{Numbers}
 use Rattle.model.specs.Log.{Log, numbersOf}
 use Rattle.model.specs.Append.{appendGuards, appendStopGuards, setStopGuards}
@@ -12,63 +15,83 @@ use Rattle.model.specs.Compact.{trimGuards, snapshotGuards, createGuards
 use Rattle.model.specs.Diff.{diffGuards}
 use Rattle.model.specs.Sync.{partNumberGuards, partGuards, roundGuards}
 use Rattle.model.specs.Calls.{Query, read, readDecided, getSuffix, create, diff, lookup, getEntries, Call, query, append, appendNow, flush, flushEntries, appendStop, setStop, setPromise, decide, trim, snapshot, sync, reload, write, decideGuards, syncGuards, queryGuards, further, guards}
-use Rattle.model.specs.Orders.{queryOrder, opOrder, opsOrder, orderOf}
+use Rattle.model.specs.Orders.{queryOrder, opOrder, opsOrder, orderOf, carriesOf}
 
-abbrev numbers : List Guard → List ℕ
-numbers gs = map (λ (g : Guard). g .number) gs
+-- the rows that a call's refusals are, and those that the table has for it
+abbrev rows : List Guard → List (ℕ × ℕ)
+rows gs = map (λ (g : Guard). (g .number, g .carried)) gs
 
-numbers-append : (gs hs : List Guard) → numbers (gs ++ hs) ≡ numbers gs ++ numbers hs
-numbers-append [] hs = refl
-numbers-append (g ∷ gs) hs = ap (λ (l : List ℕ). g .number ∷ l) (numbers-append gs hs)
+abbrev due : Call → Numbers → List ℕ → List (ℕ × ℕ)
+due c n is = map (λ (i : ℕ). (i, carriesOf c n i)) is
 
-op-order : (n : Numbers) (l : Lent) (o : Op) (m : Midst) → numbers (stepGuards n l o m) ≡ opOrder o
-unfolding stepGuards
-op-order n l appendEntries m = refl
-op-order n l (appendOnPrefix i) m = refl
-op-order n l (setDecided i) m = refl
-op-order n l (setCompacted i) m = refl
-op-order n l (opTrim i) m = refl
-op-order n l (opPromise b) m = refl
-op-order n l (setRound b) m = refl
-op-order n l (setSign t) m = refl
-op-order n l (setSnapshot t) m = refl
+op-rows : (n : Numbers) (l : Lent) (ops : List Op) (o : Op) (m : Midst) → rows (stepGuards n l o m) ≡ due (write l ops) n (opOrder o)
+unfolding stepGuards carriesOf
+op-rows n l ops appendEntries m = refl
+op-rows n l ops (appendOnPrefix i) m = refl
+op-rows n l ops (setDecided i) m = refl
+op-rows n l ops (setCompacted i) m = refl
+op-rows n l ops (opTrim i) m = refl
+op-rows n l ops (opPromise b) m = refl
+op-rows n l ops (setRound b) m = refl
+op-rows n l ops (setSign t) m = refl
+op-rows n l ops (setSnapshot t) m = refl
 
-ops-order : (n : Numbers) (l : Lent) (ops : List Op) (m : Midst) → numbers (opGuards n l ops m) ≡ opsOrder ops
+-- all is the whole list that the call is given, ops what is left of it
+ops-rows : (n : Numbers) (l : Lent) (all ops : List Op) (m : Midst) → rows (opGuards n l ops m) ≡ due (write l all) n (opsOrder ops)
 unfolding opGuards
-ops-order n l [] m = unfold lastGuards in refl
-ops-order n l (o ∷ ops) m =
-    numbers-append (stepGuards n l o m) (opGuards n l ops (step l o m))
-    ∙ ap (λ (a : List ℕ). a ++ numbers (opGuards n l ops (step l o m))) (op-order n l o m)
-    ∙ ap (λ (b : List ℕ). opOrder o ++ b) (ops-order n l ops (step l o m))
+ops-rows n l all [] m = unfold lastGuards carriesOf in refl
+ops-rows n l all (o ∷ ops) m =
+    map-append (λ (g : Guard). (g .number, g .carried)) (stepGuards n l o m) (opGuards n l ops (step l o m))
+    ∙ ap (λ (a : List (ℕ × ℕ)). a ++ rows (opGuards n l ops (step l o m))) (op-rows n l all o m)
+    ∙ ap (λ (b : List (ℕ × ℕ)). due (write l all) n (opOrder o) ++ b) (ops-rows n l all ops (step l o m))
+    ∙ sym (map-append (λ (i : ℕ). (i, carriesOf (write l all) n i)) (opOrder o) (opsOrder ops))
 
-query-order : (q : Query) (s : Log) → numbers (queryGuards q s) ≡ queryOrder q
-unfolding queryGuards
-query-order (read a b) s = refl
-query-order (readDecided i) s = refl
-query-order (getSuffix i) s = refl
-query-order (create i) s = unfold createGuards in refl
-query-order (diff i) s = unfold diffGuards in refl
-query-order (lookup k) s = refl
-query-order (getEntries i j) s = refl
+query-rows : (q : Query) (s : Log) → rows (queryGuards q s) ≡ due (query q) (numbersOf s) (queryOrder q)
+unfolding queryGuards carriesOf
+query-rows (read a b) s = refl
+query-rows (readDecided i) s = refl
+query-rows (getSuffix i) s = refl
+query-rows (create i) s = unfold createGuards in refl
+query-rows (diff i) s = unfold diffGuards in refl
+query-rows (lookup k) s = refl
+query-rows (getEntries i j) s = refl
 
-call-order : (c : Call) (s : Log) → numbers (further c s) ≡ orderOf c
-unfolding further
-call-order (query q) s = query-order q s
-call-order (append es) s = unfold appendGuards in refl
-call-order (appendNow es) s = unfold appendGuards in refl
-call-order flush s = refl
-call-order flushEntries s = refl
-call-order (appendStop g) s = unfold appendStopGuards in refl
-call-order (setStop g) s = unfold setStopGuards in refl
-call-order (setPromise b) s = refl
-call-order (decide i) s = unfold decideGuards in refl
-call-order (trim i) s = unfold trimGuards in refl
-call-order (snapshot i) s = unfold snapshotGuards in refl
-call-order (sync b d none) s = unfold syncGuards roundGuards in refl
-call-order (sync b d (some p)) s = unfold syncGuards partNumberGuards partGuards in refl
-call-order reload s = refl
-call-order (write l ops) s = unfold writeGuards in ops-order (numbersOf s) l ops (midst s)
+call-rows : (c : Call) (s : Log) → rows (further c s) ≡ due c (numbersOf s) (orderOf c)
+unfolding further carriesOf
+call-rows (query q) s = query-rows q s
+call-rows (append es) s = unfold appendGuards in refl
+call-rows (appendNow es) s = unfold appendGuards in refl
+call-rows flush s = refl
+call-rows flushEntries s = refl
+call-rows (appendStop g) s = unfold appendStopGuards in refl
+call-rows (setStop g) s = unfold setStopGuards in refl
+call-rows (setPromise b) s = refl
+call-rows (decide i) s = unfold decideGuards in refl
+call-rows (trim i) s = unfold trimGuards in refl
+call-rows (snapshot i) s = unfold snapshotGuards in refl
+call-rows (sync b d none) s = unfold syncGuards roundGuards in refl
+call-rows (sync b d (some p)) s = unfold syncGuards partNumberGuards partGuards in refl
+call-rows reload s = refl
+call-rows (write l ops) s = unfold writeGuards in ops-rows (numbersOf s) l ops ops (midst s)
 
-pub in-order : (c : Call) (s : Log) → numbers (guards c s) ≡ 12 ∷ 11 ∷ orderOf c
-unfolding guards
-in-order c s = ap (λ (l : List ℕ). 12 ∷ 11 ∷ l) (call-order c s)
+pub in-table : (c : Call) (s : Log) → rows (guards c s) ≡ due c (numbersOf s) (12 ∷ 11 ∷ orderOf c)
+unfolding guards carriesOf
+in-table c s = ap (λ (l : List (ℕ × ℕ)). (12, 0) ∷ (11, 0) ∷ l) (call-rows c s)
+
+-- so what a refusal carries is told by its number
+carried-by : (f : ℕ → ℕ) (gs : List Guard) (is : List ℕ) → rows gs ≡ map (λ (i : ℕ). (i, f i)) is → (n k : ℕ) → first gs ≡ refuses n k → k ≡ f n
+unfolding first
+carried-by f [] is e n k q = let z : _≡_ {A = ℕ} 0 1 = cc in absurd (omega arith)
+carried-by f (g ∷ gs) [] e n k q = let z : _≡_ {A = ℕ} 0 1 = cc in absurd (omega arith)
+carried-by f (g ∷ gs) (i ∷ is) e n k q = go (g .applies) q (λ p. carried-by f gs is (cc) n k p)
+  where
+    go : (t : Bool) → (if t then refuses (g .number) (g .carried) else first gs) ≡ refuses n k → (first gs ≡ refuses n k → k ≡ f n) → k ≡ f n
+    go true p ih =
+        let row : _≡_ {A = ℕ × ℕ} (g .number, g .carried) (i, f i) = cc in
+        let number : g .number ≡ i = ap (λ (x : ℕ × ℕ). x .0) row in
+        let carried : g .carried ≡ f i = ap (λ (x : ℕ × ℕ). x .1) row in
+        cc
+    go false p ih = ih p
+
+pub carries : (c : Call) (s : Log) (n k : ℕ) → first (guards c s) ≡ refuses n k → k ≡ carriesOf c (numbersOf s) n
+carries c s n k e = carried-by (carriesOf c (numbersOf s)) (guards c s) (12 ∷ 11 ∷ orderOf c) (in-table c s) n k e

@@ -9,7 +9,7 @@ use Rattle.entry.specs.Change.{Change, place, removed}
 use Rattle.entry.specs.Guards.{Answer, refused, replied}
 use Rattle.entry.specs.declared.StopSign.{StopSign}
 use Rattle.snapshot.specs.Folds.{fold}
-use Rattle.model.specs.Log.{Log, noBallot, freshLog}
+use Rattle.model.specs.Log.{Log, noBallot, withRun, freshLog}
 use Rattle.model.specs.Append.{Flushed}
 use Rattle.model.specs.Read.{included, excluded, trimmed, Shown, shown, emptyRun}
 use Rattle.model.specs.Calls.{read, query, append, trim, answerTo, stateAfter}
@@ -43,11 +43,11 @@ logL d = record {
   marks = record { decided = d; promise = noBallot; round = noBallot };
 }
 
--- what is seen of a call: a read's answer; a trim's, and the compacted index after it; an append's; and a fold
+-- what is seen of a call: a read's answer; a trim's or an append's, and the whole state after it; and a fold
 pub data Seen : Type 0 where
   reads : Answer (Option Shown) → Seen
-  trims : Answer (Unit {0}) → ℕ → Seen
-  appends : Answer (Option Flushed) → Seen
+  trims : Answer (Unit {0}) → Log → Seen
+  appends : Answer (Option Flushed) → Log → Seen
   folds : List Change → Seen
 
 pub record Case : Type 0 where
@@ -58,8 +58,8 @@ abbrev pub readCase : ℕ → ℕ → Option Shown → Case
 readCase a b r =
     record { seen = reads (answerTo (query (read (included a) (excluded b))) (logL 4)); due = reads (replied r) }
 
-abbrev pub trimCase : ℕ → Answer (Unit {0}) → ℕ → Case
-trimCase i a k = record { seen = trims (answerTo (trim i) (logL 6)) (stateAfter (trim i) (logL 6) .run .compacted); due = trims a k }
+abbrev pub trimCase : ℕ → Answer (Unit {0}) → Log → Case
+trimCase i a s = record { seen = trims (answerTo (trim i) (logL 6)) (stateAfter (trim i) (logL 6)); due = trims a s }
 
 -- R1 to R9, T1, T2, F1, B1
 abbrev pub table : List Case
@@ -73,11 +73,11 @@ table =
     ∷ readCase 4 3 (some emptyRun)
     ∷ readCase 2 7 none
     ∷ readCase 6 6 none
-    ∷ trimCase 6 (replied tt) 5
-    ∷ trimCase 7 (refused 2 6) 2
+    ∷ trimCase 6 (replied tt) (withRun (record { compacted = 5; retained = []; held = none }) (logL 6))
+    ∷ trimCase 7 (refused 2 6) (logL 6)
     ∷ record { seen = folds (fold three); due = folds (put 4 200 ∷ del 9 ∷ []) }
     ∷ record {
-      seen = appends (answerTo (append (put 9 100 ∷ [])) (freshLog 0));
-      due = appends (replied (some (record { accepted = 1; count = 1 })));
+      seen = appends (answerTo (append (put 9 100 ∷ [])) (freshLog 0)) (stateAfter (append (put 9 100 ∷ [])) (freshLog 0));
+      due = appends (replied (some (record { accepted = 1; count = 1 }))) (withRun (record { compacted = 0; retained = put 9 100 ∷ []; held = none }) (freshLog 0));
     }
     ∷ []

@@ -1,7 +1,11 @@
--- "Order, first that applies. All: 12, 11", and then:
+-- The table's rows for each call: "Order, first that applies. All: 12, 11", and then `orderOf`; and "Carries".
 use Prim.Native.Nat.{ℕ}
 use mathlib.Core.List.{List, [], _∷_, _++_}
-use mathlib.Core.Option.{none, some}
+use mathlib.Core.Option.{Option, none, some}
+use lib.Dec.{eqb}
+use Rattle.words.specs.If.{if_then_else_}
+use Rattle.model.specs.Numbers.{Numbers, endOf, acceptedOf}
+use Rattle.model.specs.Sync.{Part, partNumbers, decidedThen, acceptedThen}
 use Rattle.model.specs.Backend.{Op, appendEntries, appendOnPrefix, setDecided, setCompacted, trim as opTrim, setPromise as opPromise, setRound, setSign, setSnapshot}
 use Rattle.model.specs.Calls.{Query, read, readDecided, getSuffix, create, diff, lookup, getEntries, Call, query, append, appendNow, flush, flushEntries, appendStop, setStop, setPromise, decide, trim, snapshot, sync, reload, write}
 
@@ -46,3 +50,46 @@ orderOf (sync b d none) = 6 ∷ []
 orderOf (sync b d (some p)) = 4 ∷ 5 ∷ 7 ∷ 10 ∷ 9 ∷ 1 ∷ 6 ∷ 2 ∷ 8 ∷ []
 orderOf reload = []
 orderOf (write l ops) = opsOrder ops
+
+-- "that decided", "that accepted": of a sync those after it, of any other call those held, which it leaves
+pub data Moving : Type 0 where
+  neither : Moving
+  synced : ℕ → Option Part → Moving
+
+abbrev pub movingOf : Call → Moving
+movingOf (query q) = neither
+movingOf (append es) = neither
+movingOf (appendNow es) = neither
+movingOf flush = neither
+movingOf flushEntries = neither
+movingOf (appendStop g) = neither
+movingOf (setStop g) = neither
+movingOf (setPromise b) = neither
+movingOf (decide i) = neither
+movingOf (trim i) = neither
+movingOf (snapshot i) = neither
+movingOf (sync b d p) = synced d p
+movingOf reload = neither
+movingOf (write l ops) = neither
+
+abbrev pub thatDecided : Moving → Numbers → ℕ
+thatDecided neither n = n .decided
+thatDecided (synced d p) n = decidedThen d n
+
+abbrev pub thatAccepted : Moving → Numbers → ℕ
+thatAccepted neither n = acceptedOf n
+thatAccepted (synced d none) n = acceptedOf n
+thatAccepted (synced d (some p)) n = acceptedThen (partNumbers p)
+
+-- what the refusal with a number carries: "without 'that' … the one held before the call, in an operation list too"
+unfoldable pub carriesOf : Call → Numbers → ℕ → ℕ
+carriesOf c n number =
+    if eqb number 2 then thatDecided (movingOf c) n
+    else if eqb number 3 then n .compacted
+    else if eqb number 4 then acceptedOf n
+    else if eqb number 5 then n .decided
+    else if eqb number 6 then thatAccepted (movingOf c) n
+    else if eqb number 7 then endOf n
+    else if eqb number 9 then acceptedOf n
+    else if eqb number 10 then n .batched
+    else 0

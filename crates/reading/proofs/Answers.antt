@@ -1,12 +1,11 @@
 -- The answer of a call that changes nothing: refusals 12 and 11, and the reply.
-use mathlib.Core.Path.{_≡_, refl, ap, _∙_}
+use mathlib.Core.Path.{_≡_, refl, sym, ap}
 use mathlib.Core.Bool.{Bool, true, false}
 use mathlib.Core.List.{[]}
 use Rattle.entry.specs.Guards.{Verdict, passes, refuses, first, Answer, refused, replied}
-use Rattle.model.specs.Calls.{Query, QueryReply, query, queryMalformed, queryGuards, queryReply, malformed, further, guards, effect, replyOf, after, stateAfter}
-use Rattle.model.specs.Log.{Log}
+use Rattle.model.specs.Calls.{Query, QueryReply, query, queryMalformed, queryGuards, queryReply, malformed, further, effect, replyOf}
 use Rattle.state_cache.specs.State.{Raw, formed, logOf, rawOf}
-use Rattle.state_cache.specs.Run.{Outcome, run}
+use Rattle.state_cache.specs.Run.{Outcome, chosen, verdictOn, run}
 use Rattle.state_cache.proofs.Stands.{stands-of, raw-is}
 use Rattle.state_cache.proofs.Runs.{ill-formed, bad-call, call-stands}
 
@@ -27,14 +26,13 @@ module _ (q : Query) (r : Raw) where
     answer-is m g y e = ap answerOf (call-stands (query q) r ok m (rw g) y r e (stands-of r ok))
 
 -- such a call leaves the record and every lent word as they were
-same-after : (v : Verdict) (s : Log) → after v s s ≡ s
-same-after passes s = refl
-same-after (refuses n k) s = refl
-
 pub query-keeps : (q : Query) (r : Raw) → run (query q) true r .after ≡ r
-unfolding run stateAfter effect
 query-keeps q r = go (formed r) refl
   where
+    by : (v : Verdict) → formed r ≡ true → chosen v (replyOf (query q) (logOf r)) (rawOf (logOf r)) r .after ≡ r
+    by passes e = raw-is r e
+    by (refuses n k) e = refl
+
     go : (b : Bool) → formed r ≡ b → run (query q) true r .after ≡ r
-    go true e = rw e (ap rawOf (same-after (first (guards (query q) (logOf r))) (logOf r)) ∙ raw-is r e)
-    go false e = rw e
+    go true e = unfold run effect in by (verdictOn (query q) true r) e
+    go false e = ap (λ (o : Outcome (QueryReply q)). o .after) (sym (ill-formed (query q) true r e))

@@ -24,22 +24,25 @@ use Rattle.model.specs.Calls.{query, getEntries, getSuffix, queryReply, queryGu
 use Rattle.state_cache.specs.State.{Raw, numbersIn, formed, logOf, Ready}
 use Rattle.state_cache.specs.Run.{run}
 use Rattle.state_cache.proofs.Stands.{stands-of, numbers-are, ready-of}
-use Rattle.reading.specs.Parts.{part, shownIn, spanSays, spanBetween, spanReply}
+use Rattle.reading.specs.Parts.{part, wordAt, partAt, shownIn, spanSays, spanBetween, spanReply}
 use Rattle.reading.specs.declared.Span.{Span}
 use Rattle.reading.specs.declared.Span.the-variants.{Run, Refused}
 use Rattle.reading.proofs.Answers.{ill-formed-answer, answer-is}
 
--- the part itself, as the code cuts it
-module _ (first count : ℕ) (ws : List ℕ) where
-  pub part-none : length ws < (first + count) * width → [] ≡ part first count ws
-  unfolding part
-  part-none h = sym (rw (lt-leb ((first + count) * width) (length ws) h))
+-- the part itself, as the code cuts it, and where it stands
+module _ (first count : ℕ) (ws : List ℕ) (p : ℕ × ℕ) where
+  pub part-none : length ws < (first + count) * width → ([] ≡ part first count ws) × (p ≡ partAt first count ws p)
+  unfolding part partAt
+  part-none h =
+      let t = lt-leb ((first + count) * width) (length ws) h in
+      (sym (rw t), sym (rw t))
 
-  pub part-cut : (first + count) * width ≤ length ws → take (first * width + count * width - first * width) (drop (first * width) ws) ≡ part first count ws
-  unfolding part
+  pub part-cut : (first + count) * width ≤ length ws
+      → (take (first * width + count * width - first * width) (drop (first * width) ws) ≡ part first count ws) × (wordAt (first * width) p ≡ partAt first count ws p)
+  unfolding part partAt
   part-cut h =
-      ap (λ (k : ℕ). take k (drop (first * width) ws)) (add-sub-cancel-left (first * width) (count * width))
-      ∙ sym (rw (le-leb ((first + count) * width) (length ws) h))
+      let t = le-leb ((first + count) * width) (length ws) h in
+      (ap (λ (k : ℕ). take k (drop (first * width) ws)) (add-sub-cancel-left (first * width) (count * width)) ∙ sym (rw t), sym (rw t))
 
 -- entries are read from the front alone
 front : (count : ℕ) (l : List ℕ) → count * width ≤ length l → entriesOf count (take (count * width) l) ≡ entriesOf count l
@@ -51,13 +54,16 @@ front count l h =
     ∙ ap (λ (k : ℕ). entriesOf k (take (count * width) l ++ drop (count * width) l)) z
     ∙ ap (entriesOf count) (take-append-drop (count * width) l)
 
-pub no-part : (ws : List ℕ) → part 0 0 ws ≡ []
-unfolding part
-no-part ws = go (leb ((0 + 0) * width) (length ws))
+pub no-part : (ws : List ℕ) (p : ℕ × ℕ) → (part 0 0 ws ≡ []) × (partAt 0 0 ws p ≡ p)
+unfolding part partAt
+no-part ws p = go (leb ((0 + 0) * width) (length ws))
   where
-    go : (b : Bool) → (if b then take (0 * width) (drop (0 * width) ws) else []) ≡ []
-    go true = refl
-    go false = refl
+    at-start : wordAt (0 * width) p ≡ p
+    at-start = let z : 0 * width * 8 + p .1 ≡ p .1 = omega arith in ap {B = ℕ × ℕ} (λ (o : ℕ). (p .0, o)) z
+
+    go : (b : Bool) → ((if b then take (0 * width) (drop (0 * width) ws) else []) ≡ []) × ((if b then wordAt (0 * width) p else p) ≡ p)
+    go true = (refl, at-start)
+    go false = (refl, refl)
 
 -- a part within the first n entries is a run of them
 pub shown-is : (n first count : ℕ) (ws : List ℕ) → first + count ≤ n → n * width ≤ length ws → shownIn ws first count ≡ take count (drop first (entriesOf n ws))

@@ -18,6 +18,14 @@ use Rattle.reading.specs.declared.Span.the-variants.{Run, Refused}
 unfoldable pub part : ℕ → ℕ → List ℕ → List ℕ
 part first count ws = if leb ((first + count) * width) (length ws) then take (count * width) (drop (first * width) ws) else []
 
+-- where they stand: a slice is a block of memory and an offset in it, of eight bytes a word; the empty part of those that do not lie in
+-- the slice stands at its start
+abbrev pub wordAt : ℕ → ℕ × ℕ → ℕ × ℕ
+wordAt i p = (p .0, i * 8 + p .1)
+
+unfoldable pub partAt : ℕ → ℕ → List ℕ → ℕ × ℕ → ℕ × ℕ
+partAt first count ws p = if leb ((first + count) * width) (length ws) then wordAt (first * width) p else p
+
 -- the entries that they are
 abbrev pub shownIn : List ℕ → ℕ → ℕ → List Change
 shownIn ws first count = entriesIn (part first count ws)

@@ -7,7 +7,7 @@ use Rattle.entry.specs.Change.{entriesOf}
 use Rattle.entry.specs.Guards.{Answer, replied, refusedBy}
 use Rattle.model.specs.Read.{Bound, included, excluded, unbounded, Marker, trimmed, snapshotted, Shown, shown}
 use Rattle.state_cache.specs.State.{Raw}
-use Rattle.reading.specs.Parts.{part, shownIn}
+use Rattle.reading.specs.Parts.{part, partAt, shownIn}
 use Rattle.reading.specs.declared.Bound.{Bound as CodeBound}
 use Rattle.reading.specs.declared.Bound.the-variants.{Included, Excluded, Unbounded}
 use Rattle.reading.specs.declared.Marker.{Marker as CodeMarker}
@@ -38,8 +38,13 @@ readSaid x Nothing = replied none
 readSaid x (Run r) = replied (some (shownSaid x r))
 readSaid x (Refused r) = refusedBy r
 
--- the words of the entries shown
+-- the words of the entries shown, and where they stand
 abbrev pub shownPart : ReadReply → List ℕ → List ℕ
 shownPart Nothing log = []
 shownPart (Run r) log = part (r .first) (r .count) log
 shownPart (Refused r) log = []
+
+abbrev pub shownPartAt : ReadReply → List ℕ → ℕ × ℕ → ℕ × ℕ
+shownPartAt Nothing log p = p
+shownPartAt (Run r) log p = partAt (r .first) (r .count) log p
+shownPartAt (Refused r) log p = p

@@ -12,8 +12,8 @@ ghost use Rattle.model.specs.Numbers.{endOf};
 ghost use Rattle.model.specs.Calls.{query, lookup as lookupCall, getEntries, getSuffix, read, readDecided};
 ghost use Rattle.state_cache.specs.State.{raw, numbersIn};
 ghost use Rattle.state_cache.specs.Run.{run};
-ghost use Rattle.reading.specs.Parts.{part, spanSays, spanReply};
-ghost use Rattle.reading.specs.Replies.{boundOf, readSaid, shownPart};
+ghost use Rattle.reading.specs.Parts.{part, partAt, spanSays, spanReply};
+ghost use Rattle.reading.specs.Replies.{boundOf, readSaid, shownPart, shownPartAt};
 ghost use Rattle.reading.specs.Numbered.{rangeReply, decidedReply};
 
 pub mod inner;
@@ -93,9 +93,9 @@ pub fn get_suffix_reply(index: IndexRecord, log: &[u64], snapshot: &[u64], from:
     inner::between(index, from.0, state_cache::inner::end(index))
 }
 
-// That part of the log itself, an empty one where it does not lie in the slice.
+// That part of the log itself, an empty one where it does not lie in the slice: its words, and its place.
 pub fn entries_of<'a>(log: &'a [u64], first: usize, count: usize) -> &'a [u64]
-    ensures { λ r. ⌜ now r ≡ part first count (now (log .entry)) ⌝ }
+    ensures { λ r. ⌜ (now r ≡ part first count (now (log .entry))) × (r .ptr ≡ partAt first count (now (log .entry)) (log .entry .ptr)) ⌝ }
 {
     let room = log.len() / entry::WIDTH;
     if room < first {
@@ -111,7 +111,7 @@ pub fn entries_of<'a>(log: &'a [u64], first: usize, count: usize) -> &'a [u64]
 
 // The entries that a reply shows, none where it shows no run.
 pub fn entries_shown<'a>(log: &'a [u64], reply: ReadReply) -> &'a [u64]
-    ensures { λ r. ⌜ now r ≡ shownPart reply (now (log .entry)) ⌝ }
+    ensures { λ r. ⌜ (now r ≡ shownPart reply (now (log .entry))) × (r .ptr ≡ shownPartAt reply (now (log .entry)) (log .entry .ptr)) ⌝ }
 {
     match reply {
         ReadReply::Nothing => entries_of(log, 0, 0),

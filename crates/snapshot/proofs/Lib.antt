@@ -9,3 +9,4 @@ pub mod Algebra
 pub mod Calling
 pub mod OnWords
 pub mod Unique
+pub mod Refused

@@ -1,7 +1,7 @@
 -- A chain of calls on lent words is a chain of the model's calls: each leaves a well-formed state that stands for the log after the
 -- model's call. And with that demand 3's last sentence, for the calls on lent words from a fresh state.
 use Prim.Native.Nat.{ℕ, _≤_}
-use mathlib.Core.Path.{_≡_, refl, ap, _∙_}
+use mathlib.Core.Path.{_≡_, refl, sym, ap, _∙_}
 use mathlib.Core.Bool.{Bool, true, false}
 use mathlib.Core.List.{List, [], _∷_}
 use lib.ListN.{take}
@@ -10,15 +10,15 @@ use Rattle.entry.specs.Change.{Change}
 use Rattle.snapshot.specs.Folds.{fold}
 use Rattle.model.specs.Numbers.{endOf}
 use Rattle.model.specs.Log.{Log, numbersOf, foldedTo, freshLog}
-use Rattle.model.specs.Calls.{Call}
+use Rattle.model.specs.Calls.{Call, Reply}
 use Rattle.model.specs.History.{next, told, fresh, AllTruthful}
 use Rattle.model.proofs.Keeps.{fresh-formed}
 use Rattle.model.proofs.Traces.{history-kept}
 use Rattle.state_cache.specs.State.{Raw, formed, logOf, rawOf}
-use Rattle.state_cache.specs.Run.{run}
+use Rattle.state_cache.specs.Run.{Outcome, run}
 use Rattle.state_cache.specs.Chain.{Asked, runs, eventsOf, events}
 use Rattle.state_cache.proofs.Stands.{raw-formed, log-of-raw}
-use Rattle.state_cache.proofs.Runs.{run-keeps, run-stands}
+use Rattle.state_cache.proofs.Runs.{not-whole, run-keeps, run-stands}
 
 pub runs-keep : (qs : List Asked) (r : Raw) → formed r ≡ true → formed (runs qs r) ≡ true
 unfolding runs
@@ -27,8 +27,7 @@ runs-keep (a ∷ qs) r ok = runs-keep qs (run (a .call) (a .whole) r .after) (ru
 
 -- one that is no call leaves the state
 left : (c : Call) (r : Raw) → formed r ≡ true → run c false r .after ≡ r
-unfolding run
-left c r ok = rw ok
+left c r ok = ap (λ (o : Outcome (Reply c)). o .after) (sym (not-whole c false r ok refl))
 
 pub runs-told : (qs : List Asked) (r : Raw) (h : List Change) → formed r ≡ true → logOf (runs qs r) ≡ told (events qs) (record { log = logOf r; history = h }) .log
 unfolding runs events told

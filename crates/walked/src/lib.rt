@@ -1,5 +1,5 @@
 // The calls on references that a program cannot make without a walk by hand: each as a function on plain slices and values, which a
-// program can call. Each contract is that of the call.
+// program can call. A read's reply and its entries are told apart; of the others the contract is that of the call.
 use entry::LogIndex;
 use reading::Bound;
 use reading::ReadReply;
@@ -11,7 +11,7 @@ ghost use mathlib.Core.Bool.{true};
 ghost use Rattle.model.specs.Calls.{decide, trim};
 ghost use Rattle.state_cache.specs.State.{raw};
 ghost use Rattle.state_cache.specs.Run.{outcome, run, settled};
-ghost use Rattle.reading.specs.Replies.{boundOf, shownPart};
+ghost use Rattle.reading.specs.Replies.{boundOf, shownPart, shownPartAt};
 ghost use Rattle.reading.specs.Numbered.{rangeReply};
 
 pub mod inner;
@@ -38,7 +38,7 @@ pub fn read_entries<'a>(
     from: Bound,
     to: Bound,
 ) -> &'a [u64]
-    ensures { λ r. ⌜ now r ≡ shownPart (rangeReply (boundOf from) (boundOf to) (raw index (now (log .entry)) (now (snapshot .entry)))) (now (log .entry)) ⌝ }
+    ensures { λ r. ⌜ (now r ≡ shownPart (rangeReply (boundOf from) (boundOf to) (raw index (now (log .entry)) (now (snapshot .entry)))) (now (log .entry))) × (r .ptr ≡ shownPartAt (rangeReply (boundOf from) (boundOf to) (raw index (now (log .entry)) (now (snapshot .entry)))) (now (log .entry)) (log .entry .ptr)) ⌝ }
 {
     let shown = reader::read(index, log, snapshot, from, to);
     shown.entries

@@ -24,7 +24,7 @@ use sound.WpLaws.{FmC, fmOf, WpFn-mono}
 use denote.RattleType.{RattleType, owns}
 use denote.Laws.{Is, shows}
 use denote.Builtin.{u64}
-use denote.Ref.{RefT, now}
+use denote.Ref.{RefT, ptr, now}
 use denote.Signature.{plain, namedLft}
 use denote.Slice.{sliceVal, ShrSlice, slice-vals, shr-slice-tells, shr-slice-lawful, shr-slice-copy}
 use denote.Steps.{peeks, heard, nothing, owned}
@@ -44,7 +44,7 @@ use Rattle.state_cache.specs.Run.{run as runs}
 use Rattle.state_cache.specs.declared.IndexRecord.{IndexRecord}
 use Rattle.state_cache.proofs.IndexRecord as X
 use Rattle.state_cache.proofs.IndexRecord.Laws as X′
-use Rattle.reading.specs.Replies.{boundOf, readSaid, shownPart}
+use Rattle.reading.specs.Replies.{boundOf, readSaid, shownPart, shownPartAt}
 use Rattle.reading.specs.Numbered.{rangeReply}
 use Rattle.reading.specs.declared.Bound.{Bound}
 use Rattle.reading.specs.declared.ReadReply.{ReadReply}
@@ -149,7 +149,7 @@ module _ {M : Type 1} (𝓤 : URA M) (H : Heap 𝓤) (A : Atoms 𝓤) (W : Given
   Exact r = r ≡ rangeReply (boundOf f) (boundOf t) state
 
   abbrev Words : ReadReply → RefT (List ℕ) → Type 0
-  Words r e = now e ≡ shownPart r (now log)
+  Words r e = (now e ≡ shownPart r (now log)) × (e .ptr ≡ shownPartAt r (now log) (log .ptr))
 
   -- the call of `read_reply`: its parameters are this function's
   abbrev to-reply : Replies 𝓤 H A mem run .Ghost
@@ -198,7 +198,7 @@ module _ {M : Type 1} (𝓤 : URA M) (H : Heap 𝓤) (A : Atoms 𝓤) (W : Given
 
   -- what is known of the record and the bounds, which are made anew where they are owed
   module _ (isX : Is X.the-row x (m ∷ [])) (isF : Is E.the-row f (ev f ∷ [])) (isT : Is E.the-row t (ev t ∷ [])) where
-    exits : (d : Shown) (u : Val) → Said (d .reply) × Exact (d .reply) × Words (d .reply) (d .entries)
+    exits : (d : Shown) (u : Val) → Said (d .reply) × Exact (d .reply) × (now (d .entries) ≡ shownPart (d .reply) (now log)) × (d .entries .ptr ≡ shownPartAt (d .reply) (now log) (log .ptr))
         → ent 𝓤 (⋆ 𝓤 H A (‵ (B (κ₁, (κ₂, tt)) .own d (u ∷ [])) ∷ (‵ (flft κ₁ q₁) ⊛ ‵ ftrue) ∷ ‵ Own₁ ∷ ‵ Kept₂ ∷ (‵ (flft κ₂ q₂) ⊛ ‵ ftrue) ∷ [])) (Post u)
     exits d u e =
         qed W (‵ (B (κ₁, (κ₂, tt)) .own d (u ∷ [])) ∷ (‵ (flft κ₁ q₁) ⊛ ‵ ftrue) ∷ ‵ Own₁ ∷ ‵ Kept₂ ∷ (‵ (flft κ₂ q₂) ⊛ ‵ ftrue) ∷ []) ∵
@@ -245,7 +245,7 @@ module _ {M : Type 1} (𝓤 : URA M) (H : Heap 𝓤) (A : Atoms 𝓤) (W : Given
           land ! (from ! (stop !)) (init ! 19 refl (LL.lawful (T.the-type (namedLft 2 0 tt (κ₁, (κ₂, tt)))) (T′.the-laws (namedLft 2 0 tt (κ₁, (κ₂, tt)))) 𝓤 H A W .typed d _ is₃ .0)) $
           returns ! (look ! 19 refl) $ forget ! 5 refl $ forget ! 7 refl $ forget ! 9 refl $ forget ! 11 refl $ forget ! 13 refl $ forget ! 15 refl $ forget ! 17 refl $ forget ! 19 refl $
           move ! (19 ∷ 20 ∷ []) $ free1 ! $ move ! (17 ∷ 18 ∷ []) $ free1 ! $ move ! (15 ∷ 16 ∷ []) $ free1 ! $ move ! (13 ∷ 14 ∷ []) $ free1 ! $ move ! (11 ∷ 12 ∷ []) $ free1 ! $ move ! (9 ∷ 10 ∷ []) $ free1 ! $ move ! (7 ∷ 8 ∷ []) $ free1 ! $ move ! (5 ∷ 6 ∷ []) $ free1 ! $ free0 ! $
-          by ! (exits d u″ (ap (readSaid state) (e₄ .1) ∙ e₁, e₄ .1 ∙ e₂, ap now (e₄ .0) ∙ e₃ ∙ sym (ap (λ (r : ReadReply). shownPart r (now log)) (e₄ .1)))))))))))))))))))))))))
+          by ! (exits d u″ (ap (readSaid state) (e₄ .1) ∙ e₁, e₄ .1 ∙ e₂, ap now (e₄ .0) ∙ e₃ .0 ∙ sym (ap (λ (r : ReadReply). shownPart r (now log)) (e₄ .1)), ap ptr (e₄ .0) ∙ e₃ .1 ∙ sym (ap (λ (r : ReadReply). shownPartAt r (now log) (log .ptr)) (e₄ .1)))))))))))))))))))))))))
 
 module _ {M : Type 1} (𝓤 : URA M) (H : Heap 𝓤) (A : Atoms 𝓤) (W : Given 𝓤 H A) (mem : Memory → SProp 𝓤) (run : Routine → Fun 𝓤) where
   read-walks : (C : Calls 𝓤 H) (Λ : Loops 𝓤 H) → FmC 𝓤 H (W .laws) C → Triple 𝓤 (C #read-reply) (Replies 𝓤 H A mem run) → Triple 𝓤 (C #entries-shown) (Parts 𝓤 H A mem run) → Triple 𝓤 (C #show-with) (With 𝓤 H A mem run)

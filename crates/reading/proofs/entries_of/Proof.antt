@@ -12,7 +12,7 @@ slice-aggregate-result c = search needs
 returns : tie.Need-returns
 returns c =
     let a = c .before .before .args in
-    part-none (a .first) (a .count) (now (a .log)) (omega (arith, c .before .if1 .taken))
+    part-none (a .first) (a .count) (now (a .log)) (a .log .ptr) (omega (arith, c .before .if1 .taken))
 
 slice-aggregate-result-2 : tie.Need-slice-aggregate-result-2
 slice-aggregate-result-2 c = search needs
@@ -20,7 +20,7 @@ slice-aggregate-result-2 c = search needs
 returns-2 : tie.Need-returns-2
 returns-2 c =
     let a = c .before .before .before .args in
-    part-none (a .first) (a .count) (now (a .log)) (omega (arith, c .before .if2 .taken, c .before .before .if1 .left))
+    part-none (a .first) (a .count) (now (a .log)) (a .log .ptr) (omega (arith, c .before .if2 .taken, c .before .before .if1 .left))
 
 mul-at : tie.Need-mul-at
 mul-at c = search needs
@@ -46,7 +46,7 @@ part-result-end c = search needs
 returns-3 : tie.Need-returns-3
 returns-3 c =
     let a = c .before .before .before .args in
-    part-cut (a .first) (a .count) (now (a .log)) (omega (arith, c .before .if2 .left, c .before .before .if1 .left))
+    part-cut (a .first) (a .count) (now (a .log)) (a .log .ptr) (omega (arith, c .before .if2 .left, c .before .before .if1 .left))
 
 pub entries-of-spec : {M : Type 1} → statement M
 entries-of-spec =

@@ -1,8 +1,6 @@
 -- `reading::entries_shown` meets its contract: each arm knows its reply.
-use mathlib.Core.Path.{sym, ap, _∙_}
+use mathlib.Core.Path.{_∙_}
 use denote.Ref.{now}
-use Rattle.reading.specs.Replies.{shownPart}
-use Rattle.reading.specs.declared.ReadReply.{ReadReply}
 use Rattle.reading.proofs.Showing.{no-part}
 use borrow.Author.Needs.{needs}
 use Rattle.reading.proofs.entries_shown.Statement.{statement}
@@ -27,16 +25,19 @@ entries-of-requires-3 : tie.Need-entries-of-requires-3
 entries-of-requires-3 c κs = search needs
 
 returns : tie.Need-returns
-returns c = let ws = now (c .before .before .before .before .args .log) in
-    c .entries-of .ensures ∙ no-part ws ∙ sym (ap (λ (r : ReadReply). shownPart r ws) (c .before .enum-told .given .1))
+returns c =
+    let log = c .before .before .before .before .args .log in
+    let none-shown = no-part (now log) (log .ptr) in
+    rw (c .before .enum-told .given .1) (c .entries-of .ensures .0 ∙ none-shown .0, c .entries-of .ensures .1 ∙ none-shown .1)
 
 returns-2 : tie.Need-returns-2
-returns-2 c = let ws = now (c .before .before .before .before .before .args .log) in
-    c .entries-of2 .ensures ∙ sym (ap (λ (r : ReadReply). shownPart r ws) (c .before .before .reply .given .1))
+returns-2 c = rw (c .before .before .reply .given .1) (c .entries-of2 .ensures)
 
 returns-3 : tie.Need-returns-3
-returns-3 c = let ws = now (c .before .before .before .before .args .log) in
-    c .entries-of3 .ensures ∙ no-part ws ∙ sym (ap (λ (r : ReadReply). shownPart r ws) (c .before .enum-told2 .given .1))
+returns-3 c =
+    let log = c .before .before .before .before .args .log in
+    let none-shown = no-part (now log) (log .ptr) in
+    rw (c .before .enum-told2 .given .1) (c .entries-of3 .ensures .0 ∙ none-shown .0, c .entries-of3 .ensures .1 ∙ none-shown .1)
 
 pub entries-shown-spec : {M : Type 1} → statement M
 entries-shown-spec =

@@ -40,7 +40,7 @@ use Rattle.state_cache.specs.Run.{run as runs}
 use Rattle.state_cache.specs.declared.IndexRecord.{IndexRecord}
 use Rattle.state_cache.proofs.IndexRecord as X
 use Rattle.state_cache.proofs.IndexRecord.Laws as X′
-use Rattle.reading.specs.Replies.{boundOf, readSaid, shownPart}
+use Rattle.reading.specs.Replies.{boundOf, readSaid, shownPart, shownPartAt}
 use Rattle.reading.specs.Numbered.{rangeReply}
 use Rattle.reading.specs.declared.Bound.{Bound}
 use Rattle.reading.specs.declared.ReadReply.{ReadReply}
@@ -132,6 +132,7 @@ module _ {M : Type 1} (𝓤 : URA M) (H : Heap 𝓤) (A : Atoms 𝓤) (W : Given
   Says d = (readSaid state (d .reply) ≡ runs (query (readCall (boundOf g) (boundOf t))) true state .answer)
       × (d .reply ≡ rangeReply (boundOf g) (boundOf t) state)
       × (now (d .entries) ≡ shownPart (d .reply) (now log))
+      × (d .entries .ptr ≡ shownPartAt (d .reply) (now log) (log .ptr))
 
   abbrev to : Callee 𝓤 H A mem run .Ghost
   to = (((κ₁, (κ₂, tt)), (q₁, (q₂, tt)), tt, a, at), tt)

@@ -28,7 +28,7 @@ use Rattle.text.proofs.inner.put_run.Reads as put-run-reads
 -- the entries shown are at most the log's
 few : (c : lts.After-entries-of (entries-of-reads.Asked, entries-of-reads.Learnt, lines-of-marker-reads.Asked, lines-of-marker-reads.Learnt, one-if-reads.Asked, one-if-reads.Learnt, put-line-reads.Asked, put-line-reads.Learnt, put-marker-reads.Asked, put-marker-reads.Learnt, put-run-reads.Asked, put-run-reads.Learnt, put-stop-reads.Asked, put-stop-reads.Learnt) reads.Pre reads.Post) → length (now (c .entries-of .result)) ≤ 2048
 few c = let a = c .before .before .before .args in
-    rw (c .entries-of .ensures) (part-few (a .run .first) (a .run .count) (now (a .log)) (c .before .before .before .pre .1))
+    rw (c .entries-of .ensures .0) (part-few (a .run .first) (a .run .count) (now (a .log)) (c .before .before .before .pre .1))
 
 entries-of-requires : tie.Need-entries-of-requires
 entries-of-requires c κs = search needs
@@ -67,7 +67,7 @@ returns c =
     let e = c .before .before .before .before .before .before .before .before .before .before .before .before .before .before .before .before .before .before in
     let a = e .before .before .before .args in (
       omega (arith, few (c .before .before .before .before .before .before .before .before .before .before .before .before .before .before .before .before .before .before), c .before .before .before .before .before .before .before .before .before .before .before .before .before .before .put-line .ensures .0, c .before .before .before .before .before .before .before .before .before .before .before .before .before .before .put-line .kept, c .before .before .before .before .before .before .before .before .before .before .put-marker .ensures .0, c .before .before .before .before .before .before .before .before .before .before .put-marker .kept, c .before .before .before .before .before .before .before .before .before .before .before .before .before .before .before .before .before .before .before .before .before .pre, c .before .before .before .before .before .before .put-run .ensures .0, c .before .before .put-stop .ensures .0),
-      λ (snapshot : List ℕ). shown-is (take (a .at) (now (a .out))) (a .run) (a .index) (now (a .log)) snapshot (now (e .entries-of .result)) (c .before .before .before .before .before .before .before .before .before .before .before .before .before .before .before .before .before .lines-of-marker .result) _ (e .entries-of .ensures) (c .before .before .before .before .before .before .before .before .before .before .before .before .before .before .before .before .before .lines-of-marker .ensures snapshot) (ap (λ (k : ℕ). c .before .before .before .before .before .before .before .before .before .before .before .before .before .before .before .before .before .lines-of-marker .result + length (now (e .entries-of .result)) / 2 + k) (c .before .before .before .before .before .before .before .before .before .before .before .before .before .before .before .before .one-if .ensures)) (c .before .before .before .before .before .before .before .before .before .before .before .before .before .before .put-line .ensures .1) (c .before .before .before .before .before .before .before .before .before .before .put-marker .ensures .1 snapshot) (c .before .before .before .before .before .before .put-run .ensures .1) (c .before .before .put-stop .ensures .1),
+      λ (snapshot : List ℕ). shown-is (take (a .at) (now (a .out))) (a .run) (a .index) (now (a .log)) snapshot (now (e .entries-of .result)) (c .before .before .before .before .before .before .before .before .before .before .before .before .before .before .before .before .before .lines-of-marker .result) _ (e .entries-of .ensures .0) (c .before .before .before .before .before .before .before .before .before .before .before .before .before .before .before .before .before .lines-of-marker .ensures snapshot) (ap (λ (k : ℕ). c .before .before .before .before .before .before .before .before .before .before .before .before .before .before .before .before .before .lines-of-marker .result + length (now (e .entries-of .result)) / 2 + k) (c .before .before .before .before .before .before .before .before .before .before .before .before .before .before .before .before .one-if .ensures)) (c .before .before .before .before .before .before .before .before .before .before .before .before .before .before .put-line .ensures .1) (c .before .before .before .before .before .before .before .before .before .before .put-marker .ensures .1 snapshot) (c .before .before .before .before .before .before .put-run .ensures .1) (c .before .before .put-stop .ensures .1),
     )
 
 pub put-shown-spec : {M : Type 1} → statement M

@@ -1,0 +1,79 @@
+-- "the retained entries of the range, each decided exactly if its index is below decided": of every entry that a read shows, by its place
+-- among those shown.
+use Prim.Native.Nat.{ℕ, _+_, _-_, _<_, min, max}
+use native.Mathlib.Omega.{arith}
+use mathlib.Core.Path.{_≡_, refl, ap, _∙_}
+use mathlib.Core.Bool.{Bool, true, false, _||_}
+use mathlib.Core.List.{List, []}
+use mathlib.Core.Option.{none, some}
+use borrow.Author.Tests.{lt-ltb, le-ltb, ltb-true, ltb-false}
+use lib.Dec.{ltb, leb, eqb}
+use lib.ListN.{length, drop, getD, length-take}
+use lib.Seq.{getD-take, getD-drop}
+use Rattle.words.specs.If.{if_then_else_}
+use Rattle.entry.specs.Change.{Change}
+use Rattle.model.specs.Numbers.{endOf, acceptedOf}
+use Rattle.model.specs.Log.{Log, numbersOf}
+use Rattle.model.specs.Read.{Shown, shown, markerOf, emptyRun, fullRun, readFrom, shownAt}
+
+-- a read that shows an entry shows a full run
+full : (from to : ℕ) (s : Log) (v : Shown) → readFrom from to s ≡ some v → 0 < length (v .entries) → v ≡ fullRun from to s
+unfolding readFrom
+full from to s v e h =
+    go (eqb to 0) (leb to (s .run .compacted)) (ltb (acceptedOf (numbersOf s)) to || leb (acceptedOf (numbersOf s)) from) (leb to from) e
+  where
+    none-shown : (x : Shown) → some x ≡ some v → x .entries ≡ [] → v ≡ fullRun from to s
+    none-shown x q z = let w : x ≡ v = cc in absurd (omega (arith, ap length z, ap (λ (y : Shown). length (y .entries)) w))
+
+    nothing : none ≡ some v → v ≡ fullRun from to s
+    nothing q = let z : _≡_ {A = ℕ} 0 1 = cc in absurd (omega arith)
+
+    go : (a b c d : Bool)
+        → (if a then none
+        else if b then some (shown (some (markerOf (s .run))) [] 0 none false)
+        else if c then none
+        else if d then some emptyRun
+        else some (fullRun from to s)) ≡ some v
+        → v ≡ fullRun from to s
+    go true b c d q = nothing q
+    go false true c d q = none-shown _ q refl
+    go false false true d q = nothing q
+    go false false false true q = none-shown _ q refl
+    go false false false false q = cc
+
+module _ (from to : ℕ) (s : Log) (v : Shown) (e : readFrom from to s ≡ some v) (j : ℕ) (h : j < length (v .entries)) where
+  run : v ≡ fullRun from to s
+  run = full from to s v e (omega arith)
+
+  abbrev first : ℕ
+  first = max from (s .run .compacted)
+
+  abbrev last : ℕ
+  last = min to (endOf (numbersOf s))
+
+  -- it lies before the end of what is shown
+  inside : first + j < last
+  unfolding fullRun
+  inside =
+      let t : List Change = drop (first - s .run .compacted) (s .run .retained) in
+      omega (arith, ap (λ (x : Shown). length (x .entries)) run, length-take (last - first) t)
+
+  pub each-held : (d : Change) → getD (v .entries) j d ≡ getD (s .run .retained) (shownAt from (s .run) j - s .run .compacted) d
+  unfolding fullRun
+  each-held d =
+      let i : first - s .run .compacted + j ≡ shownAt from (s .run) j - s .run .compacted = omega arith in
+      ap (λ (x : Shown). getD (x .entries) j d) run
+      ∙ getD-take (last - first) (drop (first - s .run .compacted) (s .run .retained)) j d (omega (arith, inside))
+      ∙ getD-drop (first - s .run .compacted) (s .run .retained) j d
+      ∙ ap (λ (k : ℕ). getD (s .run .retained) k d) i
+
+  pub each-decided : ltb j (v .decided) ≡ ltb (shownAt from (s .run) j) (s .marks .decided)
+  unfolding fullRun
+  each-decided = ap (λ (x : Shown). ltb j (x .decided)) run ∙ same (shownAt from (s .run) j) (s .marks .decided) refl
+    where
+      same : (i d : ℕ) → i ≡ first + j → ltb j (min last d - first) ≡ ltb i d
+      same i d q = go (ltb i d) refl
+        where
+          go : (t : Bool) → ltb i d ≡ t → ltb j (min last d - first) ≡ t
+          go true p = lt-ltb j (min last d - first) (omega (arith, inside, ltb-true i d p))
+          go false p = le-ltb j (min last d - first) (omega (arith, ltb-false i d p))

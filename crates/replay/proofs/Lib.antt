@@ -1,2 +1,2 @@
 pub mod Telling
-pub mod Lines
+pub mod Inputs

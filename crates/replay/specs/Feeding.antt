@@ -1,4 +1,4 @@
--- Lines that come in parts: what a line means, some of whose bytes have come, and what its end prints.
+-- Lines that come in parts: what a line means as its buffer keeps it, and what is known between one part of the input and the next.
 use Prim.Native.Nat.{ℕ, _≤_}
 use mathlib.Core.Path.{_≡_}
 use mathlib.Core.List.{List, _++_}
@@ -9,10 +9,10 @@ use Rattle.text.specs.declared.Command.{Command}
 use Rattle.text.specs.declared.Command.the-variants.{BadLine}
 use Rattle.replay.specs.Answering.{Told, told}
 
--- the bytes that have come (`come` in text), with more after them up to the line's end; a line longer than the buffer is a bad line
-abbrev pub meaning : Option (List ℕ) → List ℕ → Command
-meaning none more = BadLine
-meaning (some bs) more = parseOf (bs ++ more)
+-- the bytes that have come (`come` in text); a line longer than the buffer is a bad line
+abbrev pub meaning : Option (List ℕ) → Command
+meaning none = BadLine
+meaning (some bs) = parseOf bs
 
 -- a longer line is a bad line: the longest that is none has a word of six letters and two numbers of twenty digits
 abbrev pub lineRoom : ℕ
@@ -37,7 +37,7 @@ after bs t = told (bs ++ t .text) (t .after)
 -- what is known between one part of the input and the next: the line so far is in its buffer, and the answers that wait in theirs
 pub record Fed (len used line log out : ℕ) : Type 0 where
   pub inside : len ≤ line
-  pub buffer : lineRoom ≤ line
+  pub buffer : line ≡ lineRoom
   pub waiting : used ≤ outRoom
   pub room : out ≡ outRoom
   pub words : log ≡ logWords

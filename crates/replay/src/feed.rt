@@ -5,13 +5,14 @@ use text::Command;
 use text::inner::Partial;
 ghost use mathlib.Core.Path.{_≡_};
 ghost use mathlib.Core.Bool.{false};
-ghost use mathlib.Core.List.{List, [], _++_};
-ghost use Prim.Native.Nat.{ℕ, _≤_};
+ghost use Prim.Native.Nat.{_≤_};
 ghost use lib.ListN.{length, take};
-ghost use Rattle.state_cache.specs.State.{raw};
-ghost use Rattle.text.specs.Feeding.{come, nextAt};
-ghost use Rattle.replay.specs.Answering.{told, answering};
-ghost use Rattle.replay.specs.Feeding.{meaning, lineRoom, outRoom, lastStart, after, Fed};
+ghost use Rattle.model.specs.Log.{freshLog};
+ghost use Rattle.state_cache.specs.State.{raw, rawOf};
+ghost use Rattle.text.specs.Lines.{Lines, lineEnded, restWith, endedIf, linesFrom, lastEnded};
+ghost use Rattle.text.specs.Feeding.{come, joined};
+ghost use Rattle.replay.specs.Feeding.{meaning, outRoom, Fed};
+ghost use Rattle.replay.specs.Input.{Reached};
 
 // Where more answers wait than this, one more might not fit.
 const LAST_START: usize = 65344;
@@ -24,10 +25,30 @@ pub struct Feed {
     pub more: bool,
 }
 
+// Before the first part: a fresh log of batch size 0, no byte of a line, and no answer.
+pub(crate) fn start(
+    log: &mut [u64; entry::LOG_WORDS],
+    snapshot: &mut [u64; entry::SNAPSHOT_WORDS],
+) -> Feed
+    ensures { λ r. ⌜ (raw (r .index) (now (log .exit)) (now (snapshot .exit)) ≡ rawOf (freshLog 0)) × (r .held .len ≡ 0) × (r .held .over ≡ false) × (r .used ≡ 0) ⌝ }
+{
+    let first = state_cache::fresh(0, log, snapshot);
+    let index = first.index;
+    Feed {
+        index,
+        held: Partial {
+            len: 0,
+            over: false,
+        },
+        used: 0,
+        more: true,
+    }
+}
+
 // What a line means whose end has come.
 fn command_of(held: Partial, line: &[u8]) -> Command
     requires { ⌜ held .len ≤ length (now line) ⌝ }
-    ensures { λ r. ⌜ r ≡ meaning (come (held .over) (held .len) (now (line .entry))) [] ⌝ }
+    ensures { λ r. ⌜ r ≡ meaning (come (held .over) (held .len) (now (line .entry))) ⌝ }
 {
     if held.over {
         return Command::BadLine;
@@ -39,8 +60,9 @@ fn command_of(held: Partial, line: &[u8]) -> Command
 // The end of a line: it is answered on the log, and the next begins.
 fn finish(st: Feed, line: &[u8], log: &mut [u64], snapshot: &mut [u64], out: &mut [u8]) -> Feed
     requires { ⌜ Fed (st .held .len) (st .used) (length (now line)) (length (now log)) (length (now out)) ⌝ }
-    ensures { λ r. ⌜ (r .held .len ≡ 0) × (r .held .over ≡ false) × (r .used ≤ outRoom) ⌝ }
-    ensures { λ r. ⌜ told (take (r .used) (now (out .exit))) (raw (r .index) (now (log .exit)) (now (snapshot .exit))) ≡ after (take (nextAt lastStart (st .used)) (now (out .entry))) (answering (meaning (come (st .held .over) (st .held .len) (now (line .entry))) []) (raw (st .index) (now (log .entry)) (now (snapshot .entry)))) ⌝ }
+    ensures { λ r. ⌜ (r .held .len ≤ length (now (line .entry))) × (r .used ≤ outRoom) ⌝ }
+    ensures { λ r. ⌜ ((ls : Lines) → Reached ls (raw (st .index) (now (log .entry)) (now (snapshot .entry))) (come (st .held .over) (st .held .len) (now (line .entry))) (take (st .used) (now (out .entry)))
+        → Reached (lineEnded ls) (raw (r .index) (now (log .exit)) (now (snapshot .exit))) (come (r .held .over) (r .held .len) (now (line .entry))) (take (r .used) (now (out .exit)))) ⌝ }
 {
     let used = st.used;
     let index = st.index;
@@ -60,29 +82,11 @@ fn finish(st: Feed, line: &[u8], log: &mut [u64], snapshot: &mut [u64], out: &mu
     }
 }
 
-// The end of a line, where there is one.
-pub(crate) fn finish_if(
-    ends: bool,
-    st: Feed,
-    line: &[u8],
-    log: &mut [u64],
-    snapshot: &mut [u64],
-    out: &mut [u8],
-) -> Feed
-    requires { ⌜ Fed (st .held .len) (st .used) (length (now line)) (length (now log)) (length (now out)) ⌝ }
-    ensures { λ r. ⌜ (r .held .len ≤ length (now (line .entry))) × (r .used ≤ outRoom) ⌝ }
-{
-    if ends {
-        return finish(st, line, log, snapshot, out);
-    }
-    st
-}
-
 // A part of a line is kept. One that does not fit is not, since the line is then a bad one whatever it says.
 fn keep(part: &[u8], st: Feed, line: &mut [u8]) -> Feed
-    requires { ⌜ (st .held .len ≤ length (now line)) × (lineRoom ≤ length (now line)) ⌝ }
-    ensures { λ r. ⌜ ((more : List ℕ) → meaning (come (r .held .over) (r .held .len) (now (line .exit))) more ≡ meaning (come (st .held .over) (st .held .len) (now (line .entry))) (now (part .entry) ++ more)) ⌝ }
-    ensures { λ r. ⌜ (r .held .len ≤ length (now (line .entry))) × (r .used ≡ st .used) ⌝ }
+    requires { ⌜ st .held .len ≤ length (now line) ⌝ }
+    ensures { λ r. ⌜ (r .held .len ≤ length (now (line .entry))) × (r .used ≡ st .used) × (r .index ≡ st .index) ⌝ }
+    ensures { λ r. ⌜ come (r .held .over) (r .held .len) (now (line .exit)) ≡ joined (length (now (line .entry))) (come (st .held .over) (st .held .len) (now (line .entry))) (now (part .entry)) ⌝ }
 {
     let held = text::inner::keep(part, st.held, line);
     let mut s = st;
@@ -90,6 +94,29 @@ fn keep(part: &[u8], st: Feed, line: &mut [u8]) -> Feed
     s
 }
 
+// Bytes that join the line, and its end, where it comes after them.
+fn take_line(
+    bytes: &[u8],
+    ends: bool,
+    st: Feed,
+    line: &mut [u8],
+    log: &mut [u64],
+    snapshot: &mut [u64],
+    out: &mut [u8],
+) -> Feed
+    requires { ⌜ Fed (st .held .len) (st .used) (length (now line)) (length (now log)) (length (now out)) ⌝ }
+    ensures { λ r. ⌜ (r .held .len ≤ length (now (line .entry))) × (r .used ≤ outRoom) ⌝ }
+    ensures { λ r. ⌜ ((ls : Lines) → Reached ls (raw (st .index) (now (log .entry)) (now (snapshot .entry))) (come (st .held .over) (st .held .len) (now (line .entry))) (take (st .used) (now (out .entry)))
+        → Reached (endedIf ends (restWith (now (bytes .entry)) ls)) (raw (r .index) (now (log .exit)) (now (snapshot .exit))) (come (r .held .over) (r .held .len) (now (line .exit))) (take (r .used) (now (out .exit)))) ⌝ }
+{
+    let s = keep(bytes, st, line);
+    if ends {
+        return finish(s, line, log, snapshot, out);
+    }
+    s
+}
+
+// A part of the input: the lines that end in it are answered, and what comes after the last line end is kept.
 pub(crate) fn take_part(
     part: &[u8],
     st: Feed,
@@ -100,14 +127,35 @@ pub(crate) fn take_part(
 ) -> Feed
     requires { ⌜ Fed (st .held .len) (st .used) (length (now line)) (length (now log)) (length (now out)) ⌝ }
     ensures { λ r. ⌜ (r .held .len ≤ length (now (line .entry))) × (r .used ≤ outRoom) ⌝ }
+    ensures { λ r. ⌜ ((ls : Lines) → Reached ls (raw (st .index) (now (log .entry)) (now (snapshot .entry))) (come (st .held .over) (st .held .len) (now (line .entry))) (take (st .used) (now (out .entry)))
+        → Reached (linesFrom ls (now (part .entry))) (raw (r .index) (now (log .exit)) (now (snapshot .exit))) (come (r .held .over) (r .held .len) (now (line .exit))) (take (r .used) (now (out .exit)))) ⌝ }
 {
     let mut s = st;
     let mut at = 0;
     while at < part.len() {
         let e = at + text::inner::gap(&part[at..], b'\n');
-        s = keep(&part[at..e], s, line);
-        s = finish_if(e < part.len(), s, line, log, snapshot, out);
+        s = take_line(&part[at..e], e < part.len(), s, line, log, snapshot, out);
         at = e + 1;
     }
     s
+}
+
+// The end of the input: the last line is answered, where it has a byte.
+pub(crate) fn end(
+    st: Feed,
+    line: &[u8],
+    log: &mut [u64],
+    snapshot: &mut [u64],
+    out: &mut [u8],
+) -> Feed
+    requires { ⌜ Fed (st .held .len) (st .used) (length (now line)) (length (now log)) (length (now out)) ⌝ }
+    ensures { λ r. ⌜ r .used ≤ outRoom ⌝ }
+    ensures { λ r. ⌜ ((ls : Lines) → Reached ls (raw (st .index) (now (log .entry)) (now (snapshot .entry))) (come (st .held .over) (st .held .len) (now (line .entry))) (take (st .used) (now (out .entry)))
+        → Reached (lastEnded ls) (raw (r .index) (now (log .exit)) (now (snapshot .exit))) (come (r .held .over) (r .held .len) (now (line .entry))) (take (r .used) (now (out .exit)))) ⌝ }
+{
+    let held = st.held;
+    if held.over | (held.len > 0) {
+        return finish(st, line, log, snapshot, out);
+    }
+    st
 }

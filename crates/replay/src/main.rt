@@ -2,9 +2,14 @@
 use feed::Feed;
 use libc::STDIN_FILENO;
 use libc::STDOUT_FILENO;
-use text::inner::Partial;
-ghost use Prim.Native.Nat.{_≤_};
+ghost use Prim.Native.Nat.{ℕ, _≤_};
+ghost use mathlib.Core.List.{List};
+ghost use lib.ListN.{take};
+ghost use Rattle.state_cache.specs.State.{raw};
+ghost use Rattle.text.specs.Lines.{Lines, linesFrom, linesOf};
+ghost use Rattle.text.specs.Feeding.{come};
 ghost use Rattle.replay.specs.Feeding.{lineRoom, outRoom};
+ghost use Rattle.replay.specs.Input.{Reached};
 
 mod answer;
 mod feed;
@@ -25,6 +30,8 @@ fn take_turn(
 ) -> Feed
     requires { ⌜ (st .held .len ≤ lineRoom) × (st .used ≤ outRoom) ⌝ }
     ensures { λ r. ⌜ (r .held .len ≤ lineRoom) × (r .used ≤ outRoom) ⌝ }
+    ensures { λ r. ⌜ ((ls : Lines) → Reached ls (raw (st .index) (now (log .entry)) (now (snapshot .entry))) (come (st .held .over) (st .held .len) (now (line .entry))) (take (st .used) (now (out .entry)))
+        → ((part : List ℕ) × Reached (linesFrom ls part) (raw (r .index) (now (log .exit)) (now (snapshot .exit))) (come (r .held .over) (r .held .len) (now (line .exit))) (take (r .used) (now (out .exit))))) ⌝ }
 {
     let used = st.used;
     let view: &[u8] = out;
@@ -41,7 +48,7 @@ fn take_turn(
     feed::take_part(&chunk[..n], s, line, log, snapshot, out)
 }
 
-// The last line, where no line end came after it, and the answers that wait.
+// The end of the input, and the answers that wait. What has come by then is some input's lines, answered from the start.
 fn last(
     st: Feed,
     line: &[u8; LINE_ROOM],
@@ -50,9 +57,9 @@ fn last(
     out: &mut [u8; OUT_ROOM],
 )
     requires { ⌜ (st .held .len ≤ lineRoom) × (st .used ≤ outRoom) ⌝ }
+    requires { ⌜ ((input : List ℕ) × Reached (linesOf input) (raw (st .index) (now log) (now snapshot)) (come (st .held .over) (st .held .len) (now line)) (take (st .used) (now out))) ⌝ }
 {
-    let held = st.held;
-    let s = feed::finish_if(held.over | (held.len > 0), st, line, log, snapshot, out);
+    let s = feed::end(st, line, log, snapshot, out);
     let used = s.used;
     let view: &[u8] = out;
     io::write_all(STDOUT_FILENO, &view[..used]);
@@ -63,17 +70,7 @@ fn main() {
     let mut log = [0u64; entry::LOG_WORDS];
     let mut snapshot = [0u64; entry::SNAPSHOT_WORDS];
     let mut out = [0u8; OUT_ROOM];
-    let first = state_cache::fresh(0, &mut log, &mut snapshot);
-    let index = first.index;
-    let mut s = Feed {
-        index,
-        held: Partial {
-            len: 0,
-            over: false,
-        },
-        used: 0,
-        more: true,
-    };
+    let mut s = feed::start(&mut log, &mut snapshot);
     // Nothing says that input ends: the turns are what is counted down.
     let mut turns = u64::MAX;
     while turns > 0 && s.more {

@@ -5,7 +5,7 @@ use mathlib.Core.Bool.{Bool, true, false, _&&_}
 use mathlib.Core.List.{List, [], _++_, append-nil}
 use native.Mathlib.Omega.{arith}
 use native.Mathlib.Nat.{sub-zero}
-use borrow.Author.Tests.{eqb-true}
+use borrow.Author.Tests.{le-leb, eq-eqb, eqb-true}
 use lib.Dec.{leb, eqb}
 use lib.ListN.{length, take, replicate, length-append, length-replicate}
 use lib.Seq.{paste}
@@ -113,3 +113,7 @@ module _ (n : ℕ) (log snapshot : List ℕ) where
           ap (λ (j : ℕ). paste ws 0 (replicate j 0) j) (sub-zero (length ws))
           ∙ ap (λ (j : ℕ). paste ws 0 (replicate (length ws) 0) j) (sym k)
           ∙ paste-all ws (replicate (length ws) 0) k
+
+pub fresh-starts : (n : ℕ) (log snapshot : List ℕ) → n ≤ largestBatch → length log ≡ logWords → length snapshot ≡ snapshotWords → freshCall n log snapshot .after ≡ rawOf (freshLog n)
+unfolding freshCall
+fresh-starts n log snapshot h l k = rw (le-leb n largestBatch h, eq-eqb (length log) logWords l, eq-eqb (length snapshot) snapshotWords k)

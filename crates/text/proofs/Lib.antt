@@ -1,4 +1,5 @@
 pub mod ParseLaws
 pub mod Long
 pub mod AnswerLaws
+pub mod LineLaws
 pub mod FeedLaws

@@ -12,6 +12,10 @@ abbrev pub come : Bool → ℕ → List ℕ → Option (List ℕ)
 come true len line = none
 come false len line = some (take len line)
 
+-- a line as a buffer of so many bytes keeps it
+abbrev pub fitting : ℕ → List ℕ → Option (List ℕ)
+fitting room bs = if leb (length bs) room then some bs else none
+
 -- with one more part, in a buffer of so many bytes
 abbrev pub joined : ℕ → Option (List ℕ) → List ℕ → Option (List ℕ)
 joined room none part = none

@@ -1,28 +1,34 @@
--- `replay::main` is safe and ends: the line so far fits its buffer, and the answers that wait theirs. The measure is the number of turns left.
-use Prim.Native.Nat.{_≤_}
-use mathlib.Core.Path.{refl}
+-- `replay::main` is safe and ends, and keeps where the program stands: at each turn some input has come, and its lines have been answered from a
+-- fresh log of batch size 0 on. The measure is the number of turns left.
+use Prim.Native.Nat.{ℕ, _≤_}
+use mathlib.Core.List.{List, [], _++_}
 use native.Mathlib.Omega.{arith}
+use lib.ListN.{take}
+use Rattle.state_cache.specs.State.{raw}
+use Rattle.text.specs.Lines.{noLine, linesOf}
+use Rattle.text.specs.Feeding.{come}
+use Rattle.text.proofs.LineLaws.{lines-append}
 use Rattle.replay.specs.Feeding.{lineRoom, outRoom}
+use Rattle.replay.specs.Input.{Reached}
+use Rattle.replay.proofs.Inputs.{begun}
 use Rattle.replay.proofs.main.Statement.{statement}
 use Rattle.replay.proofs.main.Tie as tie
 
 abbrev Inv-loop : tie.InvT-loop
-Inv-loop line₀ log₀ snapshot₀ out₀ s₀ turns₀ line log snapshot out s turns = (s .held .len ≤ lineRoom) × (s .used ≤ outRoom)
+Inv-loop line₀ log₀ snapshot₀ out₀ s₀ turns₀ line log snapshot out s turns =
+    ((s .held .len ≤ lineRoom) × (s .used ≤ outRoom))
+    × ((input : List ℕ) × Reached (linesOf input) (raw (s .index) log snapshot) (come (s .held .over) (s .held .len) line) (take (s .used) out))
 
 abbrev μ-loop : tie.MeasureT-loop
 μ-loop line₀ log₀ snapshot₀ out₀ s₀ turns₀ line log snapshot out s turns = turns
 
-slice-aggregate-fresh : tie.Need-slice-aggregate-fresh Inv-loop μ-loop
-slice-aggregate-fresh c = refl
-
-slice-aggregate-fresh-2 : tie.Need-slice-aggregate-fresh-2 Inv-loop μ-loop
-slice-aggregate-fresh-2 c = refl
-
-fresh-requires : tie.Need-fresh-requires Inv-loop μ-loop
-fresh-requires c κs = tt
+start-requires : tie.Need-start-requires Inv-loop μ-loop
+start-requires c κs = tt
 
 loop-holds : tie.Need-loop-holds Inv-loop μ-loop
-loop-holds c = omega arith
+loop-holds c =
+    let e = c .start .ensures in
+    (omega (arith, e .1, e .3), ([], begun _ _ _ _ _ _ (e .0) (e .1) (e .2) (e .3)))
 
 take-turn-requires : tie.Need-take-turn-requires Inv-loop μ-loop
 take-turn-requires c κs = omega arith
@@ -34,10 +40,13 @@ loop-less : tie.Need-loop-less Inv-loop μ-loop
 loop-less c = omega arith
 
 loop-again : tie.Need-loop-again Inv-loop μ-loop
-loop-again c = omega arith
+loop-again c =
+    let so-far = c .before .before .before .before .before .before .before .loop .inv .1 in
+    let more = c .take-turn .ensures .1 (linesOf (so-far .0)) (so-far .1) in
+    (c .take-turn .ensures .0, (so-far .0 ++ more .0, rw (lines-append noLine (so-far .0) (more .0)) (more .1)))
 
 last-requires : tie.Need-last-requires Inv-loop μ-loop
-last-requires c κs = omega arith
+last-requires c κs = c .before .before .before .before .before .loop .inv
 
 returns : tie.Need-returns Inv-loop μ-loop
 returns c = tt
@@ -48,9 +57,7 @@ main-spec =
     (tie.spec
     Inv-loop
     μ-loop
-    slice-aggregate-fresh
-    slice-aggregate-fresh-2
-    fresh-requires
+    start-requires
     loop-holds
     take-turn-requires
     sub-turns

@@ -1,7 +1,12 @@
--- `replay::take_turn` is safe.
+-- `replay::take_turn` meets its contract: what waits is handed over, and what was read is a part of the input.
 use mathlib.Core.Path.{sym}
+use mathlib.Core.List.{[]}
 use native.Mathlib.Omega.{arith}
+use lib.ListN.{take}
 use lib.Seq.{length-take-le}
+use denote.Ref.{now}
+use Rattle.text.specs.Lines.{Lines, linesFrom}
+use Rattle.replay.proofs.Inputs.{handed-over}
 use borrow.Author.Needs.{needs}
 use Rattle.replay.proofs.take_turn.Statement.{statement}
 use Rattle.replay.proofs.take_turn.Tie as tie
@@ -28,7 +33,10 @@ count-requires : tie.Need-count-requires
 count-requires c κs = search needs
 
 returns : tie.Need-returns
-returns c = search needs
+unfolding linesFrom
+returns c =
+    let s = c .before .before .before .before .before .before .before .before .before .before .before in
+    (search needs, λ (ls : Lines) st. ([], handed-over ls _ _ (take (s .args .st .used) (now (s .args .out))) st))
 
 array-share-prefix-chunk : tie.Need-array-share-prefix-chunk
 array-share-prefix-chunk c = search needs
@@ -40,7 +48,9 @@ take-part-requires : tie.Need-take-part-requires
 take-part-requires c κs = search needs
 
 returns-2 : tie.Need-returns-2
-returns-2 c = search needs
+returns-2 c =
+    let s = c .before .before .before .before .before .before .before .before .before .before .before .before .before .before .before .before .before in
+    (search needs, λ (ls : Lines) st. (_, c .take-part .ensures .1 ls (handed-over ls _ _ (take (s .args .st .used) (now (s .args .out))) st)))
 
 pub take-turn-spec : {M : Type 1} → statement M
 take-turn-spec =

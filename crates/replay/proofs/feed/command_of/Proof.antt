@@ -1,12 +1,9 @@
 -- `replay::feed::command_of` meets its contract.
-use mathlib.Core.List.{[], append-nil}
 use mathlib.Core.Path.{sym, ap, _∙_}
 use mathlib.Core.Bool.{Bool}
-use lib.ListN.{take}
 use lib.Seq.{length-take-le}
 use denote.Ref.{now}
 use Rattle.text.specs.Feeding.{come}
-use Rattle.text.specs.Parse.{parseOf}
 use Rattle.replay.specs.Feeding.{meaning}
 use borrow.Author.Needs.{needs}
 use Rattle.replay.proofs.feed.command_of.Statement.{statement}
@@ -14,7 +11,7 @@ use Rattle.replay.proofs.feed.command_of.Tie as tie
 
 returns : tie.Need-returns
 returns c = let a = c .before .before .args in
-    sym (ap (λ (b : Bool). meaning (come b (a .held .len) (now (a .line))) []) (c .if1 .taken))
+    sym (ap (λ (b : Bool). meaning (come b (a .held .len) (now (a .line)))) (c .if1 .taken))
 
 slice-aggregate-parse : tie.Need-slice-aggregate-parse
 slice-aggregate-parse c = sym (length-take-le _ _ (c .before .before .before .pre))
@@ -24,7 +21,7 @@ parse-requires c κs = search needs
 
 returns-2 : tie.Need-returns-2
 returns-2 c = let a = c .before .before .before .before .args in
-    c .parse .ensures ∙ ap parseOf (sym (append-nil (take (a .held .len) (now (a .line))))) ∙ sym (ap (λ (b : Bool). meaning (come b (a .held .len) (now (a .line))) []) (c .before .before .if1 .left))
+    c .parse .ensures ∙ sym (ap (λ (b : Bool). meaning (come b (a .held .len) (now (a .line)))) (c .before .before .if1 .left))
 
 pub command-of-spec : {M : Type 1} → statement M
 command-of-spec = tie.close (tie.spec returns slice-aggregate-parse parse-requires returns-2)

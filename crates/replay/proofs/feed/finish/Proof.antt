@@ -1,16 +1,17 @@
 -- `replay::feed::finish` meets its contract: the answer is put where there is room for it.
-use mathlib.Core.List.{[]}
 use Prim.Native.Nat.{ℕ}
-use mathlib.Core.Path.{refl, ap, _∙_}
+use mathlib.Core.Path.{ap, _∙_}
 use native.Mathlib.Omega.{arith}
 use lib.ListN.{take}
 use denote.Ref.{now}
 use Rattle.state_cache.specs.State.{raw}
+use Rattle.text.specs.Lines.{Lines}
 use Rattle.text.specs.Feeding.{come}
 use Rattle.text.specs.declared.Command.{Command}
 use Rattle.text.proofs.FeedLaws.{next-low}
 use Rattle.replay.specs.Answering.{answering}
 use Rattle.replay.specs.Feeding.{meaning, lastStart, after}
+use Rattle.replay.proofs.Inputs.{finished}
 use borrow.Author.Needs.{needs}
 use Rattle.replay.proofs.feed.finish.Statement.{statement}
 use Rattle.replay.proofs.feed.finish.Tie as tie
@@ -36,12 +37,17 @@ same-length-3 c = search needs
 
 returns : tie.Need-returns
 returns c =
-    let a = c .before .before .before .before .before .before .before .before .before .before .before .before .before .before .before .before .before .before .before .args in
+    let s = c .before .before .before .before .before .before .before .before .before .before .before .before .before .before .before .before .before .before .before in
+    let a = s .args in
     let done = c .before .before .before .before .before .before .before .step in
     let room = c .before .before .before .before .before .before .before .before .before .before .before .before .room in
     let x = raw (a .st .index) (now (a .log)) (now (a .snapshot)) in
-    let k = meaning (come (a .st .held .over) (a .st .held .len) (now (a .line))) [] in
-    ((refl, refl, omega (arith, done .ensures .0, room .ensures, next-low lastStart (a .st .used))), done .ensures .1 ∙ ap (λ (k : Command). after (take (room .result) (now (a .out))) (answering k x)) (c .before .before .before .before .before .before .before .before .before .before .before .command-of .ensures) ∙ ap (λ (n : ℕ). after (take n (now (a .out))) (answering k x)) (room .ensures))
+    let came = come (a .st .held .over) (a .st .held .len) (now (a .line)) in
+    let answered =
+    done .ensures .1
+    ∙ ap (λ (k : Command). after (take (room .result) (now (a .out))) (answering k x)) (c .before .before .before .before .before .before .before .before .before .before .before .command-of .ensures)
+    ∙ ap (λ (n : ℕ). after (take n (now (a .out))) (answering (meaning came) x)) (room .ensures) in
+    ((omega arith, omega (arith, done .ensures .0, room .ensures, next-low lastStart (a .st .used))), λ (ls : Lines) st. finished ls x came (a .st .used) (now (a .out)) st _ _ (now (a .line)) answered)
 
 pub finish-spec : {M : Type 1} → statement M
 finish-spec =

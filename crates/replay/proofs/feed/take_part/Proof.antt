@@ -1,21 +1,33 @@
--- `replay::feed::take_part` is safe and ends: the line so far fits its buffer, and the answers that wait theirs.
-use Prim.Native.Nat.{_≤_, _+_, _-_}
-use mathlib.Core.Path.{_≡_}
+-- `replay::feed::take_part` meets its contract: so many bytes of the part have come.
+use Prim.Native.Nat.{ℕ, _≤_, _+_, _-_}
+use mathlib.Core.Path.{_≡_, ap}
 use native.Mathlib.Omega.{arith}
-use lib.ListN.{length, length-take, length-drop}
+use lib.ListN.{length, take, length-take, length-drop}
+use lib.Seq.{take-all}
+use denote.Ref.{now}
 use Rattle.entry.specs.Limits.{logWords}
+use Rattle.state_cache.specs.State.{raw}
+use Rattle.text.specs.Lines.{Lines, linesFrom}
+use Rattle.text.specs.Feeding.{come}
+use Rattle.text.proofs.LineLaws.{lines-part}
 use Rattle.replay.specs.Feeding.{lineRoom, outRoom}
+use Rattle.replay.specs.Input.{Reached}
 use Rattle.replay.proofs.feed.take_part.Statement.{statement}
 use Rattle.replay.proofs.feed.take_part.Tie as tie
 
 abbrev Inv-loop : tie.InvT-loop
-Inv-loop part line₀ log₀ snapshot₀ out₀ s₀ at₀ line log snapshot out s at = (at ≤ length part + 1) × (s .held .len ≤ length line) × (s .used ≤ outRoom) × (length out ≡ outRoom) × (length log ≡ logWords) × (lineRoom ≤ length line) × (length line ≡ length line₀) × (length log ≡ length log₀) × (length snapshot ≡ length snapshot₀) × (length out ≡ length out₀)
+Inv-loop part line₀ log₀ snapshot₀ out₀ s₀ at₀ line log snapshot out s at =
+    ((at ≤ length part + 1) × (s .held .len ≤ length line) × (s .used ≤ outRoom) × (length out ≡ outRoom) × (length log ≡ logWords) × (length line ≡ lineRoom)
+    × (length line ≡ length line₀) × (length log ≡ length log₀) × (length snapshot ≡ length snapshot₀) × (length out ≡ length out₀))
+    × ((ls : Lines) → Reached ls (raw (s₀ .index) log₀ snapshot₀) (come (s₀ .held .over) (s₀ .held .len) line₀) (take (s₀ .used) out₀)
+    → Reached (linesFrom ls (take at part)) (raw (s .index) log snapshot) (come (s .held .over) (s .held .len) line) (take (s .used) out))
 
 abbrev μ-loop : tie.MeasureT-loop
 μ-loop part line₀ log₀ snapshot₀ out₀ s₀ at₀ line log snapshot out s at = length part + 1 - at
 
 loop-holds : tie.Need-loop-holds Inv-loop μ-loop
-loop-holds c = omega arith
+unfolding linesFrom
+loop-holds c = (omega arith, λ (ls : Lines) st. st)
 
 sub-gap : tie.Need-sub-gap Inv-loop μ-loop
 sub-gap c = omega arith
@@ -30,43 +42,40 @@ gap-requires : tie.Need-gap-requires Inv-loop μ-loop
 gap-requires c κs = tt
 
 add-e : tie.Need-add-e Inv-loop μ-loop
-add-e c = let g = simp (length-take, length-drop) at (c .gap .ensures .0 .0) in omega (arith, g)
+add-e c = omega arith
 
-sub-keep : tie.Need-sub-keep Inv-loop μ-loop
-sub-keep c = let g = simp (length-take, length-drop) at (c .gap .ensures .0 .0) in omega (arith, g)
+sub-take-line : tie.Need-sub-take-line Inv-loop μ-loop
+sub-take-line c = omega arith
 
-part-keep-start : tie.Need-part-keep-start Inv-loop μ-loop
-part-keep-start c = let g = simp (length-take, length-drop) at (c .gap .ensures .0 .0) in omega (arith, g)
+part-take-line-start : tie.Need-part-take-line-start Inv-loop μ-loop
+part-take-line-start c = omega arith
 
-part-keep-end : tie.Need-part-keep-end Inv-loop μ-loop
-part-keep-end c = let g = simp (length-take, length-drop) at (c .gap .ensures .0 .0) in omega (arith, g)
+part-take-line-end : tie.Need-part-take-line-end Inv-loop μ-loop
+part-take-line-end c = omega arith
 
-keep-requires : tie.Need-keep-requires Inv-loop μ-loop
-keep-requires c κs = omega arith
-
-finish-if-requires : tie.Need-finish-if-requires Inv-loop μ-loop
-finish-if-requires c κs =
-    let i = c .before .before .before .before .before .before .before .before .before .before .before .before .loop .inv in
-    let k = c .before .before .before .before .before .before .keep in
-    record {
-      inside = omega (arith, i, k .ensures .1, k .kept);
-      buffer = omega (arith, i, k .kept);
-      waiting = omega (arith, i, k .ensures .1);
-      room = i .3;
-      words = i .4;
-    }
+take-line-requires : tie.Need-take-line-requires Inv-loop μ-loop
+take-line-requires c κs = omega arith
 
 add-at : tie.Need-add-at Inv-loop μ-loop
-add-at c = let g = simp (length-take, length-drop) at (c .before .before .before .before .before .before .before .before .before .before .before .before .before .before .before .before .gap .ensures .0 .0) in
-    omega (arith, g, c .before .before .before .before .before .before .finish-if .ensures, c .before .before .before .before .before .before .finish-if .kept, c .before .before .before .before .before .before .before .before .before .before .before .before .before .keep .ensures .1, c .before .before .before .before .before .before .before .before .before .before .before .before .before .keep .kept, c .before .before .before .before .before .before .before .before .before .before .before .before .before .before .before .before .before .before .loop-test .taken, c .before .before .before .before .before .before .before .before .before .before .before .before .before .before .before .before .before .before .before .loop .inv, c .before .before .before .before .before .before .before .before .before .before .before .before .before .before .before .before .before .before .before .before .before .before .before .before .before .good .0)
+add-at c =
+    let g = simp (length-take, length-drop) at (c .before .before .before .before .before .before .before .before .before .before .before .before .before .before .gap .ensures .0 .0) in
+    omega (arith, g, c .before .before .before .before .before .before .before .before .before .before .before .before .before .before .before .before .before .loop .inv .0, c .before .before .before .before .before .before .before .before .before .before .before .before .before .before .before .before .loop-test .taken, c .before .before .before .before .before .before .before .before .before .before .before .before .before .before .before .before .before .before .before .before .before .before .before .good .0)
 
 loop-less : tie.Need-loop-less Inv-loop μ-loop
-loop-less c = let g = simp (length-take, length-drop) at (c .before .before .before .before .before .before .before .before .before .before .before .before .before .before .before .before .gap .ensures .0 .0) in
-    omega (arith, g, c .before .before .before .before .before .before .finish-if .ensures, c .before .before .before .before .before .before .finish-if .kept, c .before .before .before .before .before .before .before .before .before .before .before .before .before .keep .ensures .1, c .before .before .before .before .before .before .before .before .before .before .before .before .before .keep .kept, c .before .before .before .before .before .before .before .before .before .before .before .before .before .before .before .before .before .before .loop-test .taken, c .before .before .before .before .before .before .before .before .before .before .before .before .before .before .before .before .before .before .before .loop .inv)
+loop-less c = let g = simp (length-take, length-drop) at (c .before .before .before .before .before .before .before .before .before .before .before .before .before .before .gap .ensures .0 .0) in omega (arith, g, c .before .before .before .before .before .before .before .before .before .before .before .before .before .before .before .before .before .loop .inv .0)
 
 loop-again : tie.Need-loop-again Inv-loop μ-loop
-loop-again c = let g = simp (length-take, length-drop) at (c .before .before .before .before .before .before .before .before .before .before .before .before .before .before .before .before .gap .ensures .0 .0) in
-    omega (arith, g, c .before .before .before .before .before .before .finish-if .ensures, c .before .before .before .before .before .before .finish-if .kept, c .before .before .before .before .before .before .before .before .before .before .before .before .before .keep .ensures .1, c .before .before .before .before .before .before .before .before .before .before .before .before .before .keep .kept, c .before .before .before .before .before .before .before .before .before .before .before .before .before .before .before .before .before .before .loop-test .taken, c .before .before .before .before .before .before .before .before .before .before .before .before .before .before .before .before .before .before .before .loop .inv)
+loop-again c =
+    let part = now (c .before .before .before .before .before .before .before .before .before .before .before .before .before .before .before .before .before .before .before .before .before .before .before .args .part) in
+    let turn = c .before .before .before .before .before .before .before .before .before .before .before .before .before .before .before .before .before .loop in
+    let gap = c .before .before .before .before .before .before .before .before .before .before .before .before .before .before .gap in
+    let line = c .before .before .before .before .before .before .before .before .take-line in
+    let g = simp (length-take, length-drop) at (gap .ensures .0 .0) in (
+      omega (arith, g, turn .inv .0, line .ensures .0, line .kept, c .before .before .before .before .before .before .before .before .before .before .before .before .before .before .before .before .loop-test .taken),
+      λ (ls : Lines) st.
+          rw (lines-part ls part (turn .at) (c .before .before .before .before .before .before .before .before .before .before .before .before .before .before .before .before .loop-test .taken) (turn .at + gap .result) (ap (λ (k : ℕ). turn .at + k) (gap .ensures .1)))
+          (line .ensures .1 (linesFrom ls (take (turn .at) part)) (turn .inv .1 ls st)),
+    )
 
 same-length : tie.Need-same-length Inv-loop μ-loop
 same-length c = omega arith
@@ -81,7 +90,10 @@ same-length-4 : tie.Need-same-length-4 Inv-loop μ-loop
 same-length-4 c = omega arith
 
 returns : tie.Need-returns Inv-loop μ-loop
-returns c = omega arith
+returns c =
+    let part = now (c .before .before .before .before .before .before .before .args .part) in
+    let turn = c .before .loop in
+    (omega arith, λ (ls : Lines) st. rw (← take-all (turn .at) part (c .loop-test .left)) (turn .inv .1 ls st))
 
 pub take-part-spec : {M : Type 1} → statement M
 take-part-spec =
@@ -95,11 +107,10 @@ take-part-spec =
     part-gap-end
     gap-requires
     add-e
-    sub-keep
-    part-keep-start
-    part-keep-end
-    keep-requires
-    finish-if-requires
+    sub-take-line
+    part-take-line-start
+    part-take-line-end
+    take-line-requires
     add-at
     loop-less
     loop-again

@@ -1,0 +1,24 @@
+-- `replay::feed::start` meets its contract: the arrays are as long as a log's slices.
+use mathlib.Core.Path.{_≡_, refl, ap, _∙_}
+use native.Mathlib.Omega.{arith}
+use lib.ListN.{length}
+use denote.Ref.{now}
+use Rattle.entry.specs.Limits.{logWords, snapshotWords}
+use Rattle.state_cache.specs.Run.{Outcome}
+use Rattle.state_cache.proofs.Changes.{fresh-starts}
+use borrow.Author.Needs.{needs}
+use Rattle.replay.proofs.feed.start.Statement.{statement}
+use Rattle.replay.proofs.feed.start.Tie as tie
+
+fresh-requires : tie.Need-fresh-requires
+fresh-requires c κs = search needs
+
+returns : tie.Need-returns
+returns c =
+    let a = c .before .before .before .before .args in
+    let log : length (now (a .log)) ≡ logWords = search needs in
+    let snapshot : length (now (a .snapshot)) ≡ snapshotWords = search needs in
+    (ap (λ (o : Outcome (Unit {0})). o .after) (c .before .fresh .ensures) ∙ fresh-starts 0 (now (a .log)) (now (a .snapshot)) (omega arith) log snapshot, refl, refl, refl)
+
+pub start-spec : {M : Type 1} → statement M
+start-spec = tie.close (tie.spec fresh-requires returns)

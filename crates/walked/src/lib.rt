@@ -40,8 +40,8 @@ pub fn read_entries<'a>(
 ) -> &'a [u64]
     ensures { λ r. ⌜ (now r ≡ shownPart (rangeReply (boundOf from) (boundOf to) (raw index (now (log .entry)) (now (snapshot .entry)))) (now (log .entry))) × (r .ptr ≡ shownPartAt (rangeReply (boundOf from) (boundOf to) (raw index (now (log .entry)) (now (snapshot .entry)))) (now (log .entry)) (log .entry .ptr)) ⌝ }
 {
-    let shown = reader::read(index, log, snapshot, from, to);
-    shown.entries
+    let found = reader::read(index, log, snapshot, from, to);
+    found.entries
 }
 
 fn settled_with(answer: Settled, index: IndexRecord) -> SettledAt
@@ -68,7 +68,7 @@ pub fn set_decided_idx(
 pub fn try_trim(index: IndexRecord, log: &mut [u64], snapshot: &[u64], idx: LogIndex) -> SettledAt
     ensures { λ r. ⌜ outcome (settled (r .answer)) (raw (r .index) (now (log .exit)) (now (snapshot .entry))) ≡ run (trim (idx .0)) true (raw index (now (log .entry)) (now (snapshot .entry))) ⌝ }
 {
-    let mut held = index;
-    let answer = in_place::try_trim(&mut held, log, snapshot, idx);
-    settled_with(answer, held)
+    let mut kept = index;
+    let answer = in_place::try_trim(&mut kept, log, snapshot, idx);
+    settled_with(answer, kept)
 }

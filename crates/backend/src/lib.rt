@@ -44,6 +44,7 @@ pub struct OpList {
 }
 
 // What is lent beside the operations and the entries: a snapshot, with its number of keys, and a stop-sign, or none.
+#[repr(C)]
 pub struct Lent {
     pub snapshot_lent: bool,
     pub keys: usize,

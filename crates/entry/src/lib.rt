@@ -29,11 +29,14 @@ pub const PLACES: u64 = 0x1_0000_0000_0000;
 pub const REMOVED: u64 = 0xffff_ffff_ffff_ffff;
 
 // The number of a change in the log.
+#[repr(C)]
 pub struct LogIndex(pub u64);
 
 // The number of a block on disk.
+#[repr(C)]
 pub struct BlockPlace(pub u64);
 
+#[repr(C)]
 pub struct Ballot {
     pub config_id: u32,
     pub n: u32,
@@ -91,6 +94,7 @@ impl Ballot {
 }
 
 // The next configuration: up to seven nodes and up to 32 bytes of metadata, or none. Unused elements are zero.
+#[repr(C)]
 pub struct StopSign {
     pub config_id: u32,
     pub node_count: usize,

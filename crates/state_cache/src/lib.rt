@@ -13,6 +13,7 @@ ghost use Rattle.state_cache.specs.Run.{outcome, run, ofNumbers, settled
 
 pub mod inner;
 
+#[repr(C)]
 pub struct IndexRecord {
     pub batch_size: u64,
     pub retained: usize,

@@ -1,0 +1,55 @@
+use mathlib.Core.Path.{_≡_, ap, _∙_}
+use mathlib.Core.List.{List, map}
+use Prim.Native.Nat.{ℕ}
+use lib.ListN.{take}
+use denote.Ref.{now}
+use Rattle.model.specs.Calls.{write}
+use Rattle.state_cache.specs.State.{raw}
+use Rattle.state_cache.specs.Run.{Outcome, run}
+use Rattle.backend.specs.Ops.{opOf, lentOf, wholeLent}
+use Rattle.backend.specs.declared.Op.{Op}
+use Rattle.host.proofs.Carry.{carry}
+use Rattle.host.specs.Plain.{nothing}
+use Rattle.host.specs.Requests.{countAt, nineAt}
+use borrow.Author.Needs.{needs}
+use Rattle.host.proofs.lists.kotuseraw_write_atomically.Statement.{statement}
+use Rattle.host.proofs.lists.kotuseraw_write_atomically.Tie as tie
+
+counted-in-requires : tie.Need-counted-in-requires
+counted-in-requires c κs = search needs
+
+nine-of-requires : tie.Need-nine-of-requires
+nine-of-requires c κs = search needs
+
+write-atomically-requires : tie.Need-write-atomically-requires
+write-atomically-requires c κs = search needs
+
+settled-reply-requires : tie.Need-settled-reply-requires
+settled-reply-requires c κs = search needs
+
+same-length : tie.Need-same-length
+same-length c = search needs
+
+same-length-2 : tie.Need-same-length-2
+same-length-2 c = search needs
+
+returns : tie.Need-returns
+returns c =
+    let x = c .before .before .before .before .before .before .before .before .before .before .before .before .before .before .args in
+    let asks : ℕ → List Op → Outcome (Unit {0}) = λ n os. run (write (lentOf (x .lent) (now (x .entries)) (now (x .incoming))) (map opOf (take n os))) (wholeLent (x .lent) (now (x .entries)) (now (x .incoming))) (raw (x .index) (now (x .log)) (now (x .snapshot))) in
+    carry nothing (c .settled-reply .ensures)
+    (c .before .before .before .before .before .write-atomically .ensures
+    ∙ ap (λ (n : ℕ). asks n (c .before .before .before .before .before .before .before .before .nine-of .result)) (c .before .before .before .before .before .before .before .before .before .counted-in .ensures .0)
+    ∙ ap (asks (countAt (x .ops))) (c .before .before .before .before .before .before .before .before .nine-of .ensures))
+
+pub kotuseraw-write-atomically-spec : {M : Type 1} → statement M
+kotuseraw-write-atomically-spec =
+    tie.close
+    (tie.spec
+    counted-in-requires
+    nine-of-requires
+    write-atomically-requires
+    settled-reply-requires
+    same-length
+    same-length-2
+    returns)

@@ -1,0 +1,45 @@
+use mathlib.Core.Path.{ap, _∙_}
+use denote.Ref.{now}
+use Rattle.model.specs.Calls.{sync}
+use Rattle.state_cache.specs.State.{raw}
+use Rattle.state_cache.specs.Run.{run}
+use Rattle.sync.specs.Requests.{partOf, lentWhole}
+use Rattle.sync.specs.declared.LogSync.{LogSync}
+use Rattle.host.proofs.Carry.{carry}
+use Rattle.host.specs.Plain.{aNumber}
+use borrow.Author.Needs.{needs}
+use Rattle.host.proofs.log.kotuseraw_sync_log.Statement.{statement}
+use Rattle.host.proofs.log.kotuseraw_sync_log.Tie as tie
+
+sync-of-requires : tie.Need-sync-of-requires
+sync-of-requires c κs = search needs
+
+sync-log-requires : tie.Need-sync-log-requires
+sync-log-requires c κs = search needs
+
+accepted-reply-requires : tie.Need-accepted-reply-requires
+accepted-reply-requires c κs = search needs
+
+same-length : tie.Need-same-length
+same-length c = search needs
+
+same-length-2 : tie.Need-same-length-2
+same-length-2 c = search needs
+
+returns : tie.Need-returns
+returns c =
+    let x = c .before .before .before .before .before .before .before .before .before .before .before .before .before .args in
+    carry aNumber (c .accepted-reply .ensures)
+    (c .before .before .before .before .before .sync-log .ensures
+    ∙ ap (λ (p : LogSync). run (sync (x .accepted-round) (x .decided-idx .0) (partOf (x .held) p (now (x .incoming)) (now (x .suffix)))) (lentWhole (x .held) p (now (x .incoming)) (now (x .suffix))) (raw (x .index) (now (x .log)) (now (x .snapshot)))) (c .before .before .before .before .before .before .before .before .sync-of .ensures))
+
+pub kotuseraw-sync-log-spec : {M : Type 1} → statement M
+kotuseraw-sync-log-spec =
+    tie.close
+    (tie.spec
+    sync-of-requires
+    sync-log-requires
+    accepted-reply-requires
+    same-length
+    same-length-2
+    returns)

@@ -1,0 +1,45 @@
+use Prim.Native.Nat.{ℕ}
+use mathlib.Core.Path.{ap, _∙_}
+use mathlib.Core.Option.{Option}
+use mathlib.Core.Bool.{true}
+use denote.Ref.{now}
+use Rattle.model.specs.Calls.{snapshot}
+use Rattle.state_cache.specs.State.{raw}
+use Rattle.state_cache.specs.Run.{run}
+use Rattle.host.proofs.Carry.{carry}
+use Rattle.host.specs.Plain.{nothing}
+use borrow.Author.Needs.{needs}
+use Rattle.host.proofs.log.kotuseraw_try_snapshot.Statement.{statement}
+use Rattle.host.proofs.log.kotuseraw_try_snapshot.Tie as tie
+
+upto-requires : tie.Need-upto-requires
+upto-requires c κs = search needs
+
+try-snapshot-requires : tie.Need-try-snapshot-requires
+try-snapshot-requires c κs = search needs
+
+settled-reply-requires : tie.Need-settled-reply-requires
+settled-reply-requires c κs = search needs
+
+same-length : tie.Need-same-length
+same-length c = search needs
+
+same-length-2 : tie.Need-same-length-2
+same-length-2 c = search needs
+
+returns : tie.Need-returns
+returns c =
+    let x = c .before .before .before .before .before .before .before .before .before .before .before .args in
+    carry nothing (c .settled-reply .ensures)
+    (c .before .before .before .before .before .try-snapshot .ensures ∙ ap (λ (u : Option ℕ). run (snapshot u) true (raw (x .index) (now (x .log)) (now (x .snapshot)))) (c .before .before .before .before .before .before .before .before .upto .ensures))
+
+pub kotuseraw-try-snapshot-spec : {M : Type 1} → statement M
+kotuseraw-try-snapshot-spec =
+    tie.close
+    (tie.spec
+    upto-requires
+    try-snapshot-requires
+    settled-reply-requires
+    same-length
+    same-length-2
+    returns)

@@ -1,0 +1,27 @@
+use mathlib.Core.Path.{sym, ap}
+use borrow.Author.Tests.{le-leb, lt-leb}
+use lib.ListN.{length}
+use denote.Ref.{now}
+use Rattle.host.specs.Reads.{copied}
+use borrow.Author.Needs.{needs}
+use Rattle.host.proofs.showing.copy_out.Statement.{statement}
+use Rattle.host.proofs.showing.copy_out.Tie as tie
+
+copy-in-requires : tie.Need-copy-in-requires
+copy-in-requires c κs = search needs
+
+same-length : tie.Need-same-length
+same-length c = search needs
+
+returns : tie.Need-returns
+returns c =
+    let a = c .before .before .before .before .before .before .before .args in
+    rw (le-leb (length (now (a .part))) (length (now (a .out))) (c .before .before .before .before .if1 .taken)) (ap (copied (length (now (a .part)))) (c .before .before .copy-in .ensures))
+
+returns-2 : tie.Need-returns-2
+returns-2 c =
+    let a = c .before .before .before .args in
+    sym (rw (lt-leb (length (now (a .part))) (length (now (a .out))) (c .if1 .left)))
+
+pub copy-out-spec : {M : Type 1} → statement M
+copy-out-spec = tie.close (tie.spec copy-in-requires same-length returns returns-2)

@@ -1,0 +1,26 @@
+use Prim.Native.Nat.{ℕ}
+use mathlib.Core.Path.{ap, _∙_}
+use mathlib.Core.List.{List}
+use denote.Ref.{now}
+use Rattle.host.specs.Reads.{copiedOut}
+use borrow.Author.Needs.{needs}
+use Rattle.host.proofs.showing.kotuseraw_entries_of.Statement.{statement}
+use Rattle.host.proofs.showing.kotuseraw_entries_of.Tie as tie
+
+entries-of-requires : tie.Need-entries-of-requires
+entries-of-requires c κs = search needs
+
+copy-out-requires : tie.Need-copy-out-requires
+copy-out-requires c κs = search needs
+
+same-length : tie.Need-same-length
+same-length c = search needs
+
+returns : tie.Need-returns
+returns c =
+    let a = c .before .before .before .before .before .before .before .args in
+    c .before .before .copy-out .ensures ∙ ap (λ (p : List ℕ). copiedOut p (now (a .out))) (c .before .before .before .before .entries-of .ensures .0)
+
+pub kotuseraw-entries-of-spec : {M : Type 1} → statement M
+kotuseraw-entries-of-spec =
+    tie.close (tie.spec entries-of-requires copy-out-requires same-length returns)

@@ -1,0 +1,30 @@
+use Prim.Native.Nat.{ℕ}
+use mathlib.Core.Path.{ap, _∙_}
+use mathlib.Core.List.{List}
+use denote.Ref.{now}
+use Rattle.host.specs.Reads.{copiedOut}
+use borrow.Author.Needs.{needs}
+use Rattle.host.proofs.showing.kotuseraw_entries_shown.Statement.{statement}
+use Rattle.host.proofs.showing.kotuseraw_entries_shown.Tie as tie
+
+reply-of-requires : tie.Need-reply-of-requires
+reply-of-requires c κs = search needs
+
+entries-shown-requires : tie.Need-entries-shown-requires
+entries-shown-requires c κs = search needs
+
+copy-out-requires : tie.Need-copy-out-requires
+copy-out-requires c κs = search needs
+
+same-length : tie.Need-same-length
+same-length c = search needs
+
+returns : tie.Need-returns
+returns c =
+    let a = c .before .before .before .before .before .before .before .before .args in
+    c .before .before .copy-out .ensures ∙ ap (λ (p : List ℕ). copiedOut p (now (a .out))) (c .before .before .before .before .entries-shown .ensures .0 ∙ c .before .before .before .before .before .reply-of .ensures (now (a .log)))
+
+pub kotuseraw-entries-shown-spec : {M : Type 1} → statement M
+kotuseraw-entries-shown-spec =
+    tie.close
+    (tie.spec reply-of-requires entries-shown-requires copy-out-requires same-length returns)

@@ -1,0 +1,44 @@
+use Prim.Native.Nat.{ℕ}
+use mathlib.Core.Path.{ap, ap₂, _∙_}
+use mathlib.Core.List.{List}
+use denote.Ref.{now}
+use Rattle.model.specs.Read.{Bound}
+use Rattle.state_cache.specs.State.{raw}
+use Rattle.reading.specs.Replies.{shownPart}
+use Rattle.reading.specs.Numbered.{rangeReply}
+use Rattle.host.specs.Reads.{copiedOut}
+use borrow.Author.Needs.{needs}
+use Rattle.host.proofs.showing.kotuseraw_read_entries.Statement.{statement}
+use Rattle.host.proofs.showing.kotuseraw_read_entries.Tie as tie
+
+start-of-requires : tie.Need-start-of-requires
+start-of-requires c κs = search needs
+
+stop-of-requires : tie.Need-stop-of-requires
+stop-of-requires c κs = search needs
+
+read-entries-requires : tie.Need-read-entries-requires
+read-entries-requires c κs = search needs
+
+copy-out-requires : tie.Need-copy-out-requires
+copy-out-requires c κs = search needs
+
+same-length : tie.Need-same-length
+same-length c = search needs
+
+returns : tie.Need-returns
+returns c =
+    let a = c .before .before .before .before .before .before .before .before .before .before .args in
+    let ends = ap₂ (λ (x y : Bound). copiedOut (shownPart (rangeReply x y (raw (a .index) (now (a .log)) (now (a .snapshot)))) (now (a .log))) (now (a .out))) (c .before .before .before .before .before .before .start-of .ensures) (c .before .before .before .before .before .stop-of .ensures) in
+    c .before .before .copy-out .ensures ∙ ap (λ (p : List ℕ). copiedOut p (now (a .out))) (c .before .before .before .before .read-entries .ensures .0) ∙ ends
+
+pub kotuseraw-read-entries-spec : {M : Type 1} → statement M
+kotuseraw-read-entries-spec =
+    tie.close
+    (tie.spec
+    start-of-requires
+    stop-of-requires
+    read-entries-requires
+    copy-out-requires
+    same-length
+    returns)

@@ -1,0 +1,159 @@
+// The calls that read a log and change nothing. A part of the lent log is told by its first entry and its count; the functions that copy one
+// out are for callers that keep no pointer into the log.
+use super::PlainBound;
+use super::Said;
+use super::ShownSaid;
+use super::answers;
+use super::asked;
+use entry::LogIndex;
+use reading::Marker;
+use reading::ReadReply;
+use reading::ShownRun;
+use state_cache::IndexRecord;
+ghost use mathlib.Core.Path.{_≡_};
+ghost use mathlib.Core.Bool.{true};
+ghost use mathlib.Core.List.{List};
+ghost use Prim.Native.Nat.{ℕ};
+ghost use Rattle.entry.specs.Limits.{lastWord};
+ghost use Rattle.model.specs.Numbers.{endOf};
+ghost use Rattle.model.specs.Read.{included, excluded};
+ghost use Rattle.model.specs.Calls.{query, lookup as lookupCall};
+ghost use Rattle.state_cache.specs.State.{raw, numbersIn};
+ghost use Rattle.state_cache.specs.Run.{run};
+ghost use Rattle.reading.specs.Parts.{part, spanReply};
+ghost use Rattle.reading.specs.Replies.{shownPart};
+ghost use Rattle.reading.specs.Numbered.{rangeReply, decidedReply};
+ghost use Rattle.host.specs.Plain.{plain, maybeNumber};
+ghost use Rattle.host.specs.Requests.{endAt};
+ghost use Rattle.host.specs.Reads.{shownAs, shownBy, spanAs, copied, copiedOut};
+
+#[no_mangle]
+pub extern "C" fn kotuseraw_lookup(
+    index: IndexRecord,
+    log: &[u64],
+    snapshot: &[u64],
+    key: u64,
+) -> Said
+    ensures { λ s. ⌜ s ≡ plain maybeNumber (run (query (lookupCall key)) true (raw index (now (log .entry)) (now (snapshot .entry))) .answer) ⌝ }
+{
+    answers::found_said(reading::lookup(index, log, snapshot, key))
+}
+
+#[no_mangle]
+pub extern "C" fn kotuseraw_read(
+    index: IndexRecord,
+    log: &[u64],
+    snapshot: &[u64],
+    from: PlainBound,
+    to: PlainBound,
+) -> ShownSaid
+    ensures { λ s. ⌜ s ≡ shownAs (rangeReply (endAt (excluded lastWord) from) (endAt (included lastWord) to) (raw index (now (log .entry)) (now (snapshot .entry)))) ⌝ }
+{
+    let start = asked::start_of(from);
+    let stop = asked::stop_of(to);
+    answers::read_said(reading::read_reply(index, log, snapshot, start, stop))
+}
+
+#[no_mangle]
+pub extern "C" fn kotuseraw_read_decided_suffix(
+    index: IndexRecord,
+    log: &[u64],
+    snapshot: &[u64],
+    from: LogIndex,
+) -> ShownSaid
+    ensures { λ s. ⌜ s ≡ shownAs (decidedReply (from .0) (raw index (now (log .entry)) (now (snapshot .entry)))) ⌝ }
+{
+    answers::read_said(reading::read_decided_suffix_reply(index, log, snapshot, from))
+}
+
+#[no_mangle]
+pub extern "C" fn kotuseraw_get_entries(
+    index: IndexRecord,
+    log: &[u64],
+    snapshot: &[u64],
+    from: LogIndex,
+    to: LogIndex,
+) -> Said
+    ensures { λ s. ⌜ s ≡ spanAs (spanReply (from .0) (to .0) (raw index (now (log .entry)) (now (snapshot .entry)))) ⌝ }
+{
+    answers::span_said(reading::get_entries_reply(index, log, snapshot, from, to))
+}
+
+#[no_mangle]
+pub extern "C" fn kotuseraw_get_suffix(
+    index: IndexRecord,
+    log: &[u64],
+    snapshot: &[u64],
+    from: LogIndex,
+) -> Said
+    ensures { λ s. ⌜ s ≡ spanAs (spanReply (from .0) (endOf (numbersIn index)) (raw index (now (log .entry)) (now (snapshot .entry)))) ⌝ }
+{
+    answers::span_said(reading::get_suffix_reply(index, log, snapshot, from))
+}
+
+// Copies a part to the front of out, where it fits, and says how many words it has.
+fn copy_out(part: &[u64], out: &mut [u64]) -> usize
+    ensures { λ n. ⌜ copied n (now (out .exit)) ≡ copiedOut (now (part .entry)) (now (out .entry)) ⌝ }
+{
+    if part.len() <= out.len() {
+        words::copy_in(out, 0, part);
+    }
+    part.len()
+}
+
+#[no_mangle]
+pub extern "C" fn kotuseraw_entries_of(
+    log: &[u64],
+    first: usize,
+    count: usize,
+    out: &mut [u64],
+) -> usize
+    ensures { λ n. ⌜ copied n (now (out .exit)) ≡ copiedOut (part first count (now (log .entry))) (now (out .entry)) ⌝ }
+{
+    copy_out(reading::entries_of(log, first, count), out)
+}
+
+// The reply that a read's answer stands for, as far as it shows entries.
+fn reply_of(shown: ShownSaid) -> ReadReply
+    ensures { λ r. ⌜ ((log : List ℕ) → shownPart r log ≡ shownBy shown log) ⌝ }
+{
+    if shown.told == 1 {
+        let run = ShownRun {
+            marker: Marker::None,
+            first: shown.first,
+            count: shown.count,
+            decided: shown.decided,
+            stop: shown.stop,
+            stop_decided: shown.stop_decided,
+        };
+        return ReadReply::Run(run);
+    }
+    ReadReply::Nothing
+}
+
+// The entries that a read's answer shows.
+#[no_mangle]
+pub extern "C" fn kotuseraw_entries_shown(log: &[u64], shown: ShownSaid, out: &mut [u64]) -> usize
+    ensures { λ n. ⌜ copied n (now (out .exit)) ≡ copiedOut (shownBy shown (now (log .entry))) (now (out .entry)) ⌝ }
+{
+    let reply = reply_of(shown);
+    copy_out(reading::entries_shown(log, reply), out)
+}
+
+// The entries of a read, from the call that gives reply and entries in one value.
+#[no_mangle]
+pub extern "C" fn kotuseraw_read_entries(
+    index: IndexRecord,
+    log: &[u64],
+    snapshot: &[u64],
+    from: PlainBound,
+    to: PlainBound,
+    out: &mut [u64],
+) -> usize
+    ensures { λ n. ⌜ copied n (now (out .exit))
+        ≡ copiedOut (shownPart (rangeReply (endAt (excluded lastWord) from) (endAt (included lastWord) to) (raw index (now (log .entry)) (now (snapshot .entry)))) (now (log .entry))) (now (out .entry)) ⌝ }
+{
+    let start = asked::start_of(from);
+    let stop = asked::stop_of(to);
+    copy_out(walked::read_entries(index, log, snapshot, start, stop), out)
+}

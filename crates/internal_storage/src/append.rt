@@ -15,20 +15,7 @@ ghost use Rattle.entry.specs.Change.{entriesIn, wholeIn};
 ghost use Rattle.model.specs.Calls.{append, appendNow};
 ghost use Rattle.state_cache.specs.State.{raw};
 ghost use Rattle.state_cache.specs.Run.{outcome, run, accepted};
-ghost use Rattle.internal_storage.specs.Replies.{saidIs, lentWord, appended, acceptedIdx, indexOnly, withIndexOnly};
-
-// The word that says it. That of a place of 2^48 or more breaks its form too, and is never the word of a removed key.
-fn word_of(said: Said) -> u64
-    ensures { λ w. ⌜ w ≡ lentWord (saidIs said) ⌝ }
-{
-    let Said::Place(place) = said else {
-        return entry::REMOVED;
-    };
-    if place.0 < entry::PLACES {
-        return place.0;
-    }
-    entry::PLACES
-}
+ghost use Rattle.internal_storage.specs.Replies.{saidIs, appended, acceptedIdx, withIndexOnly};
 
 pub fn append_entry_with_batching(
     index: IndexRecord,
@@ -39,9 +26,13 @@ pub fn append_entry_with_batching(
 ) -> AppendedAt
     ensures { λ r. ⌜ outcome (appended (r .answer)) (raw (r .index) (now (log .exit)) (now (snapshot .entry))) ≡ run (append (record { key = key; said = saidIs said } ∷ [])) true (raw index (now (log .entry)) (now (snapshot .entry))) ⌝ }
 {
-    let word = word_of(said);
-    let words = [key, word];
-    append_entries_with_batching(index, log, snapshot, &words)
+    if !state_cache::well_formed(index, log, snapshot) {
+        return AppendedAt {
+            answer: Appended::Refused(Refusal::IllFormed),
+            index,
+        };
+    }
+    super::inner::append::append_entry_with_batching(index, log, snapshot, key, said)
 }
 
 pub fn append_entries_with_batching(
@@ -58,13 +49,7 @@ pub fn append_entries_with_batching(
             index,
         };
     }
-    if !entry::entries_formed(entries) {
-        return AppendedAt {
-            answer: Appended::Refused(Refusal::Malformed),
-            index,
-        };
-    }
-    super::inner::append_at(index, log, snapshot, entries, entries.len() / entry::WIDTH)
+    super::inner::append::append_entries_with_batching(index, log, snapshot, entries)
 }
 
 pub fn append_entries_without_batching(
@@ -81,27 +66,7 @@ pub fn append_entries_without_batching(
             index,
         };
     }
-    if !entry::entries_formed(entries) {
-        return AcceptedAt {
-            answer: Accepted::Refused(Refusal::Malformed),
-            index,
-        };
-    }
-    super::inner::append_now_at(index, log, snapshot, entries, entries.len() / entry::WIDTH)
-}
-
-// An append's answer without the number of entries flushed.
-fn index_only(answer: Appended) -> AcceptedIdx
-    ensures { λ r. ⌜ acceptedIdx r ≡ indexOnly (appended answer) ⌝ }
-{
-    match answer {
-        Appended::Held => AcceptedIdx::Held,
-        Appended::Flushed {
-            accepted,
-            entries: _,
-        } => AcceptedIdx::At(accepted),
-        Appended::Refused(refusal) => AcceptedIdx::Refused(refusal),
-    }
+    super::inner::append::append_entries_without_batching(index, log, snapshot, entries)
 }
 
 pub fn append_entries_and_get_accepted_idx(
@@ -112,11 +77,11 @@ pub fn append_entries_and_get_accepted_idx(
 ) -> AcceptedIdxAt
     ensures { λ r. ⌜ outcome (acceptedIdx (r .answer)) (raw (r .index) (now (log .exit)) (now (snapshot .entry))) ≡ withIndexOnly (run (append (entriesIn (now (entries .entry)))) (wholeIn (now (entries .entry))) (raw index (now (log .entry)) (now (snapshot .entry)))) ⌝ }
 {
-    let appended = append_entries_with_batching(index, log, snapshot, entries);
-    let answer = appended.answer;
-    let next = appended.index;
-    AcceptedIdxAt {
-        answer: index_only(answer),
-        index: next,
+    if !state_cache::well_formed(index, log, snapshot) {
+        return AcceptedIdxAt {
+            answer: AcceptedIdx::Refused(Refusal::IllFormed),
+            index,
+        };
     }
+    super::inner::append::append_entries_and_get_accepted_idx(index, log, snapshot, entries)
 }

@@ -7,39 +7,9 @@ use state_cache::Settled;
 use state_cache::SettledAt;
 ghost use mathlib.Core.Path.{_≡_};
 ghost use mathlib.Core.Bool.{true};
-ghost use Rattle.entry.specs.Guards.{first};
-ghost use Rattle.model.specs.Calls.{decide, setPromise, decideGuards};
-ghost use Rattle.state_cache.specs.State.{raw, numbersIn, Small};
+ghost use Rattle.model.specs.Calls.{decide, setPromise};
+ghost use Rattle.state_cache.specs.State.{raw};
 ghost use Rattle.state_cache.specs.Run.{outcome, run, settled};
-ghost use Rattle.internal_storage.specs.Replies.{indexed, byNumbers};
-ghost use Rattle.state_cache.specs.Fields.{withDecided};
-
-// Refusals 5 and 6, or the index moved.
-fn decide_at(index: IndexRecord, idx: LogIndex) -> SettledAt
-    requires { ⌜ Small (numbersIn index) ⌝ }
-    ensures { λ r. ⌜ indexed (settled (r .answer)) (r .index) ≡ byNumbers (first (decideGuards (idx .0) (numbersIn index))) tt (withDecided idx index) index ⌝ }
-{
-    let decided = index.decided;
-    if idx.0 < decided.0 {
-        return SettledAt {
-            answer: Settled::Refused(Refusal::BelowDecided(decided)),
-            index,
-        };
-    }
-    let last = state_cache::inner::accepted(index);
-    if last < idx.0 {
-        return SettledAt {
-            answer: Settled::Refused(Refusal::AboveAccepted(LogIndex(last))),
-            index,
-        };
-    }
-    let mut next = index;
-    next.decided = idx;
-    SettledAt {
-        answer: Settled::Done,
-        index: next,
-    }
-}
 
 pub fn set_decided_idx(
     index: IndexRecord,
@@ -55,7 +25,7 @@ pub fn set_decided_idx(
             index,
         };
     }
-    decide_at(index, idx)
+    super::inner::decide::set_decided_idx(index, log, snapshot, idx)
 }
 
 pub fn set_promise(index: IndexRecord, log: &[u64], snapshot: &[u64], n_prom: Ballot) -> SettledAt
@@ -67,10 +37,5 @@ pub fn set_promise(index: IndexRecord, log: &[u64], snapshot: &[u64], n_prom: Ba
             index,
         };
     }
-    let mut next = index;
-    next.promise = n_prom;
-    SettledAt {
-        answer: Settled::Done,
-        index: next,
-    }
+    super::inner::decide::set_promise(index, log, snapshot, n_prom)
 }

@@ -1,7 +1,6 @@
 // Flushes. The entries flushed are the last of those retained, so a reply need only count them.
 use super::Appended;
 use super::AppendedAt;
-use entry::LogIndex;
 use entry::Refusal;
 use state_cache::Accepted;
 use state_cache::AcceptedAt;
@@ -22,12 +21,7 @@ pub fn flush_batch(index: IndexRecord, log: &[u64], snapshot: &[u64]) -> Accepte
             index,
         };
     }
-    let next = super::inner::flush(index);
-    let last = state_cache::inner::accepted(next);
-    AcceptedAt {
-        answer: Accepted::At(LogIndex(last)),
-        index: next,
-    }
+    super::inner::flush::flush_batch(index, log, snapshot)
 }
 
 pub fn flush_batch_and_get_entries(index: IndexRecord, log: &[u64], snapshot: &[u64]) -> AppendedAt
@@ -39,10 +33,5 @@ pub fn flush_batch_and_get_entries(index: IndexRecord, log: &[u64], snapshot: &[
             index,
         };
     }
-    let answer = super::inner::flush_answer(index);
-    let next = super::inner::flush(index);
-    AppendedAt {
-        answer,
-        index: next,
-    }
+    super::inner::flush::flush_batch_and_get_entries(index, log, snapshot)
 }

@@ -1,4 +1,5 @@
-// The parts of the calls that look at numbers alone, and what each call does once no refusal applies.
+// The parts of the calls that look at numbers alone, and what each call does once no refusal applies. In the modules below, each call of a
+// state that is known to be well formed: the calls of a user judge it first.
 use super::Appended;
 use super::AppendedAt;
 use super::Check;
@@ -9,7 +10,7 @@ use state_cache::AcceptedAt;
 use state_cache::IndexRecord;
 ghost use mathlib.Core.Path.{_≡_};
 ghost use Prim.Native.Nat.{_+_, _≤_};
-ghost use Rattle.entry.specs.Guards.{first, replied};
+ghost use Rattle.entry.specs.Guards.{first};
 ghost use Rattle.entry.specs.Limits.{entryRoom};
 ghost use mathlib.Core.Bool.{true};
 ghost use Rattle.entry.specs.Change.{entriesOf};
@@ -18,7 +19,12 @@ ghost use Rattle.model.specs.Calls.{append, appendNow};
 ghost use Rattle.model.proofs.Forms.{Sound};
 ghost use Rattle.state_cache.specs.State.{raw, numbersIn};
 ghost use Rattle.state_cache.specs.Run.{outcome, run, accepted};
-ghost use Rattle.internal_storage.specs.Replies.{verdictOf, appended, batchedWith, flushSays, allFlushed, Appends};
+ghost use Rattle.internal_storage.specs.Replies.{verdictOf, appended, batchedWith, Appends};
+
+pub mod append;
+pub mod decide;
+pub mod flush;
+pub mod stop;
 
 // Refusals 4, 9 and 1, of n entries more.
 pub fn check_append(index: IndexRecord, n: usize) -> Check
@@ -61,34 +67,6 @@ pub fn batch_with(index: IndexRecord, n: usize) -> AppendedAt
     AppendedAt {
         answer: Appended::Held,
         index: next,
-    }
-}
-
-// The record once the batch is flushed, all of it. No word moves.
-pub fn flush(index: IndexRecord) -> IndexRecord
-    requires { ⌜ Sound (numbersIn index) ⌝ }
-    ensures { λ r. ⌜ r ≡ allFlushed index ⌝ }
-{
-    let mut next = index;
-    next.retained = index.retained + index.batched;
-    next.batched = 0;
-    next
-}
-
-// What such a flush says.
-pub fn flush_answer(index: IndexRecord) -> Appended
-    requires { ⌜ Sound (numbersIn index) ⌝ }
-    ensures { λ r. ⌜ appended r ≡ replied (flushSays index) ⌝ }
-{
-    let waiting = index.batched;
-    if waiting == 0 {
-        return Appended::Held;
-    }
-    let next = flush(index);
-    let last = state_cache::inner::accepted(next);
-    Appended::Flushed {
-        accepted: LogIndex(last),
-        entries: waiting,
     }
 }
 

@@ -5,6 +5,8 @@ use super::ReadReply;
 use super::ShownRun;
 use super::Span;
 use entry::BlockPlace;
+use entry::LogIndex;
+use entry::Refusal;
 use snapshot::Found;
 use snapshot::inner::Spot;
 use state_cache::IndexRecord;
@@ -19,16 +21,16 @@ ghost use Rattle.entry.specs.Guards.{replied};
 ghost use Rattle.snapshot.specs.Folds.{find, lastOf, placeOf};
 ghost use Rattle.snapshot.specs.Calls.{found};
 ghost use Rattle.snapshot.specs.Inner.{Holds};
-ghost use Rattle.model.specs.Numbers.{acceptedOf};
+ghost use Rattle.model.specs.Numbers.{endOf, acceptedOf};
 ghost use Rattle.model.specs.Read.{startPast, stopPast, startAt, stopAt};
-ghost use Rattle.model.specs.Calls.{query, lookup};
+ghost use Rattle.model.specs.Calls.{query, lookup, getEntries, getSuffix, read, readDecided};
 ghost use Rattle.state_cache.specs.State.{raw, numbersIn, Small, Ready};
 ghost use Rattle.state_cache.specs.Run.{run};
 ghost use Rattle.reading.specs.Newest.{newestSays};
-ghost use Rattle.reading.specs.Parts.{spanBetween};
-ghost use Rattle.reading.specs.Replies.{boundOf};
+ghost use Rattle.reading.specs.Parts.{spanBetween, spanSays, spanReply};
+ghost use Rattle.reading.specs.Replies.{boundOf, readSaid};
 ghost use Rattle.reading.specs.Kinds.{kindIs, entryIs};
-ghost use Rattle.reading.specs.Numbered.{markerIn, markerAt, runOfNone, runOf, replyOf};
+ghost use Rattle.reading.specs.Numbered.{markerIn, markerAt, runOfNone, runOf, replyOf, rangeReply, decidedReply};
 
 // The newest word of a key, or none.
 pub enum Newest {
@@ -283,4 +285,66 @@ pub fn read_at(index: IndexRecord, from: u64, to: u64) -> ReadReply
         IndexEntry::Entry => read_from(index, from, to),
         IndexEntry::StopSign => read_from(index, from, to),
     }
+}
+
+// ---- the reads of a state that is known to be well formed
+
+pub fn get_entries_reply(
+    index: IndexRecord,
+    log: &[u64],
+    snapshot: &[u64],
+    from: LogIndex,
+    to: LogIndex,
+) -> Span
+    requires { ⌜ Ready (raw index (now log) (now snapshot)) ⌝ }
+    ensures { λ r. ⌜ spanSays (now (log .entry)) r ≡ run (query (getEntries (from .0) (to .0))) true (raw index (now (log .entry)) (now (snapshot .entry))) .answer ⌝ }
+    ensures { λ r. ⌜ r ≡ spanReply (from .0) (to .0) (raw index (now (log .entry)) (now (snapshot .entry))) ⌝ }
+{
+    between(index, from.0, to.0)
+}
+
+pub fn get_suffix_reply(index: IndexRecord, log: &[u64], snapshot: &[u64], from: LogIndex) -> Span
+    requires { ⌜ Ready (raw index (now log) (now snapshot)) ⌝ }
+    ensures { λ r. ⌜ spanSays (now (log .entry)) r ≡ run (query (getSuffix (from .0))) true (raw index (now (log .entry)) (now (snapshot .entry))) .answer ⌝ }
+    ensures { λ r. ⌜ r ≡ spanReply (from .0) (endOf (numbersIn index)) (raw index (now (log .entry)) (now (snapshot .entry))) ⌝ }
+{
+    between(index, from.0, state_cache::inner::end(index))
+}
+
+pub fn read_reply(
+    index: IndexRecord,
+    log: &[u64],
+    snapshot: &[u64],
+    from: Bound,
+    to: Bound,
+) -> ReadReply
+    requires { ⌜ Ready (raw index (now log) (now snapshot)) ⌝ }
+    ensures { λ r. ⌜ readSaid (raw index (now (log .entry)) (now (snapshot .entry))) r ≡ run (query (read (boundOf from) (boundOf to))) true (raw index (now (log .entry)) (now (snapshot .entry))) .answer ⌝ }
+    ensures { λ r. ⌜ r ≡ rangeReply (boundOf from) (boundOf to) (raw index (now (log .entry)) (now (snapshot .entry))) ⌝ }
+{
+    let no_start = start_past(from);
+    let no_stop = stop_past(to);
+    if no_start | no_stop {
+        return ReadReply::Refused(Refusal::Malformed);
+    }
+    let last = state_cache::inner::accepted(index);
+    let start = start_at(from);
+    let stop = stop_at(to, last);
+    read_at(index, start, stop)
+}
+
+pub fn read_decided_suffix_reply(
+    index: IndexRecord,
+    log: &[u64],
+    snapshot: &[u64],
+    from: LogIndex,
+) -> ReadReply
+    requires { ⌜ Ready (raw index (now log) (now snapshot)) ⌝ }
+    ensures { λ r. ⌜ readSaid (raw index (now (log .entry)) (now (snapshot .entry))) r ≡ run (query (readDecided (from .0))) true (raw index (now (log .entry)) (now (snapshot .entry))) .answer ⌝ }
+    ensures { λ r. ⌜ r ≡ decidedReply (from .0) (raw index (now (log .entry)) (now (snapshot .entry))) ⌝ }
+{
+    if index.decided.0 <= from.0 {
+        return ReadReply::Nothing;
+    }
+    read_at(index, from.0, index.decided.0)
 }

@@ -79,7 +79,7 @@ pub fn get_entries_reply(
     if !state_cache::well_formed(index, log, snapshot) {
         return Span::Refused(Refusal::IllFormed);
     }
-    inner::between(index, from.0, to.0)
+    inner::get_entries_reply(index, log, snapshot, from, to)
 }
 
 // The same from an index to the end.
@@ -90,7 +90,7 @@ pub fn get_suffix_reply(index: IndexRecord, log: &[u64], snapshot: &[u64], from:
     if !state_cache::well_formed(index, log, snapshot) {
         return Span::Refused(Refusal::IllFormed);
     }
-    inner::between(index, from.0, state_cache::inner::end(index))
+    inner::get_suffix_reply(index, log, snapshot, from)
 }
 
 // That part of the log itself, an empty one where it does not lie in the slice: its words, and its place.
@@ -134,15 +134,7 @@ pub fn read_reply(
     if !state_cache::well_formed(index, log, snapshot) {
         return ReadReply::Refused(Refusal::IllFormed);
     }
-    let start_past = inner::start_past(from);
-    let stop_past = inner::stop_past(to);
-    if start_past | stop_past {
-        return ReadReply::Refused(Refusal::Malformed);
-    }
-    let last = state_cache::inner::accepted(index);
-    let start = inner::start_at(from);
-    let stop = inner::stop_at(to, last);
-    inner::read_at(index, start, stop)
+    inner::read_reply(index, log, snapshot, from, to)
 }
 
 // Reads from an index up to the decided index.
@@ -158,8 +150,5 @@ pub fn read_decided_suffix_reply(
     if !state_cache::well_formed(index, log, snapshot) {
         return ReadReply::Refused(Refusal::IllFormed);
     }
-    if index.decided.0 <= from.0 {
-        return ReadReply::Nothing;
-    }
-    inner::read_at(index, from.0, index.decided.0)
+    inner::read_decided_suffix_reply(index, log, snapshot, from)
 }

@@ -1,26 +1,14 @@
--- `reading::read_reply` meets its contract: refusal 12, refusal 11, then by the numbers.
-use mathlib.Core.Path.{_≡_, sym, ap₂, _∙_}
-use mathlib.Core.Bool.{Bool, true, false, _||_}
+-- `reading::read_reply` meets its contract: refusal 12, then the read of a well-formed log.
+use mathlib.Core.Path.{sym, _∙_}
 use borrow.Author.Tests.{not-true, not-false}
 use denote.Ref.{now}
-use Rattle.words.proofs.Tests.{or-left, or-right}
-use Rattle.model.specs.Read.{startPast, stopPast}
-use Rattle.state_cache.specs.State.{raw, formed}
-use Rattle.state_cache.proofs.Small.{sound-small}
+use Rattle.state_cache.specs.State.{raw}
 use Rattle.state_cache.proofs.Stands.{ready-of}
 use Rattle.reading.specs.Replies.{boundOf}
-use Rattle.reading.proofs.Replying.{range-ill, range-bad, range-fine, range-told}
+use Rattle.reading.proofs.Replying.{range-ill, range-told}
 use borrow.Author.Needs.{needs}
 use Rattle.reading.proofs.read_reply.Statement.{statement}
 use Rattle.reading.proofs.read_reply.Tie as tie
-
-okay : (e : tie.Else1) → formed (raw (e .before .before .before .before .args .index) (now (e .before .before .before .before .args .log)) (now (e .before .before .before .before .args .snapshot))) ≡ true
-okay e = sym (e .before .well-formed .ensures) ∙ not-false _ (e .if1 .left)
-
--- both tests of the bounds, as the model has them
-bounds : (e : tie.After-stop-past) (t : Bool) → (e .before .start-past .result || e .stop-past .result) ≡ t
-    → (startPast (boundOf (e .before .before .before .before .before .before .args .from)) || stopPast (boundOf (e .before .before .before .before .before .before .args .to))) ≡ t
-bounds e t q = ap₂ (λ (a b : Bool). a || b) (sym (e .before .start-past .ensures)) (sym (e .stop-past .ensures)) ∙ q
 
 well-formed-requires : tie.Need-well-formed-requires
 well-formed-requires c κs = search needs
@@ -31,57 +19,11 @@ returns c =
     let x = raw (a .index) (now (a .log)) (now (a .snapshot)) in
     range-told (boundOf (a .from)) (boundOf (a .to)) x _ (range-ill (boundOf (a .from)) (boundOf (a .to)) x (sym (c .before .well-formed .ensures) ∙ not-true _ (c .if1 .taken)))
 
-start-past-requires : tie.Need-start-past-requires
-start-past-requires c κs = search needs
-
-stop-past-requires : tie.Need-stop-past-requires
-stop-past-requires c κs = search needs
+read-reply-requires : tie.Need-read-reply-requires
+read-reply-requires c κs = ready-of _ (sym (c .before .well-formed .ensures) ∙ not-false _ (c .if1 .left))
 
 returns-2 : tie.Need-returns-2
-returns-2 c =
-    let e = c .before .before .before in
-    let a = e .before .before .before .before .args in
-    let x = raw (a .index) (now (a .log)) (now (a .snapshot)) in
-    range-told (boundOf (a .from)) (boundOf (a .to)) x _ (range-bad (boundOf (a .from)) (boundOf (a .to)) x (okay e) (bounds (c .before) true (c .if2 .taken)))
-
-accepted-requires : tie.Need-accepted-requires
-accepted-requires c κs = sound-small _ (ready-of _ (okay (c .before .before .before)) .numbers)
-
-start-at-requires : tie.Need-start-at-requires
-start-at-requires c κs = or-left _ _ (bounds (c .before .before) false (c .before .if2 .left))
-
-stop-at-requires : tie.Need-stop-at-requires
-stop-at-requires c κs =
-    let a = c .before .before .before .before .before .before .before .before .before .args in
-    or-right (startPast (boundOf (a .from))) (stopPast (boundOf (a .to))) (bounds (c .before .before .before) false (c .before .before .if2 .left))
-
-read-at-requires : tie.Need-read-at-requires
-read-at-requires c κs = sound-small _ (ready-of _ (okay (c .before .before .before .before .before .before)) .numbers)
-
-returns-3 : tie.Need-returns-3
-returns-3 c =
-    let s = c .before in
-    let f = s .before in
-    let l = f .before in
-    let b = l .before in
-    let e = b .before .before .before in
-    let a = e .before .before .before .before .args in
-    let x = raw (a .index) (now (a .log)) (now (a .snapshot)) in
-    range-told (boundOf (a .from)) (boundOf (a .to)) x _
-    (c .read-at .ensures
-    ∙ range-fine (boundOf (a .from)) (boundOf (a .to)) x (okay e) (bounds (b .before) false (b .if2 .left)) _ _ (l .accepted .result) (f .start-at .ensures) (s .stop-at .ensures) (l .accepted .ensures))
+returns-2 c = search needs
 
 pub read-reply-spec : {M : Type 1} → statement M
-read-reply-spec =
-    tie.close
-    (tie.spec
-    well-formed-requires
-    returns
-    start-past-requires
-    stop-past-requires
-    returns-2
-    accepted-requires
-    start-at-requires
-    stop-at-requires
-    read-at-requires
-    returns-3)
+read-reply-spec = tie.close (tie.spec well-formed-requires returns read-reply-requires returns-2)

@@ -1,22 +1,39 @@
--- `internal_storage::append::append_entries_and_get_accepted_idx` meets its contract: the append's, with less said.
-use Rattle.internal_storage.proofs.Effects.{index-told}
+-- `internal_storage::append::append_entries_and_get_accepted_idx` meets its contract: refusal 12, or what the append to a well-formed log comes to.
+use mathlib.Core.Path.{ap, sym, _∙_}
+use borrow.Author.Tests.{not-true, not-false}
+use denote.Ref.{now}
+use Rattle.entry.specs.Change.{entriesIn, wholeIn}
+use Rattle.model.specs.Calls.{append}
+use Rattle.state_cache.specs.State.{raw}
+use Rattle.state_cache.proofs.Stands.{ready-of}
+use Rattle.state_cache.proofs.Runs.{ill-formed}
+use Rattle.internal_storage.specs.Replies.{withIndexOnly}
 use borrow.Author.Needs.{needs}
 use Rattle.internal_storage.proofs.append.append_entries_and_get_accepted_idx.Statement.{statement}
 use Rattle.internal_storage.proofs.append.append_entries_and_get_accepted_idx.Tie as tie
 
-append-entries-with-batching-requires : tie.Need-append-entries-with-batching-requires
-append-entries-with-batching-requires c κs = search needs
-
-index-only-requires : tie.Need-index-only-requires
-index-only-requires c κs = search needs
+well-formed-requires : tie.Need-well-formed-requires
+well-formed-requires c κs = search needs
 
 same-length : tie.Need-same-length
 same-length c = search needs
 
 returns : tie.Need-returns
-returns c = index-told _ _ _ _ (c .index-only .ensures) (c .before .before .before .before .append-entries-with-batching .ensures)
+returns c =
+    let st = c .before .before .before .before .before .before in
+    ap withIndexOnly (ill-formed (append (entriesIn (now (st .args .entries)))) (wholeIn (now (st .args .entries))) (raw (st .args .index) (now (st .args .log)) (now (st .args .snapshot))) (sym (c .before .well-formed .ensures) ∙ not-true _ (c .if1 .taken)))
+
+append-entries-and-get-accepted-idx-requires : tie.Need-append-entries-and-get-accepted-idx-requires
+append-entries-and-get-accepted-idx-requires c κs =
+    let e = c .before in
+    let st = e .before .before .before .before .before .before in
+    ready-of (raw (st .args .index) (now (st .args .log)) (now (st .args .snapshot))) (sym (e .before .well-formed .ensures) ∙ not-false _ (e .if1 .left))
+
+same-length-2 : tie.Need-same-length-2
+same-length-2 c = search needs
+
+returns-2 : tie.Need-returns-2
+returns-2 c = search needs
 
 pub append-entries-and-get-accepted-idx-spec : {M : Type 1} → statement M
-append-entries-and-get-accepted-idx-spec =
-    tie.close
-    (tie.spec append-entries-with-batching-requires index-only-requires same-length returns)
+append-entries-and-get-accepted-idx-spec = tie.close (tie.spec well-formed-requires same-length returns append-entries-and-get-accepted-idx-requires same-length-2 returns-2)

@@ -1,22 +1,15 @@
--- `internal_storage::append::append_entries_without_batching` meets its contract: refusals 12 and 11, then the append.
-use mathlib.Core.Path.{_≡_, refl, sym, _∙_}
-use mathlib.Core.Bool.{true}
+-- `internal_storage::append::append_entries_without_batching` meets its contract: refusal 12, or what the append to a well-formed log comes to.
+use mathlib.Core.Path.{sym, _∙_}
 use borrow.Author.Tests.{not-true, not-false}
 use denote.Ref.{now}
 use Rattle.entry.specs.Change.{entriesIn, wholeIn}
-use Rattle.model.specs.Calls.{appendNow, malformed}
-use Rattle.state_cache.specs.State.{Raw, raw, formed}
+use Rattle.model.specs.Calls.{appendNow}
+use Rattle.state_cache.specs.State.{raw}
+use Rattle.state_cache.proofs.Stands.{ready-of}
 use Rattle.state_cache.proofs.Runs.{ill-formed}
-use Rattle.internal_storage.proofs.Arguments.{slice-refused, slice-run, slice-appends}
 use borrow.Author.Needs.{needs}
 use Rattle.internal_storage.proofs.append.append_entries_without_batching.Statement.{statement}
 use Rattle.internal_storage.proofs.append.append_entries_without_batching.Tie as tie
-
-abbrev stateAt : tie.Start → Raw
-stateAt c = raw (c .args .index) (now (c .args .log)) (now (c .args .snapshot))
-
-okay : (e : tie.Else1) → formed (stateAt (e .before .before .before .before .before .before)) ≡ true
-okay e = sym (e .before .well-formed .ensures) ∙ not-false _ (e .if1 .left)
 
 well-formed-requires : tie.Need-well-formed-requires
 well-formed-requires c κs = search needs
@@ -27,49 +20,19 @@ same-length c = search needs
 returns : tie.Need-returns
 returns c =
     let st = c .before .before .before .before .before .before in
-    ill-formed (appendNow (entriesIn (now (st .args .entries)))) (wholeIn (now (st .args .entries))) (stateAt st) (sym (c .before .well-formed .ensures) ∙ not-true _ (c .if1 .taken))
+    ill-formed (appendNow (entriesIn (now (st .args .entries)))) (wholeIn (now (st .args .entries))) (raw (st .args .index) (now (st .args .log)) (now (st .args .snapshot))) (sym (c .before .well-formed .ensures) ∙ not-true _ (c .if1 .taken))
 
-entries-formed-requires : tie.Need-entries-formed-requires
-entries-formed-requires c κs = search needs
+append-entries-without-batching-requires : tie.Need-append-entries-without-batching-requires
+append-entries-without-batching-requires c κs =
+    let e = c .before in
+    let st = e .before .before .before .before .before .before in
+    ready-of (raw (st .args .index) (now (st .args .log)) (now (st .args .snapshot))) (sym (e .before .well-formed .ensures) ∙ not-false _ (e .if1 .left))
 
 same-length-2 : tie.Need-same-length-2
 same-length-2 c = search needs
 
 returns-2 : tie.Need-returns-2
-unfolding malformed
-returns-2 c =
-    let e = c .before .before in
-    let st = e .before .before .before .before .before .before in
-    slice-refused (appendNow (entriesIn (now (st .args .entries)))) (now (st .args .entries)) (stateAt st) refl (okay e) (sym (c .before .entries-formed .ensures) ∙ not-true _ (c .if2 .taken))
-
-append-now-at-requires : tie.Need-append-now-at-requires
-append-now-at-requires c κs =
-    let f = c .before in
-    let e = f .before .before in
-    let st = e .before .before .before .before .before .before in
-    slice-appends (now (st .args .entries)) (stateAt st) (okay e) (sym (f .before .entries-formed .ensures) ∙ not-false _ (f .if2 .left))
-
-same-length-3 : tie.Need-same-length-3
-same-length-3 c = search needs
-
-returns-3 : tie.Need-returns-3
-returns-3 c =
-    let p = c .before .before in
-    let f = p .before .before in
-    let e = f .before .before in
-    let st = e .before .before .before .before .before .before in
-    p .append-now-at .ensures ∙ slice-run (appendNow (entriesIn (now (st .args .entries)))) (now (st .args .entries)) (stateAt st) (sym (f .before .entries-formed .ensures) ∙ not-false _ (f .if2 .left))
+returns-2 c = search needs
 
 pub append-entries-without-batching-spec : {M : Type 1} → statement M
-append-entries-without-batching-spec =
-    tie.close
-    (tie.spec
-    well-formed-requires
-    same-length
-    returns
-    entries-formed-requires
-    same-length-2
-    returns-2
-    append-now-at-requires
-    same-length-3
-    returns-3)
+append-entries-without-batching-spec = tie.close (tie.spec well-formed-requires same-length returns append-entries-without-batching-requires same-length-2 returns-2)

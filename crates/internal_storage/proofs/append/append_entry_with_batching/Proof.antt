@@ -1,48 +1,40 @@
--- `internal_storage::append::append_entry_with_batching` meets its contract: the append of its two words.
-use Prim.Native.Nat.{ℕ}
-use mathlib.Core.Path.{ap, _∙_}
+-- `internal_storage::append::append_entry_with_batching` meets its contract: refusal 12, or what the append to a well-formed log comes to.
+use mathlib.Core.Path.{sym, _∙_}
 use mathlib.Core.List.{[], _∷_}
+use mathlib.Core.Bool.{true}
+use borrow.Author.Tests.{not-true, not-false}
 use denote.Ref.{now}
-use Rattle.entry.specs.Change.{entriesIn, wholeIn}
 use Rattle.model.specs.Calls.{append}
-use Rattle.state_cache.specs.State.{Raw, raw}
-use Rattle.state_cache.specs.Run.{run}
+use Rattle.state_cache.specs.State.{raw}
+use Rattle.state_cache.proofs.Stands.{ready-of}
+use Rattle.state_cache.proofs.Runs.{ill-formed}
 use Rattle.internal_storage.specs.Replies.{saidIs}
-use Rattle.internal_storage.proofs.Arguments.{one-run}
 use borrow.Author.Needs.{needs}
 use Rattle.internal_storage.proofs.append.append_entry_with_batching.Statement.{statement}
 use Rattle.internal_storage.proofs.append.append_entry_with_batching.Tie as tie
 
-abbrev stateAt : tie.Start → Raw
-stateAt c = raw (c .args .index) (now (c .args .log)) (now (c .args .snapshot))
-
-word-of-requires : tie.Need-word-of-requires
-word-of-requires c κs = search needs
-
-slice-aggregate-append-entries-with-batching : tie.Need-slice-aggregate-append-entries-with-batching
-slice-aggregate-append-entries-with-batching c = search needs
-
-append-entries-with-batching-requires : tie.Need-append-entries-with-batching-requires
-append-entries-with-batching-requires c κs = search needs
+well-formed-requires : tie.Need-well-formed-requires
+well-formed-requires c κs = search needs
 
 same-length : tie.Need-same-length
 same-length c = search needs
 
 returns : tie.Need-returns
 returns c =
-    let p = c .before .before in
-    let k = p .before .before .before in
-    let st = k .before .before .before in
-    p .append-entries-with-batching .ensures
-    ∙ ap (λ (w : ℕ). run (append (entriesIn (st .args .key ∷ (w ∷ [])))) (wholeIn (st .args .key ∷ (w ∷ []))) (stateAt st)) (k .word-of .ensures)
-    ∙ one-run (st .args .key) (saidIs (st .args .said)) (stateAt st)
+    let st = c .before .before .before .before .before in
+    ill-formed (append (record { key = st .args .key; said = saidIs (st .args .said) } ∷ [])) true (raw (st .args .index) (now (st .args .log)) (now (st .args .snapshot))) (sym (c .before .well-formed .ensures) ∙ not-true _ (c .if1 .taken))
+
+append-entry-with-batching-requires : tie.Need-append-entry-with-batching-requires
+append-entry-with-batching-requires c κs =
+    let e = c .before in
+    let st = e .before .before .before .before .before in
+    ready-of (raw (st .args .index) (now (st .args .log)) (now (st .args .snapshot))) (sym (e .before .well-formed .ensures) ∙ not-false _ (e .if1 .left))
+
+same-length-2 : tie.Need-same-length-2
+same-length-2 c = search needs
+
+returns-2 : tie.Need-returns-2
+returns-2 c = search needs
 
 pub append-entry-with-batching-spec : {M : Type 1} → statement M
-append-entry-with-batching-spec =
-    tie.close
-    (tie.spec
-    word-of-requires
-    slice-aggregate-append-entries-with-batching
-    append-entries-with-batching-requires
-    same-length
-    returns)
+append-entry-with-batching-spec = tie.close (tie.spec well-formed-requires same-length returns append-entry-with-batching-requires same-length-2 returns-2)

@@ -1,20 +1,15 @@
--- `internal_storage::decide::set_decided_idx` meets its contract: refusal 12, then by the numbers.
-use mathlib.Core.Path.{_≡_, refl, sym, _∙_}
+-- `internal_storage::decide::set_decided_idx` meets its contract: refusal 12, or what the call on a well-formed log comes to.
+use mathlib.Core.Path.{sym, _∙_}
 use mathlib.Core.Bool.{true}
 use borrow.Author.Tests.{not-true, not-false}
 use denote.Ref.{now}
-use Rattle.model.specs.Calls.{decide, decideGuards, malformed, further, replyOf}
-use Rattle.state_cache.specs.State.{raw, formed}
-use Rattle.state_cache.proofs.Small.{sound-small}
+use Rattle.model.specs.Calls.{decide}
+use Rattle.state_cache.specs.State.{raw}
 use Rattle.state_cache.proofs.Stands.{ready-of}
 use Rattle.state_cache.proofs.Runs.{ill-formed}
-use Rattle.internal_storage.proofs.Effects.{numbers-run, decided-stands}
 use borrow.Author.Needs.{needs}
 use Rattle.internal_storage.proofs.decide.set_decided_idx.Statement.{statement}
 use Rattle.internal_storage.proofs.decide.set_decided_idx.Tie as tie
-
-okay : (e : tie.Else1) → formed (raw (e .before .before .before .before .args .index) (now (e .before .before .before .before .args .log)) (now (e .before .before .before .before .args .snapshot))) ≡ true
-okay e = sym (e .before .well-formed .ensures) ∙ not-false _ (e .if1 .left)
 
 well-formed-requires : tie.Need-well-formed-requires
 well-formed-requires c κs = search needs
@@ -22,18 +17,13 @@ well-formed-requires c κs = search needs
 returns : tie.Need-returns
 returns c =
     let st = c .before .before .before .before in
-    ill-formed (decide (st .args .idx .0)) true _ (sym (c .before .well-formed .ensures) ∙ not-true _ (c .if1 .taken))
+    ill-formed (decide (st .args .idx .0)) true (raw (st .args .index) (now (st .args .log)) (now (st .args .snapshot))) (sym (c .before .well-formed .ensures) ∙ not-true _ (c .if1 .taken))
 
-decide-at-requires : tie.Need-decide-at-requires
-decide-at-requires c κs = sound-small _ (ready-of _ (okay c) .numbers)
+set-decided-idx-requires : tie.Need-set-decided-idx-requires
+set-decided-idx-requires c κs = ready-of _ (sym (c .before .well-formed .ensures) ∙ not-false _ (c .if1 .left))
 
 returns-2 : tie.Need-returns-2
-unfolding further malformed replyOf
-returns-2 c =
-    let e = c .before in
-    let i = e .before .before .before .before .args .idx .0 in
-    numbers-run _ (okay e) (decide i) (decideGuards i) refl refl tt _ (λ q. (refl, decided-stands _ (okay e) i)) _ _ (c .decide-at .ensures)
+returns-2 c = search needs
 
 pub set-decided-idx-spec : {M : Type 1} → statement M
-set-decided-idx-spec =
-    tie.close (tie.spec well-formed-requires returns decide-at-requires returns-2)
+set-decided-idx-spec = tie.close (tie.spec well-formed-requires returns set-decided-idx-requires returns-2)

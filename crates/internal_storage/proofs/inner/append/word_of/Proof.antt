@@ -1,4 +1,4 @@
--- `internal_storage::append::word_of` meets its contract: by what is said, and by whether a place is in form.
+-- `internal_storage::inner::append::word_of` meets its contract: by what is said, and by whether a place is in form.
 use mathlib.Core.Path.{sym, ap, _∙_}
 use mathlib.Core.Bool.{Bool}
 use borrow.Author.Tests.{lt-ltb, le-ltb}
@@ -7,8 +7,8 @@ use Rattle.entry.specs.Limits.{places}
 use Rattle.internal_storage.specs.Replies.{saidIs, lentWord}
 use Rattle.internal_storage.specs.declared.Said.{Said}
 use borrow.Author.Needs.{needs}
-use Rattle.internal_storage.proofs.append.word_of.Statement.{statement}
-use Rattle.internal_storage.proofs.append.word_of.Tie as tie
+use Rattle.internal_storage.proofs.inner.append.word_of.Statement.{statement}
+use Rattle.internal_storage.proofs.inner.append.word_of.Tie as tie
 
 enum-known-said : tie.Need-enum-known-said
 enum-known-said c = search needs

@@ -1,4 +1,4 @@
--- `internal_storage::stop::set_stop_at` meets its contract: each return takes the tests as far as it came.
+-- `internal_storage::inner::stop::set_stop_at` meets its contract: each return takes the tests as far as it came.
 use Prim.Native.Nat.{_+_, _≤_, _<_}
 use mathlib.Core.Path.{refl, sym, _∙_}
 use native.Mathlib.Omega.{arith}
@@ -12,8 +12,8 @@ use Rattle.state_cache.specs.State.{numbersIn}
 use Rattle.state_cache.specs.Fields.{withStop}
 use Rattle.state_cache.proofs.Small.{sound-small, accepted-le}
 use Rattle.internal_storage.proofs.Numbered.{told-by}
-use Rattle.internal_storage.proofs.stop.set_stop_at.Statement.{statement}
-use Rattle.internal_storage.proofs.stop.set_stop_at.Tie as tie
+use Rattle.internal_storage.proofs.inner.stop.set_stop_at.Statement.{statement}
+use Rattle.internal_storage.proofs.inner.stop.set_stop_at.Tie as tie
 
 accepted-requires : tie.Need-accepted-requires
 accepted-requires c κs = sound-small _ (c .pre)

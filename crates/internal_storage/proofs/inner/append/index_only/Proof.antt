@@ -1,10 +1,10 @@
--- `internal_storage::append::index_only` meets its contract: by the answer.
+-- `internal_storage::inner::append::index_only` meets its contract: by the answer.
 use mathlib.Core.Path.{sym, ap}
 use Rattle.internal_storage.specs.Replies.{appended, indexOnly}
 use Rattle.internal_storage.specs.declared.Appended.{Appended}
 use borrow.Author.Needs.{needs}
-use Rattle.internal_storage.proofs.append.index_only.Statement.{statement}
-use Rattle.internal_storage.proofs.append.index_only.Tie as tie
+use Rattle.internal_storage.proofs.inner.append.index_only.Statement.{statement}
+use Rattle.internal_storage.proofs.inner.append.index_only.Tie as tie
 
 enum-told : tie.Need-enum-told
 enum-told c = search needs

@@ -1,4 +1,4 @@
--- `internal_storage::stop::append_stop_at` meets its contract: each return takes the tests as far as it came.
+-- `internal_storage::inner::stop::append_stop_at` meets its contract: each return takes the tests as far as it came.
 use Prim.Native.Nat.{_+_, _≤_, _<_}
 use mathlib.Core.Path.{ap₂, _∙_}
 use mathlib.Core.Bool.{true}
@@ -16,8 +16,8 @@ use Rattle.state_cache.specs.Fields.{withStop}
 use Rattle.state_cache.proofs.Small.{sound-small}
 use Rattle.internal_storage.specs.Replies.{indexed, flushSays, allFlushed}
 use Rattle.internal_storage.proofs.Numbered.{told-by}
-use Rattle.internal_storage.proofs.stop.append_stop_at.Statement.{statement}
-use Rattle.internal_storage.proofs.stop.append_stop_at.Tie as tie
+use Rattle.internal_storage.proofs.inner.stop.append_stop_at.Statement.{statement}
+use Rattle.internal_storage.proofs.inner.stop.append_stop_at.Tie as tie
 
 accepted-requires : tie.Need-accepted-requires
 accepted-requires c κs = sound-small _ (c .pre)

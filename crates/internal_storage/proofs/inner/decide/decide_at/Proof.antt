@@ -1,4 +1,4 @@
--- `internal_storage::decide::decide_at` meets its contract: each return takes the tests as far as it came.
+-- `internal_storage::inner::decide::decide_at` meets its contract: each return takes the tests as far as it came.
 use mathlib.Core.Path.{refl}
 use borrow.Author.Tests.{lt-ltb, le-ltb}
 use Rattle.entry.specs.Guards.{passes, refuses}
@@ -8,8 +8,8 @@ use Rattle.state_cache.specs.State.{numbersIn}
 use Rattle.state_cache.specs.Fields.{withDecided}
 use Rattle.internal_storage.proofs.Numbered.{told-by}
 use borrow.Author.Needs.{needs}
-use Rattle.internal_storage.proofs.decide.decide_at.Statement.{statement}
-use Rattle.internal_storage.proofs.decide.decide_at.Tie as tie
+use Rattle.internal_storage.proofs.inner.decide.decide_at.Statement.{statement}
+use Rattle.internal_storage.proofs.inner.decide.decide_at.Tie as tie
 
 returns : tie.Need-returns
 unfolding decideGuards

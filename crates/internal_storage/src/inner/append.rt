@@ -1,0 +1,114 @@
+// Appends of entries to a log that is known to be well formed: not for a user, whose calls are in append.rt.
+use super::super::AcceptedIdx;
+use super::super::AcceptedIdxAt;
+use super::super::Appended;
+use super::super::AppendedAt;
+use super::super::Said;
+use entry::Refusal;
+use state_cache::Accepted;
+use state_cache::AcceptedAt;
+use state_cache::IndexRecord;
+ghost use mathlib.Core.Path.{_≡_};
+ghost use mathlib.Core.Bool.{true};
+ghost use mathlib.Core.List.{[], _∷_};
+ghost use Rattle.entry.specs.Change.{entriesIn, wholeIn};
+ghost use Rattle.model.specs.Calls.{append, appendNow};
+ghost use Rattle.state_cache.specs.State.{raw, Ready};
+ghost use Rattle.state_cache.specs.Run.{outcome, run, accepted};
+ghost use Rattle.internal_storage.specs.Replies.{saidIs, lentWord, appended, acceptedIdx, indexOnly, withIndexOnly};
+
+// The word that says it. That of a place of 2^48 or more breaks its form too, and is never the word of a removed key.
+fn word_of(said: Said) -> u64
+    ensures { λ w. ⌜ w ≡ lentWord (saidIs said) ⌝ }
+{
+    let Said::Place(place) = said else {
+        return entry::REMOVED;
+    };
+    if place.0 < entry::PLACES {
+        return place.0;
+    }
+    entry::PLACES
+}
+
+pub fn append_entry_with_batching(
+    index: IndexRecord,
+    log: &mut [u64],
+    snapshot: &[u64],
+    key: u64,
+    said: Said,
+) -> AppendedAt
+    requires { ⌜ Ready (raw index (now log) (now snapshot)) ⌝ }
+    ensures { λ r. ⌜ outcome (appended (r .answer)) (raw (r .index) (now (log .exit)) (now (snapshot .entry))) ≡ run (append (record { key = key; said = saidIs said } ∷ [])) true (raw index (now (log .entry)) (now (snapshot .entry))) ⌝ }
+{
+    let word = word_of(said);
+    let words = [key, word];
+    append_entries_with_batching(index, log, snapshot, &words)
+}
+
+pub fn append_entries_with_batching(
+    index: IndexRecord,
+    log: &mut [u64],
+    snapshot: &[u64],
+    entries: &[u64],
+) -> AppendedAt
+    requires { ⌜ Ready (raw index (now log) (now snapshot)) ⌝ }
+    ensures { λ r. ⌜ outcome (appended (r .answer)) (raw (r .index) (now (log .exit)) (now (snapshot .entry))) ≡ run (append (entriesIn (now (entries .entry)))) (wholeIn (now (entries .entry))) (raw index (now (log .entry)) (now (snapshot .entry))) ⌝ }
+{
+    if !entry::entries_formed(entries) {
+        return AppendedAt {
+            answer: Appended::Refused(Refusal::Malformed),
+            index,
+        };
+    }
+    super::append_at(index, log, snapshot, entries, entries.len() / entry::WIDTH)
+}
+
+pub fn append_entries_without_batching(
+    index: IndexRecord,
+    log: &mut [u64],
+    snapshot: &[u64],
+    entries: &[u64],
+) -> AcceptedAt
+    requires { ⌜ Ready (raw index (now log) (now snapshot)) ⌝ }
+    ensures { λ r. ⌜ outcome (accepted (r .answer)) (raw (r .index) (now (log .exit)) (now (snapshot .entry))) ≡ run (appendNow (entriesIn (now (entries .entry)))) (wholeIn (now (entries .entry))) (raw index (now (log .entry)) (now (snapshot .entry))) ⌝ }
+{
+    if !entry::entries_formed(entries) {
+        return AcceptedAt {
+            answer: Accepted::Refused(Refusal::Malformed),
+            index,
+        };
+    }
+    super::append_now_at(index, log, snapshot, entries, entries.len() / entry::WIDTH)
+}
+
+// An append's answer without the number of entries flushed.
+fn index_only(answer: Appended) -> AcceptedIdx
+    ensures { λ r. ⌜ acceptedIdx r ≡ indexOnly (appended answer) ⌝ }
+{
+    match answer {
+        Appended::Held => AcceptedIdx::Held,
+        Appended::Flushed {
+            accepted,
+            entries: _,
+        } => AcceptedIdx::At(accepted),
+        Appended::Refused(refusal) => AcceptedIdx::Refused(refusal),
+    }
+}
+
+pub fn append_entries_and_get_accepted_idx(
+    index: IndexRecord,
+    log: &mut [u64],
+    snapshot: &[u64],
+    entries: &[u64],
+) -> AcceptedIdxAt
+    requires { ⌜ Ready (raw index (now log) (now snapshot)) ⌝ }
+    ensures { λ r. ⌜ outcome (acceptedIdx (r .answer)) (raw (r .index) (now (log .exit)) (now (snapshot .entry))) ≡ withIndexOnly (run (append (entriesIn (now (entries .entry)))) (wholeIn (now (entries .entry))) (raw index (now (log .entry)) (now (snapshot .entry)))) ⌝ }
+{
+    let appended = append_entries_with_batching(index, log, snapshot, entries);
+    let answer = appended.answer;
+    let next = appended.index;
+    AcceptedIdxAt {
+        answer: index_only(answer),
+        index: next,
+    }
+}

@@ -1,0 +1,125 @@
+// The stop-sign of a log that is known to be well formed: not for a user, whose calls are in stop.rt.
+use super::super::Appended;
+use super::super::AppendedAt;
+use entry::LogIndex;
+use entry::Refusal;
+use entry::StopSign;
+use state_cache::Accepted;
+use state_cache::AcceptedAt;
+use state_cache::IndexRecord;
+ghost use mathlib.Core.Path.{_≡_};
+ghost use mathlib.Core.Bool.{true};
+ghost use Rattle.entry.specs.Guards.{first};
+ghost use Rattle.model.specs.Numbers.{acceptedOf};
+ghost use Rattle.model.specs.Append.{appendStopGuards, setStopGuards};
+ghost use Rattle.model.specs.Calls.{appendStop, setStop};
+ghost use Rattle.model.proofs.Forms.{Sound};
+ghost use Rattle.state_cache.specs.State.{raw, numbersIn, Ready};
+ghost use Rattle.state_cache.specs.Run.{outcome, run, accepted};
+ghost use Rattle.state_cache.specs.Fields.{withStop};
+ghost use Rattle.internal_storage.specs.Replies.{appended, indexed, byNumbers, flushSays, allFlushed, asked};
+
+// Refusals 4 and 9, or the batch flushed and the stop-sign after it.
+fn append_stop_at(index: IndexRecord, ss: StopSign) -> AppendedAt
+    requires { ⌜ Sound (numbersIn index) ⌝ }
+    ensures { λ r. ⌜ indexed (appended (r .answer)) (r .index) ≡ byNumbers (first (appendStopGuards (numbersIn index))) (flushSays index) (withStop true ss (allFlushed index)) index ⌝ }
+{
+    let last = state_cache::inner::accepted(index);
+    if index.stop_held {
+        return AppendedAt {
+            answer: Appended::Refused(Refusal::Stopped(LogIndex(last))),
+            index,
+        };
+    }
+    if entry::LAST_INDEX < last + index.batched as u64 + 1 {
+        return AppendedAt {
+            answer: Appended::Refused(Refusal::PastLastIndex(LogIndex(last))),
+            index,
+        };
+    }
+    let answer = super::flush::flush_answer(index);
+    let mut next = super::flush::flush(index);
+    next.stop_held = true;
+    next.stop = ss;
+    AppendedAt {
+        answer,
+        index: next,
+    }
+}
+
+pub fn append_stopsign(
+    index: IndexRecord,
+    log: &[u64],
+    snapshot: &[u64],
+    ss: StopSign,
+) -> AppendedAt
+    requires { ⌜ Ready (raw index (now log) (now snapshot)) ⌝ }
+    ensures { λ r. ⌜ outcome (appended (r .answer)) (raw (r .index) (now (log .entry)) (now (snapshot .entry))) ≡ run (appendStop ss) true (raw index (now (log .entry)) (now (snapshot .entry))) ⌝ }
+{
+    if !entry::sign_formed(ss) {
+        return AppendedAt {
+            answer: Appended::Refused(Refusal::Malformed),
+            index,
+        };
+    }
+    append_stop_at(index, ss)
+}
+
+// Refusals 4, 10 and 9, or the flag and the stop-sign set.
+fn set_stop_at(index: IndexRecord, held: bool, ss: StopSign) -> AcceptedAt
+    requires { ⌜ Sound (numbersIn index) ⌝ }
+    ensures { λ r. ⌜ indexed (accepted (r .answer)) (r .index) ≡ byNumbers (first (setStopGuards held (numbersIn index))) (acceptedOf (numbersIn (withStop held ss index))) (withStop held ss index) index ⌝ }
+{
+    let last = state_cache::inner::accepted(index);
+    if state_cache::inner::stop_decided(index) {
+        return AcceptedAt {
+            answer: Accepted::Refused(Refusal::Stopped(LogIndex(last))),
+            index,
+        };
+    }
+    let waiting = index.batched;
+    if held & (0 < waiting) {
+        return AcceptedAt {
+            answer: Accepted::Refused(Refusal::BatchHeld(waiting)),
+            index,
+        };
+    }
+    let mut next = index;
+    next.stop_held = held;
+    next.stop = ss;
+    let then = state_cache::inner::accepted(next);
+    if entry::LAST_INDEX < then + waiting as u64 {
+        return AcceptedAt {
+            answer: Accepted::Refused(Refusal::PastLastIndex(LogIndex(last))),
+            index,
+        };
+    }
+    AcceptedAt {
+        answer: Accepted::At(LogIndex(then)),
+        index: next,
+    }
+}
+
+// With `held` false the stop-sign is taken away, and `ss` is not looked at.
+pub fn set_stopsign(
+    index: IndexRecord,
+    log: &[u64],
+    snapshot: &[u64],
+    held: bool,
+    ss: StopSign,
+) -> AcceptedAt
+    requires { ⌜ Ready (raw index (now log) (now snapshot)) ⌝ }
+    ensures { λ r. ⌜ outcome (accepted (r .answer)) (raw (r .index) (now (log .entry)) (now (snapshot .entry))) ≡ run (setStop (asked held ss)) true (raw index (now (log .entry)) (now (snapshot .entry))) ⌝ }
+{
+    if !held {
+        let blank = state_cache::inner::fresh_index(0);
+        return set_stop_at(index, false, blank.stop);
+    }
+    if !entry::sign_formed(ss) {
+        return AcceptedAt {
+            answer: Accepted::Refused(Refusal::Malformed),
+            index,
+        };
+    }
+    set_stop_at(index, true, ss)
+}

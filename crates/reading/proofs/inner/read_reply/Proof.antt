@@ -1,0 +1,61 @@
+-- `reading::inner::read_reply` meets its contract: refusal 11, then by the numbers.
+use mathlib.Core.Path.{_≡_, sym, ap₂, _∙_}
+use mathlib.Core.Bool.{Bool, true, false, _||_}
+use denote.Ref.{now}
+use Rattle.words.proofs.Tests.{or-left, or-right}
+use Rattle.model.specs.Read.{startPast, stopPast}
+use Rattle.state_cache.specs.State.{raw}
+use Rattle.state_cache.proofs.Small.{sound-small}
+use Rattle.reading.specs.Replies.{boundOf}
+use Rattle.reading.proofs.Replying.{range-bad, range-fine, range-told}
+use borrow.Author.Needs.{needs}
+use Rattle.reading.proofs.inner.read_reply.Statement.{statement}
+use Rattle.reading.proofs.inner.read_reply.Tie as tie
+
+-- both tests of the bounds, as the model has them
+bounds : (e : tie.After-stop-past) (t : Bool) → (e .before .start-past .result || e .stop-past .result) ≡ t
+    → (startPast (boundOf (e .before .before .before .before .args .from)) || stopPast (boundOf (e .before .before .before .before .args .to))) ≡ t
+bounds e t q = ap₂ (λ (a b : Bool). a || b) (sym (e .before .start-past .ensures)) (sym (e .stop-past .ensures)) ∙ q
+
+start-past-requires : tie.Need-start-past-requires
+start-past-requires c κs = search needs
+
+stop-past-requires : tie.Need-stop-past-requires
+stop-past-requires c κs = search needs
+
+returns : tie.Need-returns
+returns c =
+    let st = c .before .before .before .before .before in
+    let a = st .args in
+    let x = raw (a .index) (now (a .log)) (now (a .snapshot)) in
+    range-told (boundOf (a .from)) (boundOf (a .to)) x _ (range-bad (boundOf (a .from)) (boundOf (a .to)) x (st .pre .okay) (bounds (c .before) true (c .if1 .taken)))
+
+accepted-requires : tie.Need-accepted-requires
+accepted-requires c κs = sound-small _ (c .before .before .before .before .before .pre .numbers)
+
+start-at-requires : tie.Need-start-at-requires
+start-at-requires c κs = or-left _ _ (bounds (c .before .before) false (c .before .if1 .left))
+
+stop-at-requires : tie.Need-stop-at-requires
+stop-at-requires c κs =
+    let a = c .before .before .before .before .before .before .before .args in
+    or-right (startPast (boundOf (a .from))) (stopPast (boundOf (a .to))) (bounds (c .before .before .before) false (c .before .before .if1 .left))
+
+read-at-requires : tie.Need-read-at-requires
+read-at-requires c κs = sound-small _ (c .before .before .before .before .before .before .before .before .pre .numbers)
+
+returns-2 : tie.Need-returns-2
+returns-2 c =
+    let s = c .before in
+    let f = s .before in
+    let l = f .before in
+    let b = l .before in
+    let st = b .before .before .before .before .before in
+    let a = st .args in
+    let x = raw (a .index) (now (a .log)) (now (a .snapshot)) in
+    range-told (boundOf (a .from)) (boundOf (a .to)) x _
+    (c .read-at .ensures
+    ∙ range-fine (boundOf (a .from)) (boundOf (a .to)) x (st .pre .okay) (bounds (b .before) false (b .if1 .left)) _ _ (l .accepted .result) (f .start-at .ensures) (s .stop-at .ensures) (l .accepted .ensures))
+
+pub read-reply-spec : {M : Type 1} → statement M
+read-reply-spec = tie.close (tie.spec start-past-requires stop-past-requires returns accepted-requires start-at-requires stop-at-requires read-at-requires returns-2)

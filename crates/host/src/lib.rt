@@ -9,6 +9,7 @@ use state_cache::IndexRecord;
 mod answers;
 mod asked;
 pub mod forms;
+pub mod inner;
 pub mod lists;
 pub mod log;
 pub mod showing;

@@ -1,0 +1,41 @@
+use mathlib.Core.Path.{ap, _∙_}
+use mathlib.Core.List.{[], _∷_}
+use mathlib.Core.Bool.{true}
+use denote.Ref.{now}
+use Rattle.entry.specs.Change.{Said}
+use Rattle.model.specs.Calls.{append}
+use Rattle.state_cache.specs.State.{raw}
+use Rattle.state_cache.specs.Run.{run}
+use Rattle.host.proofs.Carry.{carry}
+use Rattle.host.specs.Plain.{maybeFlushed}
+use borrow.Author.Needs.{needs}
+use Rattle.host.proofs.inner.kotuseraw_inner_append_entry_with_batching.Statement.{statement}
+use Rattle.host.proofs.inner.kotuseraw_inner_append_entry_with_batching.Tie as tie
+
+entry-said-requires : tie.Need-entry-said-requires
+entry-said-requires c κs = search needs
+
+append-entry-with-batching-requires : tie.Need-append-entry-with-batching-requires
+append-entry-with-batching-requires c κs = search needs
+
+appended-reply-requires : tie.Need-appended-reply-requires
+appended-reply-requires c κs = search needs
+
+same-length : tie.Need-same-length
+same-length c = search needs
+
+returns : tie.Need-returns
+returns c =
+    let x = c .before .before .before .before .before .before .before .before .args in
+    carry maybeFlushed (c .appended-reply .ensures)
+    (c .before .before .before .append-entry-with-batching .ensures ∙ ap (λ (y : Said). run (append (record { key = x .key; said = y } ∷ [])) true (raw (x .index) (now (x .log)) (now (x .snapshot)))) (c .before .before .before .before .before .entry-said .ensures))
+
+pub kotuseraw-inner-append-entry-with-batching-spec : {M : Type 1} → statement M
+kotuseraw-inner-append-entry-with-batching-spec =
+    tie.close
+    (tie.spec
+    entry-said-requires
+    append-entry-with-batching-requires
+    appended-reply-requires
+    same-length
+    returns)

@@ -1,0 +1,344 @@
+// The calls without the judging of the state's form: every call keeps a well-formed state well formed (`runs-formed`), so a host that owns
+// its state and lets nobody else write its words need not have it judged again at each call; the total calls are for every other caller.
+// Each requires a well-formed state, and says then what the call of the same name says.
+use super::PlainBound;
+use super::Reply;
+use super::Said;
+use super::ShownSaid;
+use super::answers;
+use super::asked;
+use entry::Ballot;
+use entry::BlockPlace;
+use entry::LogIndex;
+use entry::StopSign;
+use state_cache::Accepted;
+use state_cache::Flag;
+use state_cache::IndexRecord;
+ghost use mathlib.Core.Path.{_≡_};
+ghost use mathlib.Core.Bool.{true};
+ghost use mathlib.Core.List.{[], _∷_};
+ghost use Rattle.entry.specs.Limits.{lastWord};
+ghost use Rattle.entry.specs.Change.{entriesIn, wholeIn};
+ghost use Rattle.model.specs.Numbers.{endOf, acceptedOf, stopDecided, logDecided};
+ghost use Rattle.model.specs.Read.{included, excluded};
+ghost use Rattle.model.specs.Calls.{query, lookup as lookupCall, append, appendNow, flush, flushEntries, appendStop, setStop, setPromise, decide, trim};
+ghost use Rattle.state_cache.specs.State.{raw, numbersIn, Ready};
+ghost use Rattle.state_cache.specs.Run.{run, ofNumbers};
+ghost use Rattle.reading.specs.Parts.{spanReply};
+ghost use Rattle.reading.specs.Numbered.{rangeReply, decidedReply};
+ghost use Rattle.internal_storage.specs.Replies.{asked as askedSign, withIndexOnly};
+ghost use Rattle.host.specs.Plain.{plain, nothing, aNumber, aFlag, maybeNumber, maybeFlushed, left, plainly};
+ghost use Rattle.host.specs.Requests.{endAt, lentSaid};
+ghost use Rattle.host.specs.Reads.{shownAs, spanAs};
+
+#[no_mangle]
+pub extern "C" fn kotuseraw_inner_lookup(
+    index: IndexRecord,
+    log: &[u64],
+    snapshot: &[u64],
+    key: u64,
+) -> Said
+    requires { ⌜ Ready (raw index (now log) (now snapshot)) ⌝ }
+    ensures { λ s. ⌜ s ≡ plain maybeNumber (run (query (lookupCall key)) true (raw index (now (log .entry)) (now (snapshot .entry))) .answer) ⌝ }
+{
+    answers::found_said(reading::inner::look(index, log, snapshot, key))
+}
+
+#[no_mangle]
+pub extern "C" fn kotuseraw_inner_read(
+    index: IndexRecord,
+    log: &[u64],
+    snapshot: &[u64],
+    from: PlainBound,
+    to: PlainBound,
+) -> ShownSaid
+    requires { ⌜ Ready (raw index (now log) (now snapshot)) ⌝ }
+    ensures { λ s. ⌜ s ≡ shownAs (rangeReply (endAt (excluded lastWord) from) (endAt (included lastWord) to) (raw index (now (log .entry)) (now (snapshot .entry)))) ⌝ }
+{
+    let start = asked::start_of(from);
+    let stop = asked::stop_of(to);
+    answers::read_said(reading::inner::read_reply(index, log, snapshot, start, stop))
+}
+
+#[no_mangle]
+pub extern "C" fn kotuseraw_inner_read_decided_suffix(
+    index: IndexRecord,
+    log: &[u64],
+    snapshot: &[u64],
+    from: LogIndex,
+) -> ShownSaid
+    requires { ⌜ Ready (raw index (now log) (now snapshot)) ⌝ }
+    ensures { λ s. ⌜ s ≡ shownAs (decidedReply (from .0) (raw index (now (log .entry)) (now (snapshot .entry)))) ⌝ }
+{
+    answers::read_said(reading::inner::read_decided_suffix_reply(index, log, snapshot, from))
+}
+
+#[no_mangle]
+pub extern "C" fn kotuseraw_inner_get_entries(
+    index: IndexRecord,
+    log: &[u64],
+    snapshot: &[u64],
+    from: LogIndex,
+    to: LogIndex,
+) -> Said
+    requires { ⌜ Ready (raw index (now log) (now snapshot)) ⌝ }
+    ensures { λ s. ⌜ s ≡ spanAs (spanReply (from .0) (to .0) (raw index (now (log .entry)) (now (snapshot .entry)))) ⌝ }
+{
+    answers::span_said(reading::inner::get_entries_reply(index, log, snapshot, from, to))
+}
+
+#[no_mangle]
+pub extern "C" fn kotuseraw_inner_get_suffix(
+    index: IndexRecord,
+    log: &[u64],
+    snapshot: &[u64],
+    from: LogIndex,
+) -> Said
+    requires { ⌜ Ready (raw index (now log) (now snapshot)) ⌝ }
+    ensures { λ s. ⌜ s ≡ spanAs (spanReply (from .0) (endOf (numbersIn index)) (raw index (now (log .entry)) (now (snapshot .entry)))) ⌝ }
+{
+    answers::span_said(reading::inner::get_suffix_reply(index, log, snapshot, from))
+}
+
+#[no_mangle]
+pub extern "C" fn kotuseraw_inner_get_accepted_idx(
+    index: IndexRecord,
+    log: &[u64],
+    snapshot: &[u64],
+) -> Said
+    requires { ⌜ Ready (raw index (now log) (now snapshot)) ⌝ }
+    ensures { λ s. ⌜ s ≡ plain aNumber (ofNumbers acceptedOf (raw index (now (log .entry)) (now (snapshot .entry)))) ⌝ }
+{
+    let last = state_cache::inner::accepted(index);
+    answers::accepted_said(Accepted::At(LogIndex(last)))
+}
+
+#[no_mangle]
+pub extern "C" fn kotuseraw_inner_get_decided_idx_without_stopsign(
+    index: IndexRecord,
+    log: &[u64],
+    snapshot: &[u64],
+) -> Said
+    requires { ⌜ Ready (raw index (now log) (now snapshot)) ⌝ }
+    ensures { λ s. ⌜ s ≡ plain aNumber (ofNumbers logDecided (raw index (now (log .entry)) (now (snapshot .entry)))) ⌝ }
+{
+    let decided = state_cache::inner::log_decided(index);
+    answers::accepted_said(Accepted::At(LogIndex(decided)))
+}
+
+#[no_mangle]
+pub extern "C" fn kotuseraw_inner_stopsign_is_decided(
+    index: IndexRecord,
+    log: &[u64],
+    snapshot: &[u64],
+) -> Said
+    requires { ⌜ Ready (raw index (now log) (now snapshot)) ⌝ }
+    ensures { λ s. ⌜ s ≡ plain aFlag (ofNumbers stopDecided (raw index (now (log .entry)) (now (snapshot .entry)))) ⌝ }
+{
+    let decided = state_cache::inner::stop_decided(index);
+    answers::flag_said(Flag::Is(decided))
+}
+
+// Where `removed` is set the place is not looked at.
+#[no_mangle]
+pub extern "C" fn kotuseraw_inner_append_entry_with_batching(
+    index: IndexRecord,
+    log: &mut [u64],
+    snapshot: &[u64],
+    key: u64,
+    removed: bool,
+    place: BlockPlace,
+) -> Reply
+    requires { ⌜ Ready (raw index (now log) (now snapshot)) ⌝ }
+    ensures { λ r. ⌜ left (r .said) (raw (r .index) (now (log .exit)) (now (snapshot .entry)))
+        ≡ plainly maybeFlushed (run (append (record { key = key; said = lentSaid removed (place .0) } ∷ [])) true (raw index (now (log .entry)) (now (snapshot .entry)))) ⌝ }
+{
+    let entry = asked::entry_said(removed, place);
+    answers::appended_reply(internal_storage::inner::append::append_entry_with_batching(
+        index,
+        log,
+        snapshot,
+        key,
+        entry,
+    ))
+}
+
+#[no_mangle]
+pub extern "C" fn kotuseraw_inner_append_entries_with_batching(
+    index: IndexRecord,
+    log: &mut [u64],
+    snapshot: &[u64],
+    entries: &[u64],
+) -> Reply
+    requires { ⌜ Ready (raw index (now log) (now snapshot)) ⌝ }
+    ensures { λ r. ⌜ left (r .said) (raw (r .index) (now (log .exit)) (now (snapshot .entry)))
+        ≡ plainly maybeFlushed (run (append (entriesIn (now (entries .entry)))) (wholeIn (now (entries .entry))) (raw index (now (log .entry)) (now (snapshot .entry)))) ⌝ }
+{
+    answers::appended_reply(internal_storage::inner::append::append_entries_with_batching(
+        index,
+        log,
+        snapshot,
+        entries,
+    ))
+}
+
+#[no_mangle]
+pub extern "C" fn kotuseraw_inner_append_entries_and_get_accepted_idx(
+    index: IndexRecord,
+    log: &mut [u64],
+    snapshot: &[u64],
+    entries: &[u64],
+) -> Reply
+    requires { ⌜ Ready (raw index (now log) (now snapshot)) ⌝ }
+    ensures { λ r. ⌜ left (r .said) (raw (r .index) (now (log .exit)) (now (snapshot .entry)))
+        ≡ plainly maybeNumber (withIndexOnly (run (append (entriesIn (now (entries .entry)))) (wholeIn (now (entries .entry))) (raw index (now (log .entry)) (now (snapshot .entry))))) ⌝ }
+{
+    answers::accepted_idx_reply(internal_storage::inner::append::append_entries_and_get_accepted_idx(
+        index,
+        log,
+        snapshot,
+        entries,
+    ))
+}
+
+#[no_mangle]
+pub extern "C" fn kotuseraw_inner_append_entries_without_batching(
+    index: IndexRecord,
+    log: &mut [u64],
+    snapshot: &[u64],
+    entries: &[u64],
+) -> Reply
+    requires { ⌜ Ready (raw index (now log) (now snapshot)) ⌝ }
+    ensures { λ r. ⌜ left (r .said) (raw (r .index) (now (log .exit)) (now (snapshot .entry)))
+        ≡ plainly aNumber (run (appendNow (entriesIn (now (entries .entry)))) (wholeIn (now (entries .entry))) (raw index (now (log .entry)) (now (snapshot .entry)))) ⌝ }
+{
+    answers::accepted_reply(internal_storage::inner::append::append_entries_without_batching(
+        index,
+        log,
+        snapshot,
+        entries,
+    ))
+}
+
+#[no_mangle]
+pub extern "C" fn kotuseraw_inner_flush_batch(
+    index: IndexRecord,
+    log: &[u64],
+    snapshot: &[u64],
+) -> Reply
+    requires { ⌜ Ready (raw index (now log) (now snapshot)) ⌝ }
+    ensures { λ r. ⌜ left (r .said) (raw (r .index) (now (log .entry)) (now (snapshot .entry)))
+        ≡ plainly aNumber (run flush true (raw index (now (log .entry)) (now (snapshot .entry)))) ⌝ }
+{
+    answers::accepted_reply(internal_storage::inner::flush::flush_batch(index, log, snapshot))
+}
+
+#[no_mangle]
+pub extern "C" fn kotuseraw_inner_flush_batch_and_get_entries(
+    index: IndexRecord,
+    log: &[u64],
+    snapshot: &[u64],
+) -> Reply
+    requires { ⌜ Ready (raw index (now log) (now snapshot)) ⌝ }
+    ensures { λ r. ⌜ left (r .said) (raw (r .index) (now (log .entry)) (now (snapshot .entry)))
+        ≡ plainly maybeFlushed (run flushEntries true (raw index (now (log .entry)) (now (snapshot .entry)))) ⌝ }
+{
+    answers::appended_reply(internal_storage::inner::flush::flush_batch_and_get_entries(
+        index,
+        log,
+        snapshot,
+    ))
+}
+
+#[no_mangle]
+pub extern "C" fn kotuseraw_inner_append_stopsign(
+    index: IndexRecord,
+    log: &[u64],
+    snapshot: &[u64],
+    ss: StopSign,
+) -> Reply
+    requires { ⌜ Ready (raw index (now log) (now snapshot)) ⌝ }
+    ensures { λ r. ⌜ left (r .said) (raw (r .index) (now (log .entry)) (now (snapshot .entry)))
+        ≡ plainly maybeFlushed (run (appendStop ss) true (raw index (now (log .entry)) (now (snapshot .entry)))) ⌝ }
+{
+    answers::appended_reply(internal_storage::inner::stop::append_stopsign(
+        index,
+        log,
+        snapshot,
+        ss,
+    ))
+}
+
+// Where `held` is not set the stop-sign is taken away, and `ss` is not looked at.
+#[no_mangle]
+pub extern "C" fn kotuseraw_inner_set_stopsign(
+    index: IndexRecord,
+    log: &[u64],
+    snapshot: &[u64],
+    held: bool,
+    ss: StopSign,
+) -> Reply
+    requires { ⌜ Ready (raw index (now log) (now snapshot)) ⌝ }
+    ensures { λ r. ⌜ left (r .said) (raw (r .index) (now (log .entry)) (now (snapshot .entry)))
+        ≡ plainly aNumber (run (setStop (askedSign held ss)) true (raw index (now (log .entry)) (now (snapshot .entry)))) ⌝ }
+{
+    answers::accepted_reply(internal_storage::inner::stop::set_stopsign(
+        index,
+        log,
+        snapshot,
+        held,
+        ss,
+    ))
+}
+
+#[no_mangle]
+pub extern "C" fn kotuseraw_inner_set_promise(
+    index: IndexRecord,
+    log: &[u64],
+    snapshot: &[u64],
+    n_prom: Ballot,
+) -> Reply
+    requires { ⌜ Ready (raw index (now log) (now snapshot)) ⌝ }
+    ensures { λ r. ⌜ left (r .said) (raw (r .index) (now (log .entry)) (now (snapshot .entry)))
+        ≡ plainly nothing (run (setPromise «n_prom») true (raw index (now (log .entry)) (now (snapshot .entry)))) ⌝ }
+{
+    answers::settled_reply(internal_storage::inner::decide::set_promise(
+        index,
+        log,
+        snapshot,
+        n_prom,
+    ))
+}
+
+#[no_mangle]
+pub extern "C" fn kotuseraw_inner_set_decided_idx(
+    index: IndexRecord,
+    log: &[u64],
+    snapshot: &[u64],
+    idx: LogIndex,
+) -> Reply
+    requires { ⌜ Ready (raw index (now log) (now snapshot)) ⌝ }
+    ensures { λ r. ⌜ left (r .said) (raw (r .index) (now (log .entry)) (now (snapshot .entry)))
+        ≡ plainly nothing (run (decide (idx .0)) true (raw index (now (log .entry)) (now (snapshot .entry)))) ⌝ }
+{
+    answers::settled_reply(internal_storage::inner::decide::set_decided_idx(
+        index,
+        log,
+        snapshot,
+        idx,
+    ))
+}
+
+#[no_mangle]
+pub extern "C" fn kotuseraw_inner_try_trim(
+    index: IndexRecord,
+    log: &mut [u64],
+    snapshot: &[u64],
+    idx: LogIndex,
+) -> Reply
+    requires { ⌜ Ready (raw index (now log) (now snapshot)) ⌝ }
+    ensures { λ r. ⌜ left (r .said) (raw (r .index) (now (log .exit)) (now (snapshot .entry)))
+        ≡ plainly nothing (run (trim (idx .0)) true (raw index (now (log .entry)) (now (snapshot .entry)))) ⌝ }
+{
+    answers::settled_reply(compaction::inner::trim_at(index, log, snapshot, idx))
+}

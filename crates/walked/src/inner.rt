@@ -1,4 +1,4 @@
-// The same of an operation list. How many operations there are is for the caller to bound.
+// An operation list as a slice. How many operations there are is for the caller to bound.
 use backend::Lent;
 use backend::Op;
 use state_cache::IndexRecord;

@@ -1,0 +1,19 @@
+/* Puts two keys, decides them, folds them into the snapshot, and looks one up. */
+#include "kotuseraw.h"
+#include <stdio.h>
+
+int main(void) {
+    static uint64_t log[KOTUSERAW_LOG_WORDS], snapshot[KOTUSERAW_SNAPSHOT_WORDS];
+    const uint64_t entries[] = {7, 70, 8, 80};
+    kotuseraw_index none = {0}, two = {2};
+
+    kotuseraw_reply r = kotuseraw_fresh(0, log, KOTUSERAW_LOG_WORDS, snapshot, KOTUSERAW_SNAPSHOT_WORDS);
+    r = kotuseraw_append_entries_with_batching(r.index, log, KOTUSERAW_LOG_WORDS, snapshot, KOTUSERAW_SNAPSHOT_WORDS, entries, 4);
+    r = kotuseraw_set_decided_idx(r.index, log, KOTUSERAW_LOG_WORDS, snapshot, KOTUSERAW_SNAPSHOT_WORDS, two);
+    r = kotuseraw_try_snapshot(r.index, log, KOTUSERAW_LOG_WORDS, snapshot, KOTUSERAW_SNAPSHOT_WORDS, false, none);
+    kotuseraw_said found = kotuseraw_lookup(r.index, log, KOTUSERAW_LOG_WORDS, snapshot, KOTUSERAW_SNAPSHOT_WORDS, 8);
+    printf("refused %d, found %d, place %d\n", (int)found.number, (int)found.told, (int)found.first);
+    r = kotuseraw_set_decided_idx(r.index, log, KOTUSERAW_LOG_WORDS, snapshot, KOTUSERAW_SNAPSHOT_WORDS, none);
+    printf("refused %d, carrying %d\n", (int)r.said.number, (int)r.said.carried);
+    return 0;
+}

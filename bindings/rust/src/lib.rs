@@ -1,0 +1,35 @@
+//! An index of container chunks: a log of changes (a key put at a block place, or removed), snapshots folded from it, and the calls on
+//! both. The calls are those of a library in which every function is proved to meet its contract; this crate links its archive.
+//!
+//! ```
+//! use kotuseraw::{BlockPlace, Entry, Index, LogIndex};
+//!
+//! let mut index = Index::fresh(0)?;
+//! index.append(Entry::put(7, BlockPlace(70)))?;
+//! index.append(Entry::put(8, BlockPlace(80)))?;
+//! index.set_decided_idx(LogIndex(2))?;
+//! index.try_snapshot(None)?;
+//! assert_eq!(index.lookup(7)?, Some(BlockPlace(70)));
+//! let refused = index.set_decided_idx(LogIndex(9)).unwrap_err();
+//! assert_eq!((refused.number(), refused.carried()), (6, 2));
+//! assert_eq!(refused.to_string(), "refused 6: the decided index would be above the accepted index (accepted index: 2)");
+//! # Ok::<(), kotuseraw::Refusal>(())
+//! ```
+//!
+//! - [`Index`] owns its state. [`View`] has the same calls on a record and words that the caller lends. [`plain`] is the boundary
+//!   itself, number for number.
+//! - A call that is refused says so by a [`Refusal`], and has changed nothing.
+mod entry;
+mod index;
+pub mod plain;
+mod ready;
+mod refusal;
+mod requests;
+mod snapshot;
+
+pub use entry::Entry;
+pub use index::{Index, View, LOG_WORDS};
+pub use plain::{Ballot, BlockPlace, IndexRecord, LogIndex, StopSign};
+pub use refusal::Refusal;
+pub use requests::{Appended, Diff, Lent, LogSync, Marker, Op, Run, SnapshotType};
+pub use snapshot::{Snapshot, SNAPSHOT_WORDS};

@@ -1,0 +1,253 @@
+//! The boundary number for number: every call of the proved library on a record and words that the caller lends, whatever they hold.
+//!
+//! Nothing here needs a well-formed state or a request that makes sense: what is neither is refused, with its number, and a refusal
+//! changes nothing. Kinds are numbers, and one that there is not is refused with 11. `docs/HOST.md` in the repository says of each
+//! call what its answer tells. [`Index`](crate::Index) and [`View`](crate::View) are the same calls with types.
+
+#[repr(C)]
+#[derive(Clone, Copy, Debug, Default, PartialEq, Eq, PartialOrd, Ord, Hash)]
+/// The number of a change in the log.
+pub struct LogIndex(pub u64);
+
+#[repr(C)]
+#[derive(Clone, Copy, Debug, Default, PartialEq, Eq, PartialOrd, Ord, Hash)]
+/// The number of a block on disk, below 2^48.
+pub struct BlockPlace(pub u64);
+
+#[repr(C)]
+#[derive(Clone, Copy, Debug, Default, PartialEq, Eq, Hash)]
+/// Its order is [`ballot_cmp`]'s, which does not look at the configuration.
+pub struct Ballot {
+    pub config_id: u32,
+    pub n: u32,
+    pub priority: u32,
+    pub pid: u64,
+}
+
+#[repr(C)]
+#[derive(Clone, Copy, Debug, Default, PartialEq, Eq, Hash)]
+/// The next configuration: its nodes, and up to 32 bytes of metadata or none. What is past the counts is zero.
+pub struct StopSign {
+    pub config_id: u32,
+    pub node_count: usize,
+    pub nodes: [u64; 7],
+    pub metadata_held: bool,
+    pub metadata_len: usize,
+    pub metadata: [u8; 32],
+}
+
+#[repr(C)]
+#[derive(Clone, Copy, Debug, Default, PartialEq, Eq, Hash)]
+/// A log's numbers, beside its words.
+pub struct IndexRecord {
+    pub batch_size: u64,
+    pub retained: usize,
+    pub batched: usize,
+    pub compacted: LogIndex,
+    pub decided: LogIndex,
+    pub promise: Ballot,
+    pub accepted_round: Ballot,
+    pub snapshot_held: bool,
+    pub keys: usize,
+    pub stop_held: bool,
+    pub stop: StopSign,
+}
+
+#[repr(C)]
+#[derive(Clone, Copy, Debug, Default, PartialEq, Eq)]
+/// Number 0: the call stands, and where `told` is not 0 `first` and `second` are what it tells. Any other: the refusal, and what it
+/// carries.
+pub struct Said {
+    pub number: u64,
+    pub carried: u64,
+    pub told: u64,
+    pub first: u64,
+    pub second: u64,
+}
+
+#[repr(C)]
+#[derive(Clone, Copy, Debug, Default, PartialEq, Eq)]
+/// What a call says, and the record after it.
+pub struct Reply {
+    pub said: Said,
+    pub index: IndexRecord,
+}
+
+#[repr(C)]
+#[derive(Clone, Copy, Debug, Default, PartialEq, Eq)]
+/// What a read says: where `told` is 1, the marker (0: none; 1: trimmed; 2: a snapshot), the part of the lent log in entries, and the
+/// stop-sign.
+pub struct ShownSaid {
+    pub number: u64,
+    pub carried: u64,
+    pub told: u64,
+    pub marker: u64,
+    pub index: u64,
+    pub keys: usize,
+    pub first: usize,
+    pub count: usize,
+    pub decided: usize,
+    pub stop: bool,
+    pub stop_decided: bool,
+}
+
+#[repr(C)]
+#[derive(Clone, Copy, Debug, Default, PartialEq, Eq)]
+/// One end of a range, kind 0: included; 1: excluded; 2: none.
+pub struct Bound {
+    pub kind: u64,
+    pub index: LogIndex,
+}
+
+#[repr(C)]
+#[derive(Clone, Copy, Debug, Default, PartialEq, Eq)]
+/// An operation, kind 0 AppendEntries, 1 AppendOnPrefix, 2 SetPromise, 3 SetDecidedIndex, 4 SetAcceptedRound, 5 SetCompactedIdx,
+/// 6 Trim, 7 SetStopsign, 8 SetSnapshot. Fields that its kind does not use are not looked at.
+pub struct Op {
+    pub kind: u64,
+    pub index: LogIndex,
+    pub ballot: Ballot,
+    pub given: bool,
+}
+
+#[repr(C)]
+#[derive(Clone, Copy, Debug, Default, PartialEq, Eq)]
+/// The first `count` of eight operations.
+pub struct Ops {
+    pub count: usize,
+    pub ops: [Op; 8],
+}
+
+#[repr(C)]
+#[derive(Clone, Copy, Debug, Default, PartialEq, Eq)]
+/// What is lent beside an operation list and its entries: a snapshot's number of keys, and a stop-sign, or none.
+pub struct Lent {
+    pub snapshot_lent: bool,
+    pub keys: usize,
+    pub stop_lent: bool,
+    pub stop: StopSign,
+}
+
+#[repr(C)]
+#[derive(Clone, Copy, Debug, Default, PartialEq, Eq)]
+/// A sync's log part, kind 0: without a snapshot; 1: with a complete one; 2: with a delta.
+pub struct LogSync {
+    pub sync_idx: LogIndex,
+    pub kind: u64,
+    pub keys: usize,
+    pub stop_held: bool,
+    pub stopsign: StopSign,
+}
+
+/// An export of the archive as a Rust function. A slice goes as its pointer and its length.
+macro_rules! export {
+    ($kind:ident $(#[$note:meta])* $name:ident($($args:tt)*) -> $out:ty = $symbol:literal) => {
+        export! { @ [$kind $(#[$note])*] $name $out, $symbol, [] [] [] $($args)* }
+    };
+    (@ $head:tt $name:ident $out:ty, $symbol:literal, [$($c:tt)*] [$($sig:tt)*] [$($pass:tt)*] $a:ident: &[u64], $($rest:tt)*) => {
+        export! { @ $head $name $out, $symbol, [$($c)* _: *const u64, _: usize,] [$($sig)* $a: &[u64],] [$($pass)* $a.as_ptr(), $a.len(),] $($rest)* }
+    };
+    (@ $head:tt $name:ident $out:ty, $symbol:literal, [$($c:tt)*] [$($sig:tt)*] [$($pass:tt)*] $a:ident: &mut [u64], $($rest:tt)*) => {
+        export! { @ $head $name $out, $symbol, [$($c)* _: *mut u64, _: usize,] [$($sig)* $a: &mut [u64],] [$($pass)* $a.as_mut_ptr(), $a.len(),] $($rest)* }
+    };
+    (@ $head:tt $name:ident $out:ty, $symbol:literal, [$($c:tt)*] [$($sig:tt)*] [$($pass:tt)*] $a:ident: &mut IndexRecord, $($rest:tt)*) => {
+        export! { @ $head $name $out, $symbol, [$($c)* _: *mut IndexRecord,] [$($sig)* $a: &mut IndexRecord,] [$($pass)* $a,] $($rest)* }
+    };
+    (@ $head:tt $name:ident $out:ty, $symbol:literal, [$($c:tt)*] [$($sig:tt)*] [$($pass:tt)*] $a:ident: $t:ty, $($rest:tt)*) => {
+        export! { @ $head $name $out, $symbol, [$($c)* _: $t,] [$($sig)* $a: $t,] [$($pass)* $a,] $($rest)* }
+    };
+    (@ [total $(#[$note:meta])*] $name:ident $out:ty, $symbol:literal, [$($c:tt)*] [$($sig:tt)*] [$($pass:tt)*]) => {
+        $(#[$note])*
+        #[inline]
+        pub fn $name($($sig)*) -> $out {
+            extern "C" {
+                #[link_name = $symbol]
+                fn export($($c)*) -> $out;
+            }
+            // SAFETY: the export is proved for every record, request and slice that Rust's types admit, and writes to no other words
+            // than those of the slices that are lent to it to write.
+            unsafe { export($($pass)*) }
+        }
+    };
+    (@ [ready $(#[$note:meta])*] $name:ident $out:ty, $symbol:literal, [$($c:tt)*] [$($sig:tt)*] [$($pass:tt)*]) => {
+        $(#[$note])*
+        #[inline]
+        pub(crate) unsafe fn $name($($sig)*) -> $out {
+            extern "C" {
+                #[link_name = $symbol]
+                fn export($($c)*) -> $out;
+            }
+            // SAFETY: as the caller says.
+            unsafe { export($($pass)*) }
+        }
+    };
+}
+pub(crate) use export;
+
+macro_rules! exports {
+    ($($(#[$note:meta])* $name:ident($($args:tt)*) -> $out:ty = $symbol:literal;)*) => {
+        $(export! { total $(#[$note])* $name($($args)*,) -> $out = $symbol })*
+    };
+}
+
+exports! {
+    /// 0: the first is less; 1: they are equal; 2: it is greater.
+    ballot_cmp(a: Ballot, b: Ballot) -> u64 = "kotuseraw_ballot_cmp";
+    /// Compares the configuration too.
+    ballot_eq(a: Ballot, b: Ballot) -> bool = "kotuseraw_ballot_eq";
+    place_formed(w: u64) -> bool = "kotuseraw_place_formed";
+    entries_formed(s: &[u64]) -> bool = "kotuseraw_entries_formed";
+    sign_formed(s: StopSign) -> bool = "kotuseraw_sign_formed";
+    snapshot_formed(s: &[u64], keys: usize) -> bool = "kotuseraw_snapshot_formed";
+
+    fold(entries: &[u64], out: &mut [u64]) -> Said = "kotuseraw_fold";
+    merge(a: &[u64], n: usize, b: &[u64], m: usize, out: &mut [u64]) -> Said = "kotuseraw_merge";
+    find(s: &[u64], keys: usize, key: u64) -> Said = "kotuseraw_find";
+    create_snapshot(index: IndexRecord, log: &[u64], snapshot: &[u64], idx: LogIndex, out: &mut [u64]) -> Said = "kotuseraw_create_snapshot";
+    /// Told 1: nothing; 2: a complete snapshot; 3: a delta. First its keys, second log-decided.
+    create_diff_snapshot(index: IndexRecord, log: &[u64], snapshot: &[u64], from: LogIndex, out: &mut [u64]) -> Said = "kotuseraw_create_diff_snapshot";
+
+    well_formed(index: IndexRecord, log: &[u64], snapshot: &[u64]) -> bool = "kotuseraw_well_formed";
+    fresh(batch_size: u64, log: &mut [u64], snapshot: &mut [u64]) -> Reply = "kotuseraw_fresh";
+    load_cache(index: IndexRecord, log: &mut [u64], snapshot: &[u64]) -> Reply = "kotuseraw_load_cache";
+    get_accepted_idx(index: IndexRecord, log: &[u64], snapshot: &[u64]) -> Said = "kotuseraw_get_accepted_idx";
+    get_decided_idx_without_stopsign(index: IndexRecord, log: &[u64], snapshot: &[u64]) -> Said = "kotuseraw_get_decided_idx_without_stopsign";
+    stopsign_is_decided(index: IndexRecord, log: &[u64], snapshot: &[u64]) -> Said = "kotuseraw_stopsign_is_decided";
+
+    /// Where `removed` is set the place is not looked at.
+    append_entry_with_batching(index: IndexRecord, log: &mut [u64], snapshot: &[u64], key: u64, removed: bool, place: BlockPlace) -> Reply = "kotuseraw_append_entry_with_batching";
+    append_entries_with_batching(index: IndexRecord, log: &mut [u64], snapshot: &[u64], entries: &[u64]) -> Reply = "kotuseraw_append_entries_with_batching";
+    append_entries_and_get_accepted_idx(index: IndexRecord, log: &mut [u64], snapshot: &[u64], entries: &[u64]) -> Reply = "kotuseraw_append_entries_and_get_accepted_idx";
+    append_entries_without_batching(index: IndexRecord, log: &mut [u64], snapshot: &[u64], entries: &[u64]) -> Reply = "kotuseraw_append_entries_without_batching";
+    flush_batch(index: IndexRecord, log: &[u64], snapshot: &[u64]) -> Reply = "kotuseraw_flush_batch";
+    flush_batch_and_get_entries(index: IndexRecord, log: &[u64], snapshot: &[u64]) -> Reply = "kotuseraw_flush_batch_and_get_entries";
+    append_stopsign(index: IndexRecord, log: &[u64], snapshot: &[u64], ss: StopSign) -> Reply = "kotuseraw_append_stopsign";
+    /// Where `held` is not set the stop-sign is taken away, and `ss` is not looked at.
+    set_stopsign(index: IndexRecord, log: &[u64], snapshot: &[u64], held: bool, ss: StopSign) -> Reply = "kotuseraw_set_stopsign";
+    set_promise(index: IndexRecord, log: &[u64], snapshot: &[u64], n_prom: Ballot) -> Reply = "kotuseraw_set_promise";
+    set_decided_idx(index: IndexRecord, log: &[u64], snapshot: &[u64], idx: LogIndex) -> Reply = "kotuseraw_set_decided_idx";
+    try_trim(index: IndexRecord, log: &mut [u64], snapshot: &[u64], idx: LogIndex) -> Reply = "kotuseraw_try_trim";
+    /// Where `given` is not set the snapshot goes over all that is decided, and `idx` is not looked at.
+    try_snapshot(index: IndexRecord, log: &mut [u64], snapshot: &mut [u64], given: bool, idx: LogIndex) -> Reply = "kotuseraw_try_snapshot";
+    /// Where `held` is not set there is no log part, and of what is lent only the slices' lengths are looked at.
+    sync_log(index: IndexRecord, log: &mut [u64], snapshot: &mut [u64], accepted_round: Ballot, decided_idx: LogIndex, held: bool, log_sync: LogSync, incoming: &[u64], suffix: &[u64]) -> Reply = "kotuseraw_sync_log";
+    write_list(index: IndexRecord, log: &mut [u64], snapshot: &mut [u64], entries: &[u64], incoming: &[u64], lent: Lent, ops: Ops) -> Reply = "kotuseraw_write_list";
+    /// The same list as a slice of operations.
+    write_atomically(index: IndexRecord, log: &mut [u64], snapshot: &mut [u64], entries: &[u64], incoming: &[u64], lent: Lent, ops: Ops) -> Reply = "kotuseraw_write_atomically";
+    /// [`set_decided_idx`] on a record where it stands.
+    in_place_set_decided_idx(held: &mut IndexRecord, log: &[u64], snapshot: &[u64], idx: LogIndex) -> Said = "kotuseraw_in_place_set_decided_idx";
+    /// [`try_trim`] on a record where it stands.
+    in_place_try_trim(held: &mut IndexRecord, log: &mut [u64], snapshot: &[u64], idx: LogIndex) -> Said = "kotuseraw_in_place_try_trim";
+
+    lookup(index: IndexRecord, log: &[u64], snapshot: &[u64], key: u64) -> Said = "kotuseraw_lookup";
+    read(index: IndexRecord, log: &[u64], snapshot: &[u64], from: Bound, to: Bound) -> ShownSaid = "kotuseraw_read";
+    read_decided_suffix(index: IndexRecord, log: &[u64], snapshot: &[u64], from: LogIndex) -> ShownSaid = "kotuseraw_read_decided_suffix";
+    get_entries(index: IndexRecord, log: &[u64], snapshot: &[u64], from: LogIndex, to: LogIndex) -> Said = "kotuseraw_get_entries";
+    get_suffix(index: IndexRecord, log: &[u64], snapshot: &[u64], from: LogIndex) -> Said = "kotuseraw_get_suffix";
+    /// Copies so many entries of the log to the front of `out`, where they fit, and says how many words they are.
+    entries_of(log: &[u64], first: usize, count: usize, out: &mut [u64]) -> usize = "kotuseraw_entries_of";
+    /// Copies the entries that a read shows to the front of `out`, where they fit, and says how many words they are.
+    entries_shown(log: &[u64], shown: ShownSaid, out: &mut [u64]) -> usize = "kotuseraw_entries_shown";
+    /// The same of a read that gives reply and entries in one value.
+    read_entries(index: IndexRecord, log: &[u64], snapshot: &[u64], from: Bound, to: Bound, out: &mut [u64]) -> usize = "kotuseraw_read_entries";
+}

@@ -1,0 +1,162 @@
+//! The figures as docs/FIGURES.md shows them, from what `oracle figures count` and `time` printed.
+use std::fs;
+
+/// A number, and what was measured: a table, a row of it and a column.
+struct Figure {
+    number: u64,
+    table: String,
+    row: String,
+    column: String,
+}
+
+fn figures(path: &str) -> Vec<Figure> {
+    let text = fs::read_to_string(path).unwrap_or_else(|e| panic!("{path}: {e}"));
+    let figure = |line: &str| {
+        let (number, cell) = line.trim().split_once(' ')?;
+        let mut names = cell.split('\t').map(str::to_string);
+        Some(Figure {
+            number: number.parse().ok()?,
+            table: names.next()?,
+            row: names.next()?,
+            column: names.next()?,
+        })
+    };
+    text.lines().filter_map(figure).collect()
+}
+
+/// 12345 as 12,345.
+fn written(number: u64) -> String {
+    let digits = number.to_string();
+    let mut shown = String::new();
+    for (i, digit) in digits.chars().enumerate() {
+        if i > 0 && (digits.len() - i) % 3 == 0 {
+            shown.push(',');
+        }
+        shown.push(digit);
+    }
+    shown
+}
+
+/// The names in the order in which they came first.
+fn distinct<'a>(names: impl Iterator<Item = &'a String>) -> Vec<&'a String> {
+    let mut seen = vec![];
+    for name in names {
+        if !seen.contains(&name) {
+            seen.push(name);
+        }
+    }
+    seen
+}
+
+fn number(figures: &[Figure], table: &str, row: &str, column: &str) -> Option<u64> {
+    let is = |f: &&Figure| f.table == table && f.row == row && f.column == column;
+    figures.iter().find(is).map(|f| f.number)
+}
+
+fn print_row(first: &str, cells: impl Iterator<Item = String>) {
+    println!("| {first} | {} |", cells.collect::<Vec<_>>().join(" | "));
+}
+
+/// A table with the rows and columns of `order`, numbers from `figures`.
+fn print_table(order: &[Figure], figures: &[Figure], table: &str, corner: &str, columns: &[&String]) {
+    print_row(corner, columns.iter().map(|c| c.to_string()));
+    print_row("---", columns.iter().map(|_| "---".to_string()));
+    let of_table = || order.iter().filter(|f| f.table == table);
+    for row in distinct(of_table().map(|f| &f.row)) {
+        let cell = |column: &&String| number(figures, table, row, column).map_or("–".to_string(), written);
+        print_row(row, columns.iter().map(cell));
+    }
+    println!();
+}
+
+fn print_whole(order: &[Figure], figures: &[Figure], table: &str, corner: &str) {
+    let columns = distinct(order.iter().filter(|f| f.table == table).map(|f| &f.column));
+    print_table(order, figures, table, corner, &columns);
+}
+
+/// Each call on each state: lent, owned, the Rust's.
+fn print_calls(order: &[Figure], figures: &[Figure]) {
+    let columns: Vec<String> = ["lent", "owned", "Rust"]
+        .iter()
+        .flat_map(|way| ["empty", "half", "full"].map(|state| format!("{way}, {state}")))
+        .collect();
+    print_table(order, figures, "call", "call", &columns.iter().collect::<Vec<_>>());
+}
+
+/// A bar: a figure, with what it may cost at most.
+fn print_bars(before: &[Figure], now: &[Figure]) {
+    let full = |figures: &[Figure], row, way| number(figures, "call", row, &format!("{way}, full"));
+    let look = |figures: &[Figure], row: &str, way| number(figures, "lookup", &format!("full: {row}"), way);
+    let scan = "Rust: entries backwards, then the map";
+    let words = 2048 + 1024;
+    let row = |name: &str, was: Option<u64>, is: Option<u64>, bar: Option<u64>, why: &str| {
+        let (was, is, bar) = (was.unwrap(), is.unwrap(), bar.unwrap());
+        let met = if is <= bar { "met" } else { "NOT MET" };
+        print_row(name, [written(was), written(is), format!("{} ({why})", written(bar)), met.to_string()].into_iter());
+    };
+    print_row("full state", ["before", "now", "at most", ""].map(str::to_string).into_iter());
+    print_row("---", vec!["---".to_string(); 4].into_iter());
+    let formed = "well_formed";
+    row("the form judged", full(before, formed, "lent"), full(now, formed, "lent"), Some(3 * words), "3 a word");
+    let decide = "set_decided_idx";
+    let five = full(now, decide, "Rust").map(|n| 5 * n);
+    row("decide, owned", full(before, decide, "owned"), full(now, decide, "owned"), five, "5 times the Rust's");
+    let append = "append (one entry)";
+    row("append, owned", full(before, append, "owned"), full(now, append, "owned"), full(now, append, "Rust"), "the Rust's");
+    let newest = "the newest entry";
+    let ten = look(now, newest, scan).map(|n| 10 * n);
+    row("lookup of the newest entry, owned", look(before, newest, "owned"), look(now, newest, "owned"), ten, "10 times the Rust's scan");
+    for at in ["the oldest entry", "the snapshot's first key", "the snapshot alone", "nowhere"] {
+        let name = format!("lookup, {at}, owned");
+        row(&name, look(before, at, "owned"), look(now, at, "owned"), look(now, at, scan), "the Rust's scan and map");
+    }
+    println!();
+}
+
+const HEAD: &str = "# Figures
+
+`oracle/figures` measures, and writes this file. Instructions are counted on x86-64 code below qemu-user (`oracle/count.c`), and are the
+same on every machine; the turns of repeated string instructions, by which libc copies, are left out. Times are the least of 200 rounds of
+one call, the clock's own 20 to 50 ns within, where the machine is x86-64.
+
+An empty state has no key and no entry. A half one has 256 keys in its snapshot and 512 entries after it, a full one 512 and 1,024 (1,008
+where the call adds sixteen), over half of the keys; all but the last entry are decided. *Lent* is a call on a record and words that the
+caller lends, whose form is judged first; *owned* one through the crate's `Index`, which is not judged again where the boundary has an
+inner call. The *Rust* is omnipaxos's `InternalStorage` over the oracle's backend, on the same state; both are compared after each is built.
+";
+
+const SLOWER: &str = "## Where we are slower, and why
+
+- A call on lent words judges all 3,072 of them first: that is most of what a lent call costs, and why an owned state is not judged again.
+- Folding (`try_snapshot`, `create_snapshot`, a delta, `sync_log` with one) finds each key's place in the sorted words by a walk from the
+  front, and moves what follows; the Rust inserts into a tree.
+- A lookup walks the decided entries backwards and then the snapshot's keys from the front; a `BTreeMap` of everything, which nobody has to
+  keep beside a log and a snapshot, answers in a hundred instructions.
+- An operation list is judged before and after, on a copy; the oracle's backend copies everything too.
+- We are faster where the Rust builds what a reader did not ask for: a read shows a part of the log where the Rust copies entries out, and
+  a trim moves words where the Rust's backend copies the whole state.
+";
+
+/// Prints the file: the figures before the calls were made fast are kept in a file of their own.
+pub fn run(before: &str, counts: &str, times: Option<&String>) {
+    let (before, counts) = (figures(before), figures(counts));
+    println!("{HEAD}");
+    println!("## Bars of speed\n\nInstructions; before: as `oracle/before.counts` keeps them, when every call judged its state, one test a place.\n");
+    print_bars(&before, &counts);
+    println!("## Each call: instructions\n");
+    print_calls(&counts, &counts);
+    println!("## Lookup: instructions\n");
+    print_whole(&counts, &counts, "lookup", "the key is");
+    println!("## How cost grows: instructions\n");
+    print_whole(&counts, &counts, "growth", "state");
+    if let Some(times) = times {
+        let times = figures(times);
+        println!("## Each call: nanoseconds\n");
+        print_calls(&counts, &times);
+        println!("## Lookup: nanoseconds\n");
+        print_whole(&counts, &times, "lookup", "the key is");
+        println!("## How cost grows: nanoseconds\n");
+        print_whole(&counts, &times, "growth", "state");
+    }
+    print!("{SLOWER}");
+}

@@ -1,15 +1,40 @@
 // What the crates above need of forms and layouts: not for a user, whose calls are in lib.rt.
 use super::StopSign;
 ghost use mathlib.Core.Path.{_≡_};
-ghost use Prim.Native.Nat.{_*_, _≤_};
+ghost use mathlib.Core.Bool.{true};
+ghost use Prim.Native.Nat.{_*_, _≤_, _<_};
 ghost use lib.ListN.{length, drop};
 ghost use Rattle.words.specs.Words.{allZero};
-ghost use Rattle.entry.specs.Change.{formed, entriesOf, storedIn};
-ghost use Rattle.entry.specs.Limits.{width};
+ghost use Rattle.entry.specs.Change.{saidFormed, saidOf, formed, entriesOf, storedIn};
+ghost use Rattle.entry.specs.Limits.{width, places};
 ghost use Rattle.entry.specs.Sign.{signBlank};
 
-// Whether the first n entries of s are in form.
-pub fn places_formed(s: &[u64], n: usize) -> bool
+// One more than a place's word, and 0 for a removed one: below PLACES only where the place is in form.
+fn next_word(w: u64) -> u64
+    ensures { λ x. ⌜ (x < places → saidFormed (saidOf w) ≡ true) ⌝ }
+{
+    if w == super::REMOVED {
+        return 0;
+    }
+    w + 1
+}
+
+// The `or` of them all, of the first n entries.
+fn joined(s: &[u64], n: usize) -> u64
+    requires { ⌜ n * width ≤ length (now s) ⌝ }
+    ensures { λ x. ⌜ (x < places → formed (entriesOf n (now (s .entry))) ≡ true) ⌝ }
+{
+    let mut all: u64 = 0;
+    let mut i = 0;
+    while i < n {
+        let at = i * super::WIDTH + 1;
+        all = all | next_word(s[at]);
+        i += 1;
+    }
+    all
+}
+
+fn one_by_one(s: &[u64], n: usize) -> bool
     requires { ⌜ n * width ≤ length (now s) ⌝ }
     ensures { λ r. ⌜ r ≡ formed (entriesOf n (now (s .entry))) ⌝ }
 {
@@ -21,6 +46,17 @@ pub fn places_formed(s: &[u64], n: usize) -> bool
         i += 1;
     }
     ok
+}
+
+// Whether the first n entries of s are in form. The `or` tells it of nearly all that are; where it does not, each place is looked at.
+pub fn places_formed(s: &[u64], n: usize) -> bool
+    requires { ⌜ n * width ≤ length (now s) ⌝ }
+    ensures { λ r. ⌜ r ≡ formed (entriesOf n (now (s .entry))) ⌝ }
+{
+    if joined(s, n) < super::PLACES {
+        return true;
+    }
+    one_by_one(s, n)
 }
 
 // Whether s is a slice of so many words that holds n entries in form, and zeros after them.

@@ -1,0 +1,93 @@
+-- `entry::inner::joined` meets its contract: where the `or` is below 2^48 each place passed is in form, so that only the rest is asked.
+use borrow.Author.Needs.{needs}
+use Prim.Native.Nat.{ℕ, _+_, _-_, _≤_, _<_, suc}
+use mathlib.Core.Path.{_≡_, ap, _∙_}
+use mathlib.Core.Bool.{true}
+use mathlib.Core.List.{List, _∷_}
+use native.Mathlib.Omega.{arith}
+use native.Mathlib.Numerals.{add-one}
+use lib.Bits.{or-add-and, and-le-l, and-le-r}
+use lib.ListN.{length, drop, drop-of-length-le}
+use denote.Ref.{now}
+use Rattle.words.specs.All.{allOf}
+use Rattle.words.proofs.Alls.{all-cons}
+use Rattle.words.proofs.CodedLaws.{entries-length}
+use Rattle.entry.specs.Limits.{places}
+use Rattle.entry.specs.Change.{Change, changeCode, changeFormed, formed, entriesOf}
+use Rattle.entry.proofs.ChangeLaws.{changeAt, entry-cons}
+use Rattle.entry.proofs.inner.joined.Statement.{statement}
+use Rattle.entry.proofs.inner.joined.Tie as tie
+
+abbrev Inv-loop : tie.InvT-loop
+Inv-loop s n all₀ i₀ all i = (i ≤ n) × (all < places → formed (drop i (entriesOf n s)) ≡ true → formed (entriesOf n s) ≡ true)
+
+abbrev μ-loop : tie.MeasureT-loop
+μ-loop s n all₀ i₀ all i = n - i
+
+-- one place more is in form
+turn : (i : ℕ) (x : Change) (l : List Change) → drop i l ≡ x ∷ drop (suc i) l → changeFormed x ≡ true → formed (drop (i + 1) l) ≡ true → formed (drop i l) ≡ true
+turn i x l e f g = ap formed e ∙ all-cons changeFormed x (drop (suc i) l) f (rw (← add-one i) g)
+
+none-left : (l : List Change) (i : ℕ) → length l ≤ i → formed (drop i l) ≡ true
+unfolding allOf
+none-left l i h = ap formed (drop-of-length-le l {i = i} h)
+
+loop-holds : tie.Need-loop-holds Inv-loop μ-loop
+loop-holds c = (omega arith, λ h e. e)
+
+mul-at : tie.Need-mul-at Inv-loop μ-loop
+mul-at c = omega arith
+
+add-at : tie.Need-add-at Inv-loop μ-loop
+add-at c = omega arith
+
+mul-next-word : tie.Need-mul-next-word Inv-loop μ-loop
+mul-next-word c = omega arith
+
+shared-slice-read-next-word : tie.Need-shared-slice-read-next-word Inv-loop μ-loop
+shared-slice-read-next-word c = omega arith
+
+next-word-requires : tie.Need-next-word-requires Inv-loop μ-loop
+next-word-requires c κs = search needs
+
+add-i : tie.Need-add-i Inv-loop μ-loop
+add-i c = omega arith
+
+loop-less : tie.Need-loop-less Inv-loop μ-loop
+loop-less c = omega arith
+
+loop-again : tie.Need-loop-again Inv-loop μ-loop
+loop-again c =
+    let l = c .before .before .before in
+    let a = l .before .before .args in
+    let es = entriesOf (a .n) (now (a .s)) in
+    let w = c .next-word .result in (
+      omega arith,
+      λ h e. l .loop .inv .1 (omega (arith, h, or-add-and (l .loop .all) w, and-le-r (l .loop .all) w))
+          (turn (l .loop .i) (changeAt (now (a .s)) (l .loop .i)) es (entry-cons (l .loop .i) (a .n) (now (a .s)) (omega arith))
+          (c .next-word .ensures (omega (arith, h, or-add-and (l .loop .all) w, and-le-l (l .loop .all) w))) e),
+    )
+
+returns : tie.Need-returns Inv-loop μ-loop
+returns c =
+    let l = c .before in
+    let a = l .before .before .args in
+    let es = entriesOf (a .n) (now (a .s)) in
+    λ h. l .loop .inv .1 h (none-left es (l .loop .i) (omega (arith, entries-length changeCode (a .n) (now (a .s)))))
+
+pub joined-spec : {M : Type 1} → statement M
+joined-spec =
+    tie.close
+    (tie.spec
+    Inv-loop
+    μ-loop
+    loop-holds
+    mul-at
+    add-at
+    mul-next-word
+    shared-slice-read-next-word
+    next-word-requires
+    add-i
+    loop-less
+    loop-again
+    returns)

@@ -1,0 +1,26 @@
+-- `entry::inner::next_word` meets its contract: a removed place is in form, and another where it is below 2^48.
+use mathlib.Core.Path.{sym, ap, _∙_}
+use mathlib.Core.Bool.{Bool, _||_}
+use native.Mathlib.Omega.{arith}
+use borrow.Author.Tests.{eq-eqb, ne-eqb, lt-ltb}
+use lib.Dec.{ltb}
+use Rattle.entry.specs.Limits.{places, lastWord}
+use Rattle.entry.proofs.ChangeLaws.{said-formed}
+use Rattle.entry.proofs.inner.next_word.Statement.{statement}
+use Rattle.entry.proofs.inner.next_word.Tie as tie
+
+returns : tie.Need-returns
+returns c =
+    let w = c .before .args .w in
+    λ h. sym (said-formed w) ∙ ap (λ (t : Bool). t || ltb w places) (eq-eqb w lastWord (c .if1 .taken))
+
+add-result : tie.Need-add-result
+add-result c = omega arith
+
+returns-2 : tie.Need-returns-2
+returns-2 c =
+    let w = c .before .args .w in
+    λ h. sym (said-formed w) ∙ ap (λ (t : Bool). t || ltb w places) (ne-eqb w lastWord (c .if1 .left)) ∙ lt-ltb w places (omega (arith, h))
+
+pub next-word-spec : {M : Type 1} → statement M
+next-word-spec = tie.close (tie.spec returns add-result returns-2)

@@ -1,0 +1,77 @@
+-- `entry::inner::one_by_one` meets its contract: the entries passed and those that are left are together what is asked.
+use borrow.Author.Needs.{needs}
+use Prim.Native.Nat.{_+_, _-_, _≤_}
+use mathlib.Core.Path.{_≡_, refl, ap, _∙_}
+use mathlib.Core.Bool.{Bool, _&&_}
+use native.Mathlib.Omega.{arith}
+use lib.ListN.{drop}
+use denote.Ref.{now}
+use Rattle.words.proofs.Alls.{all-turn, all-end}
+use Rattle.words.proofs.CodedLaws.{entries-length}
+use Rattle.entry.specs.Change.{changeCode, changeFormed, formed, entriesOf}
+use Rattle.entry.proofs.ChangeLaws.{changeAt, entry-cons}
+use Rattle.entry.proofs.inner.one_by_one.Statement.{statement}
+use Rattle.entry.proofs.inner.one_by_one.Tie as tie
+
+abbrev Inv-loop : tie.InvT-loop
+Inv-loop s n ok₀ i₀ ok i = (i ≤ n) × ((ok && formed (drop i (entriesOf n s))) ≡ formed (entriesOf n s))
+
+abbrev μ-loop : tie.MeasureT-loop
+μ-loop s n ok₀ i₀ ok i = n - i
+
+loop-holds : tie.Need-loop-holds Inv-loop μ-loop
+loop-holds c = (omega arith, refl)
+
+mul-at : tie.Need-mul-at Inv-loop μ-loop
+mul-at c = omega arith
+
+add-at : tie.Need-add-at Inv-loop μ-loop
+add-at c = omega arith
+
+mul-place-formed : tie.Need-mul-place-formed Inv-loop μ-loop
+mul-place-formed c = omega arith
+
+shared-slice-read-place-formed : tie.Need-shared-slice-read-place-formed Inv-loop μ-loop
+shared-slice-read-place-formed c = omega arith
+
+place-formed-requires : tie.Need-place-formed-requires Inv-loop μ-loop
+place-formed-requires c κs = search needs
+
+add-i : tie.Need-add-i Inv-loop μ-loop
+add-i c = omega arith
+
+loop-less : tie.Need-loop-less Inv-loop μ-loop
+loop-less c = omega arith
+
+loop-again : tie.Need-loop-again Inv-loop μ-loop
+loop-again c =
+    let l = c .before .before .before in
+    let a = l .before .before .args in
+    let es = entriesOf (a .n) (now (a .s)) in (
+      omega arith,
+      ap (λ (t : Bool). l .loop .ok && t && formed (drop (l .loop .i + 1) es)) (c .place-formed .ensures)
+          ∙ all-turn changeFormed es (l .loop .i) (l .loop .ok) _ (l .loop .inv .1) (changeAt (now (a .s)) (l .loop .i)) (entry-cons (l .loop .i) (a .n) (now (a .s)) (omega arith)),
+    )
+
+returns : tie.Need-returns Inv-loop μ-loop
+returns c =
+    let l = c .before in
+    let a = l .before .before .args in
+    all-end changeFormed (entriesOf (a .n) (now (a .s))) (l .loop .i) (l .loop .ok) _ (l .loop .inv .1) (omega (arith, entries-length changeCode (a .n) (now (a .s))))
+
+pub one-by-one-spec : {M : Type 1} → statement M
+one-by-one-spec =
+    tie.close
+    (tie.spec
+    Inv-loop
+    μ-loop
+    loop-holds
+    mul-at
+    add-at
+    mul-place-formed
+    shared-slice-read-place-formed
+    place-formed-requires
+    add-i
+    loop-less
+    loop-again
+    returns)

@@ -11,9 +11,17 @@ fn give_up(what: &str) -> ! {
 
 /// When the newest file below a folder was written.
 fn newest(at: &Path) -> SystemTime {
-    let written = |p: &Path| fs::metadata(p).and_then(|m| m.modified()).unwrap_or(SystemTime::UNIX_EPOCH);
+    let written = |p: &Path| {
+        fs::metadata(p)
+            .and_then(|m| m.modified())
+            .unwrap_or(SystemTime::UNIX_EPOCH)
+    };
     match fs::read_dir(at) {
-        Ok(all) => all.flatten().map(|one| newest(&one.path())).max().unwrap_or(SystemTime::UNIX_EPOCH),
+        Ok(all) => all
+            .flatten()
+            .map(|one| newest(&one.path()))
+            .max()
+            .unwrap_or(SystemTime::UNIX_EPOCH),
         Err(_) => written(at),
     }
 }

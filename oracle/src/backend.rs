@@ -85,9 +85,27 @@ impl Backend {
     }
 }
 
-/// The backend that a storage is given, kept in sight.
+/// A backend that is kept in sight when a storage is given it.
+pub trait Sight: Storage<Change> + Clone {
+    /// One that holds this.
+    fn of(held: Backend) -> Self;
+
+    /// A look at what it holds.
+    fn seen<R>(&self, look: impl FnOnce(&Backend) -> R) -> R;
+}
+
 #[derive(Clone, Default)]
 pub struct Shared(pub Rc<RefCell<Backend>>);
+
+impl Sight for Shared {
+    fn of(held: Backend) -> Self {
+        Shared(Rc::new(RefCell::new(held)))
+    }
+
+    fn seen<R>(&self, look: impl FnOnce(&Backend) -> R) -> R {
+        look(&self.0.borrow())
+    }
+}
 
 impl Shared {
     fn perform(&self, op: StorageOp<Change>) -> StorageResult<()> {

@@ -1,4 +1,4 @@
-//! The differences that docs/DIFFERENCES.md lists, each on a smallest input: what the Rust does, beside what the program `calls` does.
+//! The differences that docs/DIFFERENCES.md lists, each on a smallest input: what the Rust does, beside what the port does.
 use crate::backend::{Change, Shared};
 use crate::ballot_leader_election::Ballot;
 use crate::call::{Call, Form, Kind, Part};
@@ -116,8 +116,8 @@ fn cases() -> Vec<Case> {
     ]
 }
 
-pub fn run(program: &[String]) -> Result<bool, String> {
-    let mut runner = Runner::start(program);
+pub fn run() -> Result<bool, String> {
+    let mut runner = Runner::start();
     for case in cases() {
         runner.set(&State::fresh(0));
         for call in &case.calls {

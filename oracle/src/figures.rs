@@ -1,19 +1,19 @@
 //! What each call costs, beside the Rust original on the same states: instructions, which oracle/count.c counts below an emulator, or
 //! nanoseconds, the least of many rounds.
-use crate::backend::{Backend, Change, Keys, Shared};
+use crate::backend::{Backend, Change, Keys, Shared, Sight};
 use crate::ballot_leader_election::Ballot as RustBallot;
 use crate::storage::internal_storage::{InternalStorage, InternalStorageConfig};
-use crate::storage::{Snapshot as _, StopSign as RustStop, Storage, StorageOp};
+use crate::storage::{
+    Snapshot as _, SnapshotType as RustType, StopSign as RustStop, Storage, StorageOp,
+};
 use crate::util::LogSync as RustSync;
 use crate::ClusterConfig;
 use kotuseraw::{
     plain, Ballot, BlockPlace, Entry, Index, Lent, LogIndex, LogSync, Op, Snapshot, SnapshotType,
     StopSign, View,
 };
-use std::cell::RefCell;
 use std::collections::BTreeMap;
 use std::hint::black_box;
-use std::rc::Rc;
 use std::time::Instant;
 
 /// A system call that there is not: a mark for oracle/count.c.
@@ -69,7 +69,7 @@ type Original = InternalStorage<Shared, Change>;
 fn original(held: &Backend) -> Original {
     let mut held = held.clone();
     held.log.reserve(1024);
-    let shared = Shared(Rc::new(RefCell::new(held)));
+    let shared = Shared::of(held);
     InternalStorage::with(shared, InternalStorageConfig { batch_size: 0 })
 }
 
@@ -80,6 +80,9 @@ struct Both {
     end: u64,
 }
 
+/// The states of the tables: a name, the snapshot's keys, the entries.
+const STATES: [(&str, u64, u64); 3] = [("empty", 0, 0), ("half", 256, 512), ("full", 512, 1024)];
+
 /// Keys far apart and in no order.
 fn key(i: u64) -> u64 {
     (i * 7919 % 512) * 1_000_003 + 17
@@ -88,19 +91,20 @@ fn key(i: u64) -> u64 {
 impl Both {
     /// So many keys in the snapshot, then so many entries over half of them, all decided but the last.
     fn with(keys: u64, entries: u64) -> Both {
-        let run = |n: u64, over: u64, from: u64| {
-            (0..n).map(move |i| (key(i % over.max(1)), from + i))
-        };
+        let run =
+            |n: u64, over: u64, from: u64| (0..n).map(move |i| (key(i % over.max(1)), from + i));
         let over = if keys > 0 { keys / 2 } else { 512 };
         let end = keys + entries;
         let mut index = Index::fresh(0).unwrap();
         let shared = Shared::default();
-        let mut rust = InternalStorage::with(shared.clone(), InternalStorageConfig { batch_size: 0 });
+        let mut rust =
+            InternalStorage::with(shared.clone(), InternalStorageConfig { batch_size: 0 });
         for (part, n, over) in [("keys", keys, keys), ("entries", entries, over)] {
             for (key, place) in run(n, over, 0) {
                 index.append(Entry::put(key, BlockPlace(place))).unwrap();
                 let place = Some(place);
-                rust.append_entry_with_batching(Change { key, place }).unwrap();
+                rust.append_entry_with_batching(Change { key, place })
+                    .unwrap();
             }
             if part == "keys" {
                 index.set_decided_idx(LogIndex(keys)).unwrap();
@@ -109,45 +113,71 @@ impl Both {
                 rust.try_snapshot(None).unwrap();
             }
         }
-        index.set_decided_idx(LogIndex(end.saturating_sub(1).max(keys))).unwrap();
-        rust.set_decided_idx(end.saturating_sub(1).max(keys) as usize).unwrap();
+        index
+            .set_decided_idx(LogIndex(end.saturating_sub(1).max(keys)))
+            .unwrap();
+        rust.set_decided_idx(end.saturating_sub(1).max(keys) as usize)
+            .unwrap();
         let held = shared.0.borrow().clone();
         let both = Both { index, held, end };
         both.same();
         both
     }
 
+    /// A copy of its record and words, to lend.
+    fn lent(&self) -> (plain::IndexRecord, Vec<u64>, Vec<u64>) {
+        let index = &self.index;
+        (
+            *index.record(),
+            index.log().to_vec(),
+            index.snapshot_words().to_vec(),
+        )
+    }
+
     fn same(&self) {
         let record = self.index.record();
-        let numbers = (self.held.log.len(), self.held.compacted as u64, self.held.decided as u64);
-        assert_eq!((record.retained, record.compacted.0, record.decided.0), numbers);
+        let numbers = (
+            self.held.log.len(),
+            self.held.compacted as u64,
+            self.held.decided as u64,
+        );
+        assert_eq!(
+            (record.retained, record.compacted.0, record.decided.0),
+            numbers
+        );
         let pairs = |run: &[Entry]| -> Vec<(u64, Option<u64>)> {
-            run.iter().map(|e| (e.key(), e.place().map(|p| p.0))).collect()
+            run.iter()
+                .map(|e| (e.key(), e.place().map(|p| p.0)))
+                .collect()
         };
         let entries: Vec<_> = self.held.log.iter().map(|e| (e.key, e.place)).collect();
-        assert_eq!(pairs(self.index.get_suffix(record.compacted).unwrap()), entries);
+        assert_eq!(
+            pairs(self.index.get_suffix(record.compacted).unwrap()),
+            entries
+        );
         let keys = self.held.snapshot.clone().unwrap_or_default();
-        assert_eq!(pairs(self.index.snapshot().unwrap_or(&[])), keys.0.into_iter().collect::<Vec<_>>());
+        assert_eq!(
+            pairs(self.index.snapshot().unwrap_or(&[])),
+            keys.0.into_iter().collect::<Vec<_>>()
+        );
     }
 }
 
-/// One call on the same state three ways: lent, owned, and the original's.
-macro_rules! case {
-    ($meter:ident, $both:expr, $row:expr, $state:expr, |$i:ident| $ours:expr, |$r:ident| $rust:expr) => {{
-        let both: &Both = $both;
-        let mut record = *both.index.record();
-        let (mut log, mut snapshot) = (both.index.log().to_vec(), both.index.snapshot_words().to_vec());
+/// Calls, each on the same state three ways: lent, owned, and the original's.
+macro_rules! cases {
+    ($meter:ident, $state:ident; $($row:literal on $both:ident: |$i:ident| $ours:expr, |$r:ident| $rust:expr;)*) => {$({
+        let (mut record, mut log, mut snapshot) = $both.lent();
         let mut view = View { record: &mut record, log: &mut log, snapshot: &mut snapshot };
         let $i = &mut view;
         let lent = $meter.of("call", $row, &format!("lent, {}", $state), || $ours).is_ok();
-        let mut index = both.index.clone();
+        let mut index = $both.index.clone();
         let $i = &mut index;
         let owned = $meter.of("call", $row, &format!("owned, {}", $state), || $ours).is_ok();
-        let mut rust = original(&both.held);
+        let mut rust = original(&$both.held);
         let $r = &mut rust;
         let rusts = $meter.of("call", $row, &format!("Rust, {}", $state), || $rust).is_ok();
         assert!(lent && owned && rusts, "{} on {}", $row, $state);
-    }};
+    })*};
 }
 
 fn put(i: u64) -> Entry {
@@ -155,83 +185,129 @@ fn put(i: u64) -> Entry {
 }
 
 fn change(i: u64) -> Change {
-    Change { key: i, place: Some(i) }
+    Change {
+        key: i,
+        place: Some(i),
+    }
 }
 
 /// Every call on an empty, a half and a full state.
 fn calls(meter: &mut Meter) {
-    for (state, keys, entries) in [("empty", 0, 0), ("half", 256, 512), ("full", 512, 1024)] {
+    for (state, keys, entries) in STATES {
         let both = &Both::with(keys, entries);
         // Where the call adds entries the full state has room for sixteen.
         let room = &Both::with(keys, entries.min(1008));
         let (low, end) = (LogIndex(keys), LogIndex(both.end));
         let mid = LogIndex(keys + entries / 2);
+        let (mid_at, end_at) = (mid.0 as usize, end.0 as usize);
         let sixteen: Vec<Entry> = (0..16).map(put).collect();
         let changes: Vec<Change> = (0..16).map(change).collect();
-        let ballot = Ballot { n: 1, ..Ballot::default() };
+        let (shot, made) = (Snapshot::fold(&sixteen).unwrap(), Keys::create(&changes));
+        let ballot = Ballot {
+            n: 1,
+            ..Ballot::default()
+        };
         let rust_ballot = RustBallot::with(0, 1, 0, 0);
         let sign = StopSign::new(1, &[1, 2, 3], None).unwrap();
         let rust_sign = RustStop::with(
-            ClusterConfig { configuration_id: 1, nodes: vec![1, 2, 3], flexible_quorum: None },
+            ClusterConfig {
+                configuration_id: 1,
+                nodes: vec![1, 2, 3],
+                flexible_quorum: None,
+            },
             None,
         );
-        let held = View {
-            record: &mut both.index.record().clone(),
-            log: &mut both.index.log().to_vec(),
-            snapshot: &mut both.index.snapshot_words().to_vec(),
+        let sync = LogSync {
+            sync_idx: end,
+            decided_snapshot: SnapshotType::Complete(&shot),
+            suffix: &sixteen,
+            stopsign: None,
         };
-        meter.of("call", "well_formed", &format!("lent, {state}"), || held.well_formed());
-        case!(meter, room, "append (one entry)", state, |i| i.append(put(5)), |r| r.append_entry_with_batching(change(5)));
-        case!(meter, room, "append_entries_with_batching (16)", state, |i| i.append_entries_with_batching(&sixteen), |r| r.append_entries_with_batching(changes.clone()));
-        case!(meter, room, "append_entries_and_get_accepted_idx (16)", state, |i| i.append_entries_and_get_accepted_idx(&sixteen), |r| r.append_entries_and_get_accepted_idx(changes.clone()));
-        case!(meter, room, "append_entries_without_batching (16)", state, |i| i.append_entries_without_batching(&sixteen), |r| r.append_entries_without_batching(changes.clone()));
-        case!(meter, both, "flush_batch (nothing waits)", state, |i| i.flush_batch(), |r| r.flush_batch());
-        case!(meter, both, "flush_batch_and_get_entries (nothing waits)", state, |i| i.flush_batch_and_get_entries(), |r| r.flush_batch_and_get_entries());
-        case!(meter, both, "append_stopsign", state, |i| i.append_stopsign(sign), |r| r.append_stopsign(rust_sign.clone()));
-        case!(meter, both, "set_stopsign", state, |i| i.set_stopsign(Some(sign)), |r| r.set_stopsign(Some(rust_sign.clone())));
-        case!(meter, both, "set_promise", state, |i| i.set_promise(ballot), |r| r.set_promise(rust_ballot));
-        case!(meter, both, "set_decided_idx", state, |i| i.set_decided_idx(end), |r| r.set_decided_idx(end.0 as usize));
-        case!(meter, both, "try_trim (half of the entries)", state, |i| i.try_trim(mid), |r| r.try_trim(mid.0 as usize));
-        case!(meter, both, "try_snapshot (all that is decided)", state, |i| i.try_snapshot(None), |r| r.try_snapshot(None));
-        case!(meter, both, "create_snapshot (half of the entries)", state, |i| i.create_snapshot(mid), |r| r.create_snapshot(mid.0 as usize));
-        case!(meter, both, "create_diff_snapshot (from the compacted index)", state, |i| i.create_diff_snapshot(low), |r| r.create_diff_snapshot(keys as usize));
-        case!(meter, both, "create_diff_snapshot (from half of the entries)", state, |i| i.create_diff_snapshot(mid), |r| r.create_diff_snapshot(mid.0 as usize));
-        let shot = Snapshot::fold(&sixteen).unwrap();
-        let keys_of = Keys::create(&changes);
-        case!(meter, both, "sync_log (a complete snapshot of 16 keys, 16 entries)", state,
-            |i| i.sync_log(ballot, end, Some(LogSync { sync_idx: end, decided_snapshot: SnapshotType::Complete(&shot), suffix: &sixteen, stopsign: None })),
-            |r| r.sync_log(rust_ballot, end.0 as usize, Some(RustSync { sync_idx: end.0 as usize, decided_snapshot: Some(crate::storage::SnapshotType::Complete(keys_of.clone())), suffix: changes.clone(), stopsign: None })));
-        case!(meter, both, "sync_log (no log part)", state, |i| i.sync_log(ballot, end, None), |r| r.sync_log(rust_ballot, end.0 as usize, None));
-        case!(meter, both, "read (everything)", state, |i| i.read(..), |r| r.read::<std::ops::RangeFull>(..));
-        case!(meter, both, "read_decided_suffix (from half of the entries)", state, |i| i.read_decided_suffix(mid), |r| r.read_decided_suffix(mid.0 as usize));
-        case!(meter, both, "get_entries (half of the entries)", state, |i| i.get_entries(mid, end), |r| r.get_entries(mid.0 as usize, end.0 as usize));
-        case!(meter, both, "get_suffix (half of the entries)", state, |i| i.get_suffix(mid), |r| r.get_suffix(mid.0 as usize));
-        case!(meter, both, "get_accepted_idx", state, |i| i.get_accepted_idx(), |r| Ok::<_, ()>(r.get_accepted_idx()));
-        case!(meter, both, "stopsign_is_decided", state, |i| i.stopsign_is_decided(), |r| Ok::<_, ()>(r.stopsign_is_decided()));
-        lists(meter, state, both, end, &sixteen, &changes);
+        let rust_sync = || RustSync {
+            sync_idx: end_at,
+            decided_snapshot: Some(RustType::Complete(made.clone())),
+            suffix: changes.clone(),
+            stopsign: None,
+        };
+        let (record, log, snapshot) = both.lent();
+        meter.of("call", "well_formed", &format!("lent, {state}"), || {
+            plain::well_formed(record, &log, &snapshot)
+        });
+        cases! { meter, state;
+            "append (one entry)" on room: |i| i.append(put(5)), |r| r.append_entry_with_batching(change(5));
+            "append_entries_with_batching (16)" on room:
+                |i| i.append_entries_with_batching(&sixteen), |r| r.append_entries_with_batching(changes.clone());
+            "append_entries_and_get_accepted_idx (16)" on room:
+                |i| i.append_entries_and_get_accepted_idx(&sixteen), |r| r.append_entries_and_get_accepted_idx(changes.clone());
+            "append_entries_without_batching (16)" on room:
+                |i| i.append_entries_without_batching(&sixteen), |r| r.append_entries_without_batching(changes.clone());
+            "flush_batch (nothing waits)" on both: |i| i.flush_batch(), |r| r.flush_batch();
+            "flush_batch_and_get_entries (nothing waits)" on both: |i| i.flush_batch_and_get_entries(), |r| r.flush_batch_and_get_entries();
+            "append_stopsign" on both: |i| i.append_stopsign(sign), |r| r.append_stopsign(rust_sign.clone());
+            "set_stopsign" on both: |i| i.set_stopsign(Some(sign)), |r| r.set_stopsign(Some(rust_sign.clone()));
+            "set_promise" on both: |i| i.set_promise(ballot), |r| r.set_promise(rust_ballot);
+            "set_decided_idx" on both: |i| i.set_decided_idx(end), |r| r.set_decided_idx(end_at);
+            "try_trim (half of the entries)" on both: |i| i.try_trim(mid), |r| r.try_trim(mid_at);
+            "try_snapshot (all that is decided)" on both: |i| i.try_snapshot(None), |r| r.try_snapshot(None);
+            "create_snapshot (half of the entries)" on both: |i| i.create_snapshot(mid), |r| r.create_snapshot(mid_at);
+            "create_diff_snapshot (from the compacted index)" on both:
+                |i| i.create_diff_snapshot(low), |r| r.create_diff_snapshot(keys as usize);
+            "create_diff_snapshot (from half of the entries)" on both:
+                |i| i.create_diff_snapshot(mid), |r| r.create_diff_snapshot(mid_at);
+            "sync_log (a complete snapshot of 16 keys, 16 entries)" on both:
+                |i| i.sync_log(ballot, end, Some(sync)), |r| r.sync_log(rust_ballot, end_at, Some(rust_sync()));
+            "sync_log (no log part)" on both: |i| i.sync_log(ballot, end, None), |r| r.sync_log(rust_ballot, end_at, None);
+            "read (everything)" on both: |i| i.read(..), |r| r.read::<std::ops::RangeFull>(..);
+            "read_decided_suffix (from half of the entries)" on both: |i| i.read_decided_suffix(mid), |r| r.read_decided_suffix(mid_at);
+            "get_entries (half of the entries)" on both: |i| i.get_entries(mid, end), |r| r.get_entries(mid_at, end_at);
+            "get_suffix (half of the entries)" on both: |i| i.get_suffix(mid), |r| r.get_suffix(mid_at);
+            "get_accepted_idx" on both: |i| i.get_accepted_idx(), |r| Ok::<_, ()>(r.get_accepted_idx());
+            "stopsign_is_decided" on both: |i| i.stopsign_is_decided(), |r| Ok::<_, ()>(r.stopsign_is_decided());
+        }
+        lists(meter, state, both, &sixteen, &changes);
     }
 }
 
 /// Operation lists, beside the test backend, which keeps a copy of all to go back to.
-fn lists(meter: &mut Meter, state: &str, both: &Both, end: LogIndex, sixteen: &[Entry], changes: &[Change]) {
-    let shared = || Shared(Rc::new(RefCell::new(both.held.clone())));
+fn lists(meter: &mut Meter, state: &str, both: &Both, sixteen: &[Entry], changes: &[Change]) {
     // On a full log the sixteen take the place of the last sixteen.
     let cut = (both.held.log.len() + sixteen.len()).saturating_sub(1024) as u64;
-    let at = LogIndex(end.0 - cut);
-    let lent = Lent { entries: sixteen, ..Lent::default() };
-    let at_end = StorageOp::SetDecidedIndex(end.0 as usize);
-    let on_prefix = StorageOp::AppendOnPrefix(at.0 as usize, changes.to_vec());
+    let (end, at) = (both.end, both.end - cut);
+    let lent = Lent {
+        entries: sixteen,
+        ..Lent::default()
+    };
+    let decide = StorageOp::SetDecidedIndex(end as usize);
+    let on_prefix = StorageOp::AppendOnPrefix(at as usize, changes.to_vec());
     for (row, lent, op, rust) in [
-        ("write_atomically (one decide)", Lent::default(), Op::SetDecidedIndex(end), at_end),
-        ("write_atomically (16 entries on a prefix)", lent, Op::AppendOnPrefix(at), on_prefix),
+        (
+            "write_atomically (one decide)",
+            Lent::default(),
+            Op::SetDecidedIndex(LogIndex(end)),
+            decide,
+        ),
+        (
+            "write_atomically (16 entries on a prefix)",
+            lent,
+            Op::AppendOnPrefix(LogIndex(at)),
+            on_prefix,
+        ),
     ] {
-        let mut record = *both.index.record();
-        let (mut log, mut snapshot) = (both.index.log().to_vec(), both.index.snapshot_words().to_vec());
-        let mut view = View { record: &mut record, log: &mut log, snapshot: &mut snapshot };
-        let said = meter.of("call", row, &format!("lent, {state}"), || view.write_atomically(lent, &[op]));
-        assert!(said.is_ok(), "{row} on {state}: {said:?}");
-        let mut shared = shared();
-        meter.of("call", row, &format!("Rust, {state}"), || shared.write_atomically(vec![rust])).unwrap();
+        let (mut record, mut log, mut snapshot) = both.lent();
+        let mut view = View {
+            record: &mut record,
+            log: &mut log,
+            snapshot: &mut snapshot,
+        };
+        let said = meter.of("call", row, &format!("lent, {state}"), || {
+            view.write_atomically(lent, &[op])
+        });
+        said.unwrap();
+        let mut shared = Shared::of(both.held.clone());
+        let said = meter.of("call", row, &format!("Rust, {state}"), || {
+            shared.write_atomically(vec![rust])
+        });
+        said.unwrap();
     }
 }
 
@@ -240,24 +316,29 @@ fn scan(held: &Backend, key: u64) -> Option<u64> {
     let decided = &held.log[..held.decided - held.start];
     match decided.iter().rev().find(|e| e.key == key) {
         Some(e) => e.place,
-        None => held.snapshot.as_ref().and_then(|s| s.0.get(&key).copied().flatten()),
+        None => held
+            .snapshot
+            .as_ref()
+            .and_then(|s| s.0.get(&key).copied().flatten()),
     }
 }
 
-/// A key by halves in the snapshot's words.
-fn halves(words: &[u64], keys: usize, key: u64) -> Option<u64> {
-    let pairs: Vec<&[u64]> = words.chunks_exact(2).take(keys).collect();
-    pairs.binary_search_by_key(&key, |pair| pair[0]).ok().map(|at| pairs[at][1])
-}
-
 fn lookups(meter: &mut Meter) {
-    for (state, keys, entries) in [("empty", 0u64, 0u64), ("half", 256, 512), ("full", 512, 1024)] {
+    for (state, keys, entries) in STATES {
         let both = Both::with(keys, entries);
         let mut all: BTreeMap<u64, Option<u64>> = both.held.snapshot.clone().unwrap_or_default().0;
-        all.extend(both.held.log[..both.held.decided - both.held.start].iter().map(|e| (e.key, e.place)));
-        let mut record = *both.index.record();
-        let (mut log, mut snapshot) = (both.index.log().to_vec(), both.index.snapshot_words().to_vec());
-        let view = View { record: &mut record, log: &mut log, snapshot: &mut snapshot };
+        all.extend(
+            both.held.log[..both.held.decided - both.held.start]
+                .iter()
+                .map(|e| (e.key, e.place)),
+        );
+        let sorted = both.index.snapshot().unwrap_or(&[]);
+        let (mut record, mut log, mut snapshot) = both.lent();
+        let view = View {
+            record: &mut record,
+            log: &mut log,
+            snapshot: &mut snapshot,
+        };
         let wanted = match entries {
             0 => vec![("nowhere", 3)],
             _ => vec![
@@ -272,10 +353,21 @@ fn lookups(meter: &mut Meter) {
             let row = format!("{state}: {at}");
             let k = black_box(k);
             let lent = meter.of("lookup", &row, "lent", || view.lookup(k)).unwrap();
-            let owned = meter.of("lookup", &row, "owned", || both.index.lookup(k)).unwrap();
-            let scanned = meter.of("lookup", &row, "Rust: entries backwards, then the map", || scan(&both.held, k));
-            let map = meter.of("lookup", &row, "one BTreeMap", || all.get(&k).copied().flatten());
-            meter.of("lookup", &row, "by halves, in the snapshot alone", || halves(both.index.snapshot_words(), keys as usize, k));
+            let owned = meter
+                .of("lookup", &row, "owned", || both.index.lookup(k))
+                .unwrap();
+            let scanned = meter.of(
+                "lookup",
+                &row,
+                "Rust: entries backwards, then the map",
+                || scan(&both.held, k),
+            );
+            let map = meter.of("lookup", &row, "one BTreeMap", || {
+                all.get(&k).copied().flatten()
+            });
+            meter.of("lookup", &row, "by halves, in the snapshot alone", || {
+                sorted.binary_search_by_key(&k, Entry::key).ok()
+            });
             let found = lent.map(|p| p.0);
             assert_eq!((found, found, found), (owned.map(|p| p.0), scanned, map));
         }
@@ -284,19 +376,47 @@ fn lookups(meter: &mut Meter) {
 
 /// How cost grows.
 fn growth(meter: &mut Meter) {
-    for (keys, entries) in [(0, 0), (0, 256), (0, 512), (0, 1024), (128, 0), (256, 0), (512, 0), (512, 1024)] {
+    for (keys, entries) in [
+        (0, 0),
+        (0, 256),
+        (0, 512),
+        (0, 1024),
+        (128, 0),
+        (256, 0),
+        (512, 0),
+        (512, 1024),
+    ] {
         let both = Both::with(keys, entries);
         let row = format!("{keys} keys, {entries} entries");
         let index = &both.index;
         let (record, log, snapshot) = (*index.record(), index.log(), index.snapshot_words());
-        meter.of("growth", &row, "well_formed", || plain::well_formed(record, log, snapshot));
+        meter.of("growth", &row, "well_formed", || {
+            plain::well_formed(record, log, snapshot)
+        });
         let mut i = index.clone();
-        meter.of("growth", &row, "set_decided_idx, owned", || i.set_decided_idx(LogIndex(both.end))).unwrap();
-        meter.of("growth", &row, "lookup of a last key that is nowhere, owned", || index.lookup(u64::MAX)).unwrap();
+        meter
+            .of("growth", &row, "set_decided_idx, owned", || {
+                i.set_decided_idx(LogIndex(both.end))
+            })
+            .unwrap();
+        meter
+            .of(
+                "growth",
+                &row,
+                "lookup of a last key that is nowhere, owned",
+                || index.lookup(u64::MAX),
+            )
+            .unwrap();
         let mut i = index.clone();
-        meter.of("growth", &row, "try_snapshot", || i.try_snapshot(None)).unwrap();
+        meter
+            .of("growth", &row, "try_snapshot", || i.try_snapshot(None))
+            .unwrap();
         let mut rust = original(&both.held);
-        meter.of("growth", &row, "try_snapshot, the Rust", || rust.try_snapshot(None)).unwrap();
+        meter
+            .of("growth", &row, "try_snapshot, the Rust", || {
+                rust.try_snapshot(None)
+            })
+            .unwrap();
     }
 }
 
@@ -326,7 +446,11 @@ pub fn run(words: &[String]) -> Result<bool, String> {
             }
         }
         Some("show") if words.len() > 2 => crate::shown::run(&words[1], &words[2], words.get(3)),
-        _ => return Err("usage: oracle figures count | time | show BEFORE COUNTS [TIMES]".to_string()),
+        _ => {
+            return Err(
+                "usage: oracle figures count | time | show BEFORE COUNTS [TIMES]".to_string(),
+            )
+        }
     }
     Ok(true)
 }

@@ -1,17 +1,16 @@
 //! An accepted call, asked of the Rust: its reply and its state after it beside the port's.
-use crate::backend::{Backend, Change, Keys, Shared};
+use crate::backend::{Backend, Change, Keys, Sight};
 use crate::ballot_leader_election::Ballot;
 use crate::call::{Call, Form, Kind, List, Op, OpKind, Part};
 use crate::rules::{folded, held_with, merged};
 use crate::state::{changes, entries_formed, place_formed, words, State};
 use crate::storage::internal_storage::{InternalStorage, InternalStorageConfig};
-use crate::storage::{Snapshot, SnapshotType, Storage, StorageOp};
+use crate::storage::{Snapshot, SnapshotType, StorageOp};
 use crate::util::{AcceptedMetaData, LogEntry, LogSync};
 use std::cmp::Ordering;
 use std::fmt::Debug;
 use std::ops::Bound;
 use std::panic::{catch_unwind, AssertUnwindSafe};
-use std::{cell::RefCell, rc::Rc};
 
 /// What the port shows after a call: its answer, the output area, and the state.
 pub struct Told<'a> {
@@ -30,12 +29,13 @@ pub enum Verdict {
     Differs(String),
 }
 
-pub struct Judge {
-    shared: Shared,
-    storage: InternalStorage<Shared, Change>,
+/// The Rust's storage over a backend.
+pub struct Judge<S: Sight> {
+    shared: S,
+    storage: InternalStorage<S, Change>,
 }
 
-fn storage_of(shared: &Shared, size: u64) -> InternalStorage<Shared, Change> {
+fn storage_of<S: Sight>(shared: &S, size: u64) -> InternalStorage<S, Change> {
     InternalStorage::with(
         shared.clone(),
         InternalStorageConfig {
@@ -226,10 +226,10 @@ fn operation(op: &Op, list: &List) -> StorageOp<Change> {
     }
 }
 
-impl Judge {
+impl<S: Sight> Judge<S> {
     /// The Rust in a state that the port is in.
     pub fn of(state: &State) -> Self {
-        let shared = Shared(Rc::new(RefCell::new(Backend {
+        let shared = S::of(Backend {
             start: state.compacted as usize,
             log: state.entries(),
             promise: Some(state.promise),
@@ -238,7 +238,7 @@ impl Judge {
             compacted: state.compacted as usize,
             snapshot: state.snapshot(),
             stop: state.stop_sign(),
-        })));
+        });
         let mut storage = storage_of(&shared, state.size);
         let batch = state.batch();
         if !batch.is_empty() {
@@ -251,8 +251,11 @@ impl Judge {
     /// Where the Rust's state is another than the port's. The batch's entries are not in sight: their number is, and they are compared
     /// when they are flushed.
     fn apart(&self, port: &State) -> Result<(), String> {
+        self.shared.seen(|held| self.apart_from(held, port))
+    }
+
+    fn apart_from(&self, held: &Backend, port: &State) -> Result<(), String> {
         let s = &self.storage;
-        let held = self.shared.0.borrow();
         let accepted = port.accepted() as usize;
         differ(
             "compacted",

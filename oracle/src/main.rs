@@ -1,9 +1,11 @@
 //! The Rust as the judge of the port.
 //!
 //!     oracle replay SCRIPT ANSWERS [SCRIPT ANSWERS ..]
-//!     oracle calls STEPS EVERY N SEED PROGRAM [ARGS..]
-//!     oracle differences PROGRAM [ARGS..]
-//!     oracle record FOLDER PROGRAM [ARGS..]
+//!     oracle calls STEPS EVERY N SEED
+//!     oracle stored STEPS EVERY N SEED
+//!     oracle differences
+//!     oracle record FOLDER
+//!     oracle figures count | time | show BEFORE COUNTS [TIMES]
 // The judged files hold more than is asked of them.
 #![allow(dead_code)]
 mod backend;
@@ -11,6 +13,7 @@ mod call;
 mod dice;
 mod differences;
 mod edges;
+mod figures;
 mod judge;
 mod port;
 mod random;
@@ -18,17 +21,19 @@ mod record;
 mod replay;
 mod rules;
 mod runner;
+mod sample;
 mod shims;
+mod shown;
 mod small;
 mod state;
+mod store;
 pub use shims::*;
 include!(concat!(env!("OUT_DIR"), "/judged.rs"));
 use runner::Runner;
 
 /// Small scopes up to so many steps, one boundary state in so many, and so many calls at random.
-fn calls(numbers: &[String], program: &[String]) -> Result<bool, String> {
+fn calls(mut runner: Runner, numbers: &[String]) -> Result<bool, String> {
     let number = |at: usize| numbers[at].parse::<u64>().expect("a number");
-    let mut runner = Runner::start(program);
     small::run(&mut runner, number(0))?;
     edges::run(&mut runner, number(1) as usize)?;
     random::run(&mut runner, number(2), number(3))?;
@@ -41,11 +46,13 @@ fn main() {
     let words: Vec<String> = std::env::args().skip(1).collect();
     let found = match words.first().map(String::as_str) {
         Some("replay") => Ok(replay::run(&words[1..])),
-        Some("calls") if words.len() > 5 => calls(&words[1..5], &words[5..]),
-        Some("differences") if words.len() > 1 => differences::run(&words[1..]),
-        Some("record") if words.len() > 2 => record::run(&words[1], &words[2..]),
+        Some("calls") if words.len() == 5 => calls(Runner::start(), &words[1..]),
+        Some("stored") if words.len() == 5 => calls(Runner::start_stored(), &words[1..]),
+        Some("figures") => figures::run(&words[1..]),
+        Some("differences") => differences::run(),
+        Some("record") if words.len() == 2 => record::run(&words[1]),
         _ => Err(
-            "usage: oracle replay | calls | differences | record, as src/main.rs says".to_string(),
+            "usage: oracle replay | calls | stored | differences | record | figures, as src/main.rs says".to_string(),
         ),
     };
     let same = found.unwrap_or_else(|what| {

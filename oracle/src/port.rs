@@ -1,95 +1,69 @@
-//! The proved program `calls`, asked over pipes as docs/CALLS.md says.
-use std::io::{BufRead, BufReader, BufWriter, Write};
-use std::process::{Child, ChildStdin, ChildStdout, Command, Stdio};
-
-/// What lines 2, 3 and 5 have set that no call changes: words of areas 2 and 3, how much of each area is lent, the stop-sign that is
-/// lent.
-struct Set {
-    words: [[u64; 2048]; 2],
-    lent: [u64; 5],
-    sign: [u64; 43],
-}
-
-impl Set {
-    fn put(to: &mut [u64], from: &[u64]) -> bool {
-        let changes = to != from;
-        to.copy_from_slice(from);
-        changes
-    }
-
-    /// Whether a line has to be asked: not where it sets what is set already.
-    fn changes(&mut self, line: &[u64]) -> bool {
-        match line {
-            [2, area @ (2 | 3), at, words @ ..] => {
-                let at = *at as usize;
-                Set::put(
-                    &mut self.words[*area as usize - 2][at..at + words.len()],
-                    words,
-                )
-            }
-            [3, area, n] => Set::put(&mut self.lent[*area as usize..][..1], &[*n]),
-            [5, field, v] => Set::put(&mut self.sign[*field as usize..][..1], &[*v]),
-            _ => true,
-        }
-    }
-}
+//! The proved library in this process, asked by the lines of docs/CALLS.md.
+use crate::state::{used, Sign, State};
+use calls::{text, Calls};
 
 pub struct Port {
-    _child: Child,
-    to: BufWriter<ChildStdin>,
-    from: BufReader<ChildStdout>,
-    set: Set,
+    calls: Calls,
     /// What was asked and answered, where that is kept.
     pub record: Option<(String, String)>,
 }
 
 impl Port {
-    pub fn start(command: &[String]) -> Self {
-        let mut child = Command::new(&command[0])
-            .args(&command[1..])
-            .stdin(Stdio::piped())
-            .stdout(Stdio::piped())
-            .spawn()
-            .expect("the program `calls` does not start");
-        let to = BufWriter::new(child.stdin.take().unwrap());
-        let from = BufReader::new(child.stdout.take().unwrap());
+    pub fn start() -> Self {
         Port {
-            _child: child,
-            to,
-            from,
-            set: Set {
-                words: [[0; 2048]; 2],
-                lent: [2048, 1024, 2048, 1024, 1024],
-                sign: [0; 43],
-            },
+            calls: Calls::default(),
             record: None,
         }
     }
 
-    /// The answer to each line that is asked. None where one is a bad line, or where the program has ended.
-    pub fn ask(&mut self, mut lines: Vec<Vec<u64>>) -> Option<Vec<Vec<u64>>> {
-        lines.retain(|line| self.set.changes(line));
-        for line in &lines {
-            let words: Vec<String> = line.iter().map(u64::to_string).collect();
-            let text = words.join(" ");
-            if let Some((asked, _)) = &mut self.record {
-                asked.push_str(&text);
-                asked.push('\n');
+    /// Whether a line belongs in a record: not where it sets what is set already, and no call changes it.
+    fn tells(&self, line: &[u64]) -> bool {
+        match line {
+            [2, area @ (2 | 3), at, words @ ..] => {
+                self.calls.area(*area as usize)[*at as usize..][..words.len()] != *words
             }
-            writeln!(self.to, "{text}").ok()?;
+            [3, area, n] => self.calls.lent()[*area as usize] as u64 != *n,
+            [5, field, v] => Sign::of_plain(self.calls.sign()).fields()[*field as usize] != *v,
+            _ => true,
         }
-        self.to.flush().ok()?;
-        lines.iter().map(|_| self.answer()).collect()
     }
 
-    fn answer(&mut self) -> Option<Vec<u64>> {
-        let mut text = String::new();
-        self.from.read_line(&mut text).ok()?;
-        if let Some((_, answered)) = &mut self.record {
-            answered.push_str(&text);
+    fn answer(&mut self, line: &[u64]) -> Option<Vec<u64>> {
+        let tells = self.record.is_some() && self.tells(line);
+        let answer = self.calls.answer(line);
+        if let Some((asked, answered)) = self.record.as_mut().filter(|_| tells) {
+            asked.push_str(&text::line(Some(line)));
+            asked.push('\n');
+            answered.push_str(&text::line(answer.as_deref()));
+            answered.push('\n');
         }
-        let numbers: Option<Vec<u64>> = text.split_whitespace().map(|w| w.parse().ok()).collect();
-        numbers.filter(|numbers| !numbers.is_empty())
+        answer
+    }
+
+    /// The answer to the last of the lines. None where one is a bad line.
+    pub fn ask(&mut self, lines: &[Vec<u64>]) -> Option<Vec<u64>> {
+        let mut last = vec![];
+        for line in lines {
+            last = self.answer(line)?;
+        }
+        Some(last)
+    }
+
+    /// The state that it is in; a record has the line that shows it.
+    pub fn state(&mut self) -> State {
+        if self.record.is_some() {
+            self.answer(&[0]);
+        }
+        let held = &self.calls;
+        State::of(held.record(), held.area(0), held.area(1), held.lent())
+    }
+
+    /// The words of the output area without the zeros at their end; a record has the line that shows them.
+    pub fn output(&mut self) -> Vec<u64> {
+        if self.record.is_some() {
+            self.answer(&[1, 4]);
+        }
+        used(self.calls.area(4)).to_vec()
     }
 }
 

@@ -1,11 +1,13 @@
-//! The port and the Rust side by side: each call is asked of the program; its refusal is held to document 01's rules, and where it is
+//! The port and the Rust side by side: each call is asked of the port; its refusal is held to document 01's rules, and where it is
 //! not refused its reply and the whole state after it are held to the Rust's.
+use crate::backend::Shared;
 use crate::call::Call;
 use crate::judge::{Judge, Told, Verdict};
 use crate::port::Port;
-use crate::record::Sample;
 use crate::rules;
+use crate::sample::Sample;
 use crate::state::State;
+use crate::store::Stored;
 use std::collections::BTreeMap;
 
 #[derive(Default)]
@@ -93,54 +95,60 @@ pub struct Runner {
     pub answer: Vec<u64>,
     output: Vec<u64>,
     /// The Rust in the same state, where that is well formed.
-    judge: Judge,
+    judge: Judge<Shared>,
+    /// The Rust over the proved library in place of our backend, where it is asked too.
+    stored: Option<Judge<Stored>>,
     /// The state that was set last, and the calls since.
     from: State,
     path: Vec<Call>,
 }
 
 impl Runner {
-    pub fn start(command: &[String]) -> Self {
+    pub fn start() -> Self {
         let fresh = State::fresh(0);
         Runner {
-            port: Port::start(command),
+            port: Port::start(),
             report: Report::default(),
             sample: None,
             answer: vec![],
             output: vec![],
             judge: Judge::of(&fresh),
+            stored: None,
             from: fresh.clone(),
             state: fresh,
             path: vec![],
         }
     }
 
+    /// One that asks the Rust over the proved library too.
+    pub fn start_stored() -> Self {
+        let mut runner = Runner::start();
+        runner.stored = Some(Judge::of(&runner.state));
+        runner
+    }
+
     /// Brings both into a state.
     pub fn set(&mut self, state: &State) {
-        let mut lines = state.lines_from(&self.state);
-        lines.push(vec![0]);
-        let answers = self.port.ask(lines).expect("lines that set");
-        let shown = State::read(answers.last().unwrap(), state.lent);
+        let lines = state.lines_from(&self.state);
+        self.port.ask(&lines).expect("lines that set");
+        let shown = self.port.state();
         assert_eq!(shown, *state, "a state that is set is shown");
         self.stand(shown);
     }
 
     /// Changes the port's state by lines that set.
     pub fn poke(&mut self, line: Vec<u64>) {
-        let mut lent = self.state.lent;
-        if line[0] == 3 {
-            lent[line[1] as usize] = line[2] as usize;
-        }
-        let answers = self
-            .port
-            .ask(vec![line, vec![0]])
-            .expect("a line that sets");
-        self.stand(State::read(answers.last().unwrap(), lent));
+        self.port.ask(&[line]).expect("a line that sets");
+        let state = self.port.state();
+        self.stand(state);
     }
 
     fn stand(&mut self, state: State) {
         if state.well_formed() {
             self.judge = Judge::of(&state);
+            if let Some(stored) = &mut self.stored {
+                *stored = Judge::of(&state);
+            }
         }
         self.from = state.clone();
         self.state = state;
@@ -149,25 +157,20 @@ impl Runner {
 
     /// The answer, the state and the output after it.
     fn ask(&mut self, call: &Call) -> Option<(Vec<u64>, State, Vec<u64>)> {
-        let mut lines = call.lines();
-        lines.push(vec![0]);
-        if call.writes() {
-            lines.push(vec![1, 4]);
-        }
-        let mut answers = self.port.ask(lines)?;
+        let answer = self.port.ask(&call.lines())?;
+        let after = self.port.state();
         let output = match call.writes() {
-            true => answers.pop()?[1..].to_vec(),
+            true => self.port.output(),
             false => self.output.clone(),
         };
-        let after = State::read(&answers.pop()?, self.state.lent);
-        Some((answers.pop()?, after, output))
+        Some((answer, after, output))
     }
 
     /// One call. Whether the port accepts it, or the difference found, with the calls that led there.
     pub fn turn(&mut self, call: &Call) -> Result<bool, String> {
         self.path.push(call.clone());
         let Some((answer, after, output)) = self.ask(call) else {
-            return Err(self.difference("a bad line, or the program has ended"));
+            return Err(self.difference("a bad line"));
         };
         let due = rules::refusal(&self.state, call);
         let refused = match answer[..] {
@@ -200,6 +203,11 @@ impl Runner {
             out: &output,
             after: &after,
         };
+        if let Some(stored) = &mut self.stored {
+            if let Verdict::Differs(what) = stored.judge(call, &self.state, &told) {
+                return Err(self.difference(&format!("over the library, {what}")));
+            }
+        }
         match self.judge.judge(call, &self.state, &told) {
             Verdict::Same => self.report.same += 1,
             Verdict::Ours => self.report.ours += 1,

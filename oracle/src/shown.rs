@@ -58,12 +58,19 @@ fn print_row(first: &str, cells: impl Iterator<Item = String>) {
 }
 
 /// A table with the rows and columns of `order`, numbers from `figures`.
-fn print_table(order: &[Figure], figures: &[Figure], table: &str, corner: &str, columns: &[&String]) {
+fn print_table(
+    order: &[Figure],
+    figures: &[Figure],
+    table: &str,
+    corner: &str,
+    columns: &[&String],
+) {
     print_row(corner, columns.iter().map(|c| c.to_string()));
     print_row("---", columns.iter().map(|_| "---".to_string()));
     let of_table = || order.iter().filter(|f| f.table == table);
     for row in distinct(of_table().map(|f| &f.row)) {
-        let cell = |column: &&String| number(figures, table, row, column).map_or("–".to_string(), written);
+        let cell =
+            |column: &&String| number(figures, table, row, column).map_or("–".to_string(), written);
         print_row(row, columns.iter().map(cell));
     }
     println!();
@@ -80,35 +87,92 @@ fn print_calls(order: &[Figure], figures: &[Figure]) {
         .iter()
         .flat_map(|way| ["empty", "half", "full"].map(|state| format!("{way}, {state}")))
         .collect();
-    print_table(order, figures, "call", "call", &columns.iter().collect::<Vec<_>>());
+    print_table(
+        order,
+        figures,
+        "call",
+        "call",
+        &columns.iter().collect::<Vec<_>>(),
+    );
 }
 
 /// A bar: a figure, with what it may cost at most.
 fn print_bars(before: &[Figure], now: &[Figure]) {
     let full = |figures: &[Figure], row, way| number(figures, "call", row, &format!("{way}, full"));
-    let look = |figures: &[Figure], row: &str, way| number(figures, "lookup", &format!("full: {row}"), way);
+    let look = |figures: &[Figure], row: &str, way| {
+        number(figures, "lookup", &format!("full: {row}"), way)
+    };
     let scan = "Rust: entries backwards, then the map";
     let words = 2048 + 1024;
     let row = |name: &str, was: Option<u64>, is: Option<u64>, bar: Option<u64>, why: &str| {
         let (was, is, bar) = (was.unwrap(), is.unwrap(), bar.unwrap());
         let met = if is <= bar { "met" } else { "NOT MET" };
-        print_row(name, [written(was), written(is), format!("{} ({why})", written(bar)), met.to_string()].into_iter());
+        print_row(
+            name,
+            [
+                written(was),
+                written(is),
+                format!("{} ({why})", written(bar)),
+                met.to_string(),
+            ]
+            .into_iter(),
+        );
     };
-    print_row("full state", ["before", "now", "at most", ""].map(str::to_string).into_iter());
+    print_row(
+        "full state",
+        ["before", "now", "at most", ""]
+            .map(str::to_string)
+            .into_iter(),
+    );
     print_row("---", vec!["---".to_string(); 4].into_iter());
     let formed = "well_formed";
-    row("the form judged", full(before, formed, "lent"), full(now, formed, "lent"), Some(3 * words), "3 a word");
+    row(
+        "the form judged",
+        full(before, formed, "lent"),
+        full(now, formed, "lent"),
+        Some(3 * words),
+        "3 a word",
+    );
     let decide = "set_decided_idx";
     let five = full(now, decide, "Rust").map(|n| 5 * n);
-    row("decide, owned", full(before, decide, "owned"), full(now, decide, "owned"), five, "5 times the Rust's");
+    row(
+        "decide, owned",
+        full(before, decide, "owned"),
+        full(now, decide, "owned"),
+        five,
+        "5 times the Rust's",
+    );
     let append = "append (one entry)";
-    row("append, owned", full(before, append, "owned"), full(now, append, "owned"), full(now, append, "Rust"), "the Rust's");
+    row(
+        "append, owned",
+        full(before, append, "owned"),
+        full(now, append, "owned"),
+        full(now, append, "Rust"),
+        "the Rust's",
+    );
     let newest = "the newest entry";
     let ten = look(now, newest, scan).map(|n| 10 * n);
-    row("lookup of the newest entry, owned", look(before, newest, "owned"), look(now, newest, "owned"), ten, "10 times the Rust's scan");
-    for at in ["the oldest entry", "the snapshot's first key", "the snapshot alone", "nowhere"] {
+    row(
+        "lookup of the newest entry, owned",
+        look(before, newest, "owned"),
+        look(now, newest, "owned"),
+        ten,
+        "10 times the Rust's scan",
+    );
+    for at in [
+        "the oldest entry",
+        "the snapshot's first key",
+        "the snapshot alone",
+        "nowhere",
+    ] {
         let name = format!("lookup, {at}, owned");
-        row(&name, look(before, at, "owned"), look(now, at, "owned"), look(now, at, scan), "the Rust's scan and map");
+        row(
+            &name,
+            look(before, at, "owned"),
+            look(now, at, "owned"),
+            look(now, at, scan),
+            "the Rust's scan and map",
+        );
     }
     println!();
 }

@@ -1,9 +1,10 @@
-//! A state as the program `calls` shows it, well formed or not, and what document 01 says of it.
+//! A state as the port shows it, well formed or not, and what document 01 says of it.
 use crate::backend::{Change, Keys};
 use crate::ballot_leader_election::Ballot;
 use crate::port::put;
 use crate::storage::StopSign;
 use crate::ClusterConfig;
+use kotuseraw::plain::{self, IndexRecord};
 
 pub const REMOVED: u64 = u64::MAX;
 pub const PLACES: u64 = 1 << 48;
@@ -102,6 +103,17 @@ impl Sign {
         sign
     }
 
+    pub fn of_plain(sign: &plain::StopSign) -> Self {
+        Sign {
+            config: sign.config_id,
+            node_count: sign.node_count as u64,
+            nodes: sign.nodes,
+            metadata_held: sign.metadata_held,
+            metadata_len: sign.metadata_len as u64,
+            metadata: sign.metadata,
+        }
+    }
+
     pub fn formed(&self) -> bool {
         (1..=7).contains(&self.node_count)
             && self.metadata_len <= 32
@@ -144,7 +156,7 @@ impl Sign {
     }
 }
 
-/// The record and the words of log and snapshot, as line 0 shows them: without the zeros at the end. `lent` says how many words of each
+/// The record and the words of log and snapshot, without the zeros at their end. `lent` says how many words of each
 /// are lent.
 #[derive(Clone, Debug, PartialEq)]
 pub struct State {
@@ -165,11 +177,18 @@ pub struct State {
 }
 
 /// Words without the zeros at their end.
+pub fn used(words: &[u64]) -> &[u64] {
+    let last = words.iter().rposition(|w| *w != 0);
+    &words[..last.map_or(0, |last| last + 1)]
+}
+
 pub fn trimmed(mut words: Vec<u64>) -> Vec<u64> {
-    while words.last() == Some(&0) {
-        words.pop();
-    }
+    words.truncate(used(&words).len());
     words
+}
+
+fn ballot_of(b: &plain::Ballot) -> Ballot {
+    Ballot::with(b.config_id, b.n, b.priority, b.pid)
 }
 
 /// The lines that make an area's words these, from others.
@@ -225,50 +244,23 @@ impl State {
         self
     }
 
-    /// What line 0 answers.
-    pub fn read(answer: &[u64], lent: [usize; 2]) -> Self {
-        let mut at = answer.iter().copied();
-        let mut next = || at.next().expect("a state is cut off");
-        let (size, retained, batched, compacted, decided) =
-            (next(), next(), next(), next(), next());
-        let mut ballot = || Ballot::with(next() as u32, next() as u32, next() as u32, next());
-        let (promise, round) = (ballot(), ballot());
-        let (snapshot_held, keys, stop_held) = (next() == 1, next(), next() == 1);
-        let area = |next: &mut dyn FnMut() -> u64| -> Vec<u64> {
-            let n = next();
-            (0..n).map(|_| next()).collect()
-        };
-        let mut stop = Sign {
-            config: next() as u32,
-            node_count: next(),
-            ..Sign::default()
-        };
-        for (to, from) in stop.nodes.iter_mut().zip(area(&mut next)) {
-            *to = from;
-        }
-        stop.metadata_held = next() == 1;
-        stop.metadata_len = next();
-        for (to, from) in stop.metadata.iter_mut().zip(area(&mut next)) {
-            *to = from as u8;
-        }
-        let log = area(&mut next);
-        let shot = area(&mut next);
-        assert!(at.next().is_none(), "a state is followed by more");
+    /// A record with the areas of log and snapshot, and how many words of each area are lent.
+    pub fn of(record: &IndexRecord, log: &[u64], shot: &[u64], lent: [usize; 5]) -> Self {
         State {
-            size,
-            retained,
-            batched,
-            compacted,
-            decided,
-            promise,
-            round,
-            snapshot_held,
-            keys,
-            stop_held,
-            stop,
-            log,
-            shot,
-            lent,
+            size: record.batch_size,
+            retained: record.retained as u64,
+            batched: record.batched as u64,
+            compacted: record.compacted.0,
+            decided: record.decided.0,
+            promise: ballot_of(&record.promise),
+            round: ballot_of(&record.accepted_round),
+            snapshot_held: record.snapshot_held,
+            keys: record.keys as u64,
+            stop_held: record.stop_held,
+            stop: Sign::of_plain(&record.stop),
+            log: used(log).to_vec(),
+            shot: used(shot).to_vec(),
+            lent: [lent[0], lent[1]],
         }
     }
 
@@ -289,7 +281,7 @@ impl State {
         fields
     }
 
-    /// The lines that bring the program into this state from another.
+    /// The lines that bring the port into this state from another.
     pub fn lines_from(&self, now: &State) -> Vec<Vec<u64>> {
         let mut lines: Vec<Vec<u64>> = (0..)
             .zip(self.fields().into_iter().zip(now.fields()))

@@ -1,6 +1,6 @@
 //! omnipaxos's `Storage` over the proved library: with it a consensus over that trait, version three's among them, keeps its log in an
 //! [`Index`] untouched. Every write is one operation list, done whole or not at all; what the library refuses comes back as the error.
-use crate::backend::{Backend, Change, Keys};
+use crate::backend::{Backend, Change, Keys, Sight};
 use crate::ballot_leader_election::Ballot;
 use crate::storage::{StopSign, Storage, StorageOp, StorageResult};
 use crate::ClusterConfig;
@@ -19,11 +19,13 @@ struct Brought {
     stopsign: Option<kotuseraw::StopSign>,
 }
 
-fn once<T>(at: &mut Option<T>, value: T) -> StorageResult<()> {
-    match at.replace(value) {
-        None => Ok(()),
-        Some(_) => Err("an operation list brings the same kind of thing twice")?,
+/// Keeps it: a second one of its kind must be the same.
+fn bring<T: PartialEq>(at: &mut Option<T>, value: T) -> StorageResult<()> {
+    if at.as_ref().is_some_and(|held| *held != value) {
+        Err("an operation list brings two different things of a kind")?
     }
+    *at = Some(value);
+    Ok(())
 }
 
 fn entry(change: &Change) -> Entry {
@@ -59,16 +61,21 @@ fn at(index: usize) -> LogIndex {
 
 impl Brought {
     fn entries(&mut self, run: &[Change]) -> StorageResult<()> {
-        once(&mut self.entries, run.iter().map(entry).collect())
+        bring(&mut self.entries, run.iter().map(entry).collect())
     }
 
     fn snapshot(&mut self, keys: &Keys) -> StorageResult<()> {
         let run: Vec<Entry> = keys
             .0
             .iter()
-            .map(|(key, place)| entry(&Change { key: *key, place: *place }))
+            .map(|(key, place)| {
+                entry(&Change {
+                    key: *key,
+                    place: *place,
+                })
+            })
             .collect();
-        once(&mut self.snapshot, Snapshot::fold(&run)?)
+        bring(&mut self.snapshot, Snapshot::fold(&run)?)
     }
 
     fn stopsign(&mut self, sign: &StopSign) -> StorageResult<()> {
@@ -78,7 +85,10 @@ impl Brought {
             &config.nodes,
             sign.metadata.as_deref(),
         );
-        once(&mut self.stopsign, made.ok_or("a stop-sign that is too large")?)
+        bring(
+            &mut self.stopsign,
+            made.ok_or("a stop-sign that is too large")?,
+        )
     }
 
     fn op(&mut self, op: StorageOp<Change>) -> StorageResult<Op> {
@@ -115,8 +125,44 @@ impl Brought {
 }
 
 impl Stored {
-    fn changes(&self, run: impl FnOnce(&Index) -> Result<&[Entry], kotuseraw::Refusal>) -> StorageResult<Vec<Change>> {
+    fn changes(
+        &self,
+        run: impl FnOnce(&Index) -> Result<&[Entry], kotuseraw::Refusal>,
+    ) -> StorageResult<Vec<Change>> {
         Ok(run(&self.0.borrow())?.iter().map(change).collect())
+    }
+}
+
+impl Sight for Stored {
+    fn of(held: Backend) -> Self {
+        let mut stored = Stored(Rc::new(RefCell::new(Index::fresh(0).unwrap())));
+        let list = vec![
+            StorageOp::Trim(held.start),
+            StorageOp::SetCompactedIdx(held.compacted),
+            StorageOp::AppendEntries(held.log),
+            StorageOp::SetSnapshot(held.snapshot),
+            StorageOp::SetStopsign(held.stop),
+            StorageOp::SetDecidedIndex(held.decided),
+            StorageOp::SetPromise(held.promise.unwrap_or_default()),
+            StorageOp::SetAcceptedRound(held.round.unwrap_or_default()),
+        ];
+        stored.write_atomically(list).expect("a well-formed state");
+        stored
+    }
+
+    fn seen<R>(&self, look: impl FnOnce(&Backend) -> R) -> R {
+        let known = "a getter of the library";
+        let compacted = self.get_compacted_idx().expect(known);
+        look(&Backend {
+            start: compacted,
+            log: self.get_suffix(compacted).expect(known),
+            promise: self.get_promise().expect(known),
+            round: self.get_accepted_round().expect(known),
+            decided: self.get_decided_idx().expect(known),
+            compacted,
+            snapshot: self.get_snapshot().expect(known),
+            stop: self.get_stopsign().expect(known),
+        })
     }
 }
 

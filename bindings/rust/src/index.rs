@@ -1,6 +1,8 @@
 //! The log with its snapshot: one that a program owns, and one that it lends.
 use crate::entry::{entries, words, Entry};
-use crate::plain::{self, Ballot, BlockPlace, IndexRecord, LogIndex, Reply, Said, ShownSaid, StopSign};
+use crate::plain::{
+    self, Ballot, BlockPlace, IndexRecord, LogIndex, Reply, Said, ShownSaid, StopSign,
+};
 use crate::requests::{bound, Appended, Diff, Lent, LogSync, Marker, Op, Run};
 use crate::snapshot::{Snapshot, SNAPSHOT_WORDS};
 use crate::{ready, Refusal};
@@ -79,7 +81,12 @@ fn part(log: &[u64], first: usize, count: usize) -> &[Entry] {
     &entries(log)[first..first + count]
 }
 
-fn run<'a>(record: &'a IndexRecord, log: &'a [u64], snapshot: &'a [u64], shown: ShownSaid) -> Option<Run<'a>> {
+fn run<'a>(
+    record: &'a IndexRecord,
+    log: &'a [u64],
+    snapshot: &'a [u64],
+    shown: ShownSaid,
+) -> Option<Run<'a>> {
     let index = LogIndex(shown.index);
     let marker = match shown.marker {
         0 => Marker::None,
@@ -128,28 +135,56 @@ macro_rules! calls {
         pub fn append(&mut self, entry: Entry) -> Result<Appended, Refusal> {
             let (record, log, snapshot) = self.parts_mut();
             let place = entry.place();
-            let reply = $call!(append_entry_with_batching(*record, log, snapshot, entry.key(), place.is_none(), place.unwrap_or_default()));
+            let reply = $call!(append_entry_with_batching(
+                *record,
+                log,
+                snapshot,
+                entry.key(),
+                place.is_none(),
+                place.unwrap_or_default()
+            ));
             kept(record, reply).map(appended)
         }
 
         /// Appends entries, through the batch.
         pub fn append_entries_with_batching(&mut self, run: &[Entry]) -> Result<Appended, Refusal> {
             let (record, log, snapshot) = self.parts_mut();
-            let reply = $call!(append_entries_with_batching(*record, log, snapshot, words(run)));
+            let reply = $call!(append_entries_with_batching(
+                *record,
+                log,
+                snapshot,
+                words(run)
+            ));
             kept(record, reply).map(appended)
         }
 
         /// The same, telling the accepted index alone where the batch was flushed.
-        pub fn append_entries_and_get_accepted_idx(&mut self, run: &[Entry]) -> Result<Option<LogIndex>, Refusal> {
+        pub fn append_entries_and_get_accepted_idx(
+            &mut self,
+            run: &[Entry],
+        ) -> Result<Option<LogIndex>, Refusal> {
             let (record, log, snapshot) = self.parts_mut();
-            let reply = $call!(append_entries_and_get_accepted_idx(*record, log, snapshot, words(run)));
+            let reply = $call!(append_entries_and_get_accepted_idx(
+                *record,
+                log,
+                snapshot,
+                words(run)
+            ));
             kept(record, reply).map(|said| (said.told == 1).then_some(LogIndex(said.first)))
         }
 
         /// Appends entries at once, before those that wait. Tells the accepted index.
-        pub fn append_entries_without_batching(&mut self, run: &[Entry]) -> Result<LogIndex, Refusal> {
+        pub fn append_entries_without_batching(
+            &mut self,
+            run: &[Entry],
+        ) -> Result<LogIndex, Refusal> {
             let (record, log, snapshot) = self.parts_mut();
-            let reply = $call!(append_entries_without_batching(*record, log, snapshot, words(run)));
+            let reply = $call!(append_entries_without_batching(
+                *record,
+                log,
+                snapshot,
+                words(run)
+            ));
             kept(record, reply).map(|said| LogIndex(said.first))
         }
 
@@ -177,7 +212,13 @@ macro_rules! calls {
         /// Sets the stop-sign, or takes it away. Tells the accepted index.
         pub fn set_stopsign(&mut self, ss: Option<StopSign>) -> Result<LogIndex, Refusal> {
             let (record, log, snapshot) = self.parts_mut();
-            let reply = $call!(set_stopsign(*record, log, snapshot, ss.is_some(), ss.unwrap_or_default()));
+            let reply = $call!(set_stopsign(
+                *record,
+                log,
+                snapshot,
+                ss.is_some(),
+                ss.unwrap_or_default()
+            ));
             kept(record, reply).map(|said| LogIndex(said.first))
         }
 
@@ -205,7 +246,13 @@ macro_rules! calls {
         /// Folds the decided entries below an index, or all of them, into the snapshot.
         pub fn try_snapshot(&mut self, upto: Option<LogIndex>) -> Result<(), Refusal> {
             let (record, log, snapshot) = self.parts_mut();
-            let reply = plain::try_snapshot(*record, log, snapshot, upto.is_some(), upto.unwrap_or_default());
+            let reply = plain::try_snapshot(
+                *record,
+                log,
+                snapshot,
+                upto.is_some(),
+                upto.unwrap_or_default(),
+            );
             kept(record, reply).map(drop)
         }
 
@@ -217,12 +264,28 @@ macro_rules! calls {
         }
 
         /// Takes over what another log has. Tells the accepted index.
-        pub fn sync_log(&mut self, accepted_round: Ballot, decided_idx: LogIndex, log_sync: Option<LogSync<'_>>) -> Result<LogIndex, Refusal> {
+        pub fn sync_log(
+            &mut self,
+            accepted_round: Ballot,
+            decided_idx: LogIndex,
+            log_sync: Option<LogSync<'_>>,
+        ) -> Result<LogIndex, Refusal> {
             let (record, log, snapshot) = self.parts_mut();
             let none = Snapshot::default();
-            let (part, incoming) = log_sync.map_or((Default::default(), none.words()), |sync| sync.plain(&none));
+            let (part, incoming) =
+                log_sync.map_or((Default::default(), none.words()), |sync| sync.plain(&none));
             let suffix = words(log_sync.map_or(&[], |sync| sync.suffix));
-            let reply = plain::sync_log(*record, log, snapshot, accepted_round, decided_idx, log_sync.is_some(), part, incoming, suffix);
+            let reply = plain::sync_log(
+                *record,
+                log,
+                snapshot,
+                accepted_round,
+                decided_idx,
+                log_sync.is_some(),
+                part,
+                incoming,
+                suffix,
+            );
             kept(record, reply).map(|said| LogIndex(said.first))
         }
 
@@ -240,7 +303,15 @@ macro_rules! calls {
             let (record, log, snapshot) = self.parts_mut();
             let none = Snapshot::default();
             let incoming = lent.snapshot.unwrap_or(&none).words();
-            let reply = plain::write_list(*record, log, snapshot, words(lent.entries), incoming, lent.plain(), Op::list(ops));
+            let reply = plain::write_list(
+                *record,
+                log,
+                snapshot,
+                words(lent.entries),
+                incoming,
+                lent.plain(),
+                Op::list(ops),
+            );
             kept(record, reply).map(drop)
         }
 
@@ -303,7 +374,8 @@ macro_rules! calls {
         /// The decided index without the stop-sign.
         pub fn get_decided_idx_without_stopsign(&self) -> Result<LogIndex, Refusal> {
             let (record, log, snapshot) = self.parts();
-            let said = $call!(get_decided_idx_without_stopsign(*record, log, snapshot)).accepted()?;
+            let said =
+                $call!(get_decided_idx_without_stopsign(*record, log, snapshot)).accepted()?;
             Ok(LogIndex(said.first))
         }
 
@@ -317,13 +389,16 @@ macro_rules! calls {
         /// The snapshot that a snapshot up to this index would hold.
         pub fn create_snapshot(&self, idx: LogIndex) -> Result<Snapshot, Refusal> {
             let (record, log, snapshot) = self.parts();
-            Snapshot::written(|out| plain::create_snapshot(*record, log, snapshot, idx, out)).map(|(made, _)| made)
+            Snapshot::written(|out| plain::create_snapshot(*record, log, snapshot, idx, out))
+                .map(|(made, _)| made)
         }
 
         /// What brings a follower that has decided up to an index to log-decided, which it tells.
         pub fn create_diff_snapshot(&self, from: LogIndex) -> Result<(Diff, LogIndex), Refusal> {
             let (record, log, snapshot) = self.parts();
-            let (made, said) = Snapshot::written(|out| plain::create_diff_snapshot(*record, log, snapshot, from, out))?;
+            let (made, said) = Snapshot::written(|out| {
+                plain::create_diff_snapshot(*record, log, snapshot, from, out)
+            })?;
             let diff = match said.told {
                 1 => Diff::Plain,
                 2 => Diff::Complete(made),
@@ -387,7 +462,9 @@ impl Index {
 
     /// Its snapshot's keys, ascending; None where it holds none.
     pub fn snapshot(&self) -> Option<&[Entry]> {
-        self.record.snapshot_held.then(|| part(&self.snapshot[..], 0, self.record.keys))
+        self.record
+            .snapshot_held
+            .then(|| part(&self.snapshot[..], 0, self.record.keys))
     }
 
     fn parts(&self) -> (&IndexRecord, &[u64], &[u64]) {

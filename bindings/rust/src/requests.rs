@@ -62,7 +62,10 @@ pub enum Marker<'a> {
     None,
     Trimmed(LogIndex),
     /// The snapshot up to an index, and its keys.
-    Snapshot { index: LogIndex, keys: &'a [Entry] },
+    Snapshot {
+        index: LogIndex,
+        keys: &'a [Entry],
+    },
 }
 
 /// A run that is read, borrowed from the state.

@@ -82,6 +82,15 @@ impl Calls {
         &self.areas[area]
     }
 
+    pub fn lent(&self) -> [usize; 5] {
+        self.lent
+    }
+
+    /// The stop-sign that is lent as an argument.
+    pub fn sign(&self) -> &StopSign {
+        &self.sign
+    }
+
     /// Does what a line says. None where it is a bad line, which changes nothing.
     pub fn answer(&mut self, line: &[u64]) -> Option<Vec<u64>> {
         if line.len() > MOST {

@@ -61,20 +61,20 @@ module _ (n : ℕ) (ws : List ℕ) (k i : ℕ) (inv : lastOf k (entriesOf n ws) 
   unfolding lastOf entriesAt
   newest-none e = sym (inv ∙ ap (λ (j : ℕ). lastOf k (entriesOf j ws)) e)
 
-  module _ (h : 0 < i) where
-    one-back : lastOf k (entriesOf n ws) ≡ orElse (if eqb (getD ws ((i - 1) * width) 0) k then some (saidOf (getD ws ((i - 1) * width + 1) 0)) else none) (lastOf k (entriesOf (i - 1) ws))
+  -- the one before j + 1 is looked at
+  module _ (j : ℕ) (e : i ≡ j + 1) where
+    one-back : lastOf k (entriesOf n ws) ≡ orElse (if eqb (getD ws (j * width) 0) k then some (saidOf (getD ws (j * width + 1) 0)) else none) (lastOf k (entriesOf j ws))
     one-back =
-        let e : i ≡ i - 1 + 1 = omega arith in
-        inv ∙ ap (λ (j : ℕ). lastOf k (entriesOf j ws)) e
-        ∙ ap (lastOf k) (entries-snoc (i - 1) ws) ∙ last-snoc k (entriesOf (i - 1) ws) (changeAt ws (i - 1))
+        inv ∙ ap (λ (m : ℕ). lastOf k (entriesOf m ws)) e
+        ∙ ap (lastOf k) (entries-snoc j ws) ∙ last-snoc k (entriesOf j ws) (changeAt ws j)
 
-    pub newest-found : getD ws ((i - 1) * width) 0 ≡ k → some (saidOf (getD ws ((i - 1) * width + 1) 0)) ≡ lastOf k (entriesOf n ws)
+    pub newest-found : getD ws (j * width) 0 ≡ k → some (saidOf (getD ws (j * width + 1) 0)) ≡ lastOf k (entriesOf n ws)
     unfolding orElse
-    newest-found e = sym (one-back ∙ rw (eq-eqb (getD ws ((i - 1) * width) 0) k e))
+    newest-found q = sym (one-back ∙ rw (eq-eqb (getD ws (j * width) 0) k q))
 
-    pub newest-back : (getD ws ((i - 1) * width) 0 ≡ k → ⊥) → lastOf k (entriesOf n ws) ≡ lastOf k (entriesOf (i - 1) ws)
+    pub newest-back : (getD ws (j * width) 0 ≡ k → ⊥) → lastOf k (entriesOf n ws) ≡ lastOf k (entriesOf j ws)
     unfolding orElse
-    newest-back e = one-back ∙ rw (ne-eqb (getD ws ((i - 1) * width) 0) k e)
+    newest-back q = one-back ∙ rw (ne-eqb (getD ws (j * width) 0) k q)
 
 -- where the search of a snapshot ended
 module _ (n : ℕ) (ws : List ℕ) (k i : ℕ) where

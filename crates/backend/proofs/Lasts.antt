@@ -2,10 +2,10 @@
 -- well formed exactly if its log is.
 use Prim.Native.Nat.{ℕ, _+_, _≤_, _<_}
 use mathlib.Core.Path.{_≡_, refl, sym, ap, _∙_}
-use mathlib.Core.Bool.{Bool, true, false, _&&_, not}
+use mathlib.Core.Bool.{Bool, true, false, _&&_, not, and-true}
 use mathlib.Core.List.{List}
 use native.Mathlib.Omega.{arith}
-use borrow.Author.Tests.{lt-ltb, eq-eqb, not-false}
+use borrow.Author.Tests.{lt-ltb, ltb-false, eq-eqb, not-false}
 use lib.Dec.{ltb, eqb}
 use lib.ListN.{length}
 use Rattle.words.proofs.Tests.{and-left, and-right, both-true}
@@ -20,7 +20,7 @@ use Rattle.snapshot.specs.Calls.{snapshotFormed}
 use Rattle.model.specs.Numbers.{Numbers, endOf, acceptedOf, numbersFormed}
 use Rattle.model.specs.Log.{numbersOf, wellFormed}
 use Rattle.model.specs.Backend.{lastGuards}
-use Rattle.state_cache.specs.State.{Raw, numbersIn, signHeld, shotHeld, formed, logOf}
+use Rattle.state_cache.specs.State.{Raw, numbersIn, signHeld, shotHeld, formed, logOf, Small}
 use Rattle.state_cache.specs.declared.IndexRecord.{IndexRecord}
 use Rattle.state_cache.proofs.Small.{accepted-le}
 use Rattle.state_cache.proofs.Stands.{log-formed, given-by}
@@ -49,18 +49,24 @@ stored-of words n ws l =
     ap (λ (j : ℕ). storedIn words j ws) (sym k) ∙ ap (storedIn words (length es)) (laid-stored words n ws l)
     ∙ stored-laid words es (omega (arith, l .fits)) (l .fine)
 
+-- the words are in form, so the numbers decide
+pub formed-numbers : (r : Raw) → Held r → numbersFormed (numbersIn (r .index)) ≡ formed r
+unfolding formed shotHeld snapshotFormed
+formed-numbers r h = sym (and-true (numbersFormed (numbersIn (r .index)))) ∙ ap (λ (t : Bool). numbersFormed (numbersIn (r .index)) && t) (sym rest)
+  where
+    rest : (signHeld (r .index) && (storedIn logWords (r .index .retained + r .index .batched) (r .log) && shotHeld (r .index) (r .snapshot))) ≡ true
+    rest =
+        both-true (signHeld (r .index)) _ (h .sign)
+        (both-true (storedIn logWords (r .index .retained + r .index .batched) (r .log)) _ (stored-of logWords _ (r .log) (h .log))
+        (both-true (storedIn snapshotWords (r .index .keys) (r .snapshot) && rising (entriesOf (r .index .keys) (r .snapshot))) _
+        (both-true (storedIn snapshotWords (r .index .keys) (r .snapshot)) _ (stored-of snapshotWords _ (r .snapshot) (h .snapshot .laid)) (h .snapshot .rises))
+        (h .none-held)))
+
 pub formed-is : (r : Raw) → Held r → formed r ≡ wellFormed (logOf r)
 formed-is r h = go (formed r) (wellFormed (logOf r)) refl refl
   where
     back : wellFormed (logOf r) ≡ true → formed r ≡ true
-    back e =
-        unfold formed shotHeld snapshotFormed in
-        both-true (numbersFormed (numbersIn (r .index))) _ (unfold wellFormed in ap numbersFormed (sym (numbers-of r)) ∙ and-left (numbersFormed (numbersOf (logOf r))) _ e)
-        (both-true (signHeld (r .index)) _ (h .sign)
-        (both-true (storedIn logWords (r .index .retained + r .index .batched) (r .log)) _ (stored-of logWords _ (r .log) (h .log))
-        (both-true (storedIn snapshotWords (r .index .keys) (r .snapshot) && rising (entriesOf (r .index .keys) (r .snapshot))) _
-        (both-true (storedIn snapshotWords (r .index .keys) (r .snapshot)) _ (stored-of snapshotWords _ (r .snapshot) (h .snapshot .laid)) (h .snapshot .rises))
-        (h .none-held))))
+    back e = sym (formed-numbers r h) ∙ (unfold wellFormed in ap numbersFormed (sym (numbers-of r)) ∙ and-left (numbersFormed (numbersOf (logOf r))) _ e)
 
     go : (a b : Bool) → formed r ≡ a → wellFormed (logOf r) ≡ b → formed r ≡ wellFormed (logOf r)
     go true b p q = p ∙ sym (log-formed r p)
@@ -104,6 +110,12 @@ module _ (n : Numbers) (start : ℕ) (r : Raw) (h : Held r) where
   last-past last p over = judged (refuses 9 last) (stopping (past-is ∙ over) p)
 
   module _ (inside : past ≡ false) where
+    pub last-small : Small (numbersIn (r .index))
+    unfolding acceptedOf endOf
+    last-small =
+        let low = ltb-false lastIndex (acceptedOf (numbersIn (r .index)) + r .index .batched) inside in
+        record { few = omega (arith, h .log .fits); waiting = omega (arith, h .log .fits); low = omega (arith, low) }
+
     last-ill : (eqb start (r .index .compacted .0) && wellFormed (logOf r)) ≡ false → Says (refused 12 0)
     unfolding lastGuards logOf
     last-ill e = judged (refuses 12 0) (passing (past-is ∙ inside) (stopping (ap not e) refl))

@@ -331,7 +331,7 @@ fn past_last(index: IndexRecord) -> bool
     entry::LAST_INDEX < all + index.batched as u64
 }
 
-// What is judged after the last operation: refusals 9 and 12.
+// What is judged after the last operation: refusals 9 and 12. Every operation keeps the words in form, so the numbers alone are asked.
 fn judge_last(
     before: IndexRecord,
     start: u64,
@@ -350,7 +350,7 @@ fn judge_last(
     if start != index.compacted.0 {
         return Settled::Refused(Refusal::IllFormed);
     }
-    if !state_cache::well_formed(index, log, shot) {
+    if !state_cache::inner::numbers_formed(index) {
         return Settled::Refused(Refusal::IllFormed);
     }
     Settled::Done

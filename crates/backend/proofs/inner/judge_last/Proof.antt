@@ -3,7 +3,7 @@ use mathlib.Core.Path.{sym, _∙_}
 use borrow.Author.Tests.{ne-eqb, not-true, not-false}
 use denote.Ref.{now}
 use Rattle.state_cache.specs.State.{Raw, raw, numbersIn}
-use Rattle.backend.proofs.Lasts.{last-past, last-apart, last-unformed, last-stands}
+use Rattle.backend.proofs.Lasts.{formed-numbers, last-past, last-small, last-apart, last-unformed, last-stands}
 use borrow.Author.Needs.{needs}
 use Rattle.backend.proofs.inner.judge_last.Statement.{statement}
 use Rattle.backend.proofs.inner.judge_last.Tie as tie
@@ -30,15 +30,18 @@ returns-2 c =
     let st = e .before .before .before .before .before in
     last-apart (numbersIn (st .args .before)) (st .args .start) (stateAt st) (st .pre .0) (sym (e .before .past-last .ensures) ∙ e .if1 .left) (ne-eqb _ _ (c .if2 .taken))
 
-well-formed-requires : tie.Need-well-formed-requires
-well-formed-requires c κs = search needs
+numbers-formed-requires : tie.Need-numbers-formed-requires
+numbers-formed-requires c κs =
+    let e = c .before .before in
+    let st = e .before .before .before .before .before in
+    last-small (numbersIn (st .args .before)) (st .args .start) (stateAt st) (st .pre .0) (sym (e .before .past-last .ensures) ∙ e .if1 .left)
 
 returns-3 : tie.Need-returns-3
 returns-3 c =
     let w = c .before in
     let e = w .before .before .before in
     let st = e .before .before .before .before .before in
-    last-unformed (numbersIn (st .args .before)) (st .args .start) (stateAt st) (st .pre .0) (sym (e .before .past-last .ensures) ∙ e .if1 .left) (sym (w .well-formed .ensures) ∙ not-true _ (c .if3 .taken))
+    last-unformed (numbersIn (st .args .before)) (st .args .start) (stateAt st) (st .pre .0) (sym (e .before .past-last .ensures) ∙ e .if1 .left) (sym (formed-numbers (stateAt st) (st .pre .0)) ∙ sym (w .numbers-formed .ensures) ∙ not-true _ (c .if3 .taken))
 
 returns-4 : tie.Need-returns-4
 returns-4 c =
@@ -46,7 +49,7 @@ returns-4 c =
     let d = w .before in
     let e = d .before .before in
     let st = e .before .before .before .before .before in
-    last-stands (numbersIn (st .args .before)) (st .args .start) (stateAt st) (st .pre .0) (sym (e .before .past-last .ensures) ∙ e .if1 .left) (d .if2 .left) (sym (w .well-formed .ensures) ∙ not-false _ (c .if3 .left))
+    last-stands (numbersIn (st .args .before)) (st .args .start) (stateAt st) (st .pre .0) (sym (e .before .past-last .ensures) ∙ e .if1 .left) (d .if2 .left) (sym (formed-numbers (stateAt st) (st .pre .0)) ∙ sym (w .numbers-formed .ensures) ∙ not-false _ (c .if3 .left))
 
 pub judge-last-spec : {M : Type 1} → statement M
 judge-last-spec =
@@ -56,6 +59,6 @@ judge-last-spec =
     past-last-requires
     returns
     returns-2
-    well-formed-requires
+    numbers-formed-requires
     returns-3
     returns-4)

@@ -1,0 +1,28 @@
+
+/// How an argument goes to a function of an unproved module: a number as it is, anything else as a pointer to it.
+trait Passed {
+    type As;
+    fn pass(&self) -> Self::As;
+}
+
+macro_rules! passed {
+    (as numbers: $($number:ty)*) => {
+        $(impl Passed for $number {
+            type As = $number;
+            fn pass(&self) -> $number {
+                *self
+            }
+        })*
+    };
+    (as pointers: $($record:ty)*) => {
+        $(impl Passed for $record {
+            type As = *const $record;
+            fn pass(&self) -> *const $record {
+                self
+            }
+        })*
+    };
+}
+
+passed!(as numbers: u64 usize bool);
+passed!(as pointers: LogIndex BlockPlace Ballot StopSign IndexRecord ShownSaid Bound Ops Lent LogSync);

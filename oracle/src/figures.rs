@@ -339,15 +339,21 @@ fn lookups(meter: &mut Meter) {
             log: &mut log,
             snapshot: &mut snapshot,
         };
-        let wanted = match entries {
-            0 => vec![("nowhere", 3)],
-            _ => vec![
+        let alone: Vec<u64> = sorted
+            .iter()
+            .map(Entry::key)
+            .filter(|key| both.held.log.iter().all(|e| e.key != *key))
+            .collect();
+        let wanted = match alone[..] {
+            [first, .., last] => vec![
                 ("the newest entry", key((entries - 2) % (keys / 2))),
-                ("the oldest entry", key((entries - 1) % (keys / 2))),
-                ("the snapshot's first key", 17),
-                ("the snapshot alone", key(keys - 1)),
-                ("nowhere", 3),
+                ("the entry furthest back", key((entries - 1) % (keys / 2))),
+                ("the snapshot's first alone", first),
+                ("the snapshot's last alone", last),
+                ("nowhere, below all", 3),
+                ("nowhere, above all", u64::MAX),
             ],
+            _ => vec![("nowhere", 3)],
         };
         for (at, k) in wanted {
             let row = format!("{state}: {at}");

@@ -160,10 +160,11 @@ fn print_bars(before: &[Figure], now: &[Figure]) {
         "10 times the Rust's scan",
     );
     for at in [
-        "the oldest entry",
-        "the snapshot's first key",
-        "the snapshot alone",
-        "nowhere",
+        "the entry furthest back",
+        "the snapshot's first alone",
+        "the snapshot's last alone",
+        "nowhere, below all",
+        "nowhere, above all",
     ] {
         let name = format!("lookup, {at}, owned");
         row(

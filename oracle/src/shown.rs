@@ -197,7 +197,7 @@ const SLOWER: &str = "## Where we are slower, and why
   front, and moves what follows; the Rust inserts into a tree.
 - A lookup walks the decided entries backwards and then the snapshot's keys from the front; a `BTreeMap` of everything, which nobody has to
   keep beside a log and a snapshot, answers in a hundred instructions.
-- An operation list is judged before and after, on a copy; the oracle's backend copies everything too.
+- An operation list runs on a copy of all words, judged before it and by its numbers after it; the oracle's backend copies everything too.
 - We are faster where the Rust builds what a reader did not ask for: a read shows a part of the log where the Rust copies entries out, and
   a trim moves words where the Rust's backend copies the whole state.
 ";

@@ -11,17 +11,9 @@ fn give_up(what: &str) -> ! {
 
 /// When the newest file below a folder was written.
 fn newest(at: &Path) -> SystemTime {
-    let written = |p: &Path| {
-        fs::metadata(p)
-            .and_then(|m| m.modified())
-            .unwrap_or(SystemTime::UNIX_EPOCH)
-    };
+    let written = |p: &Path| fs::metadata(p).and_then(|m| m.modified()).unwrap_or(SystemTime::UNIX_EPOCH);
     match fs::read_dir(at) {
-        Ok(all) => all
-            .flatten()
-            .map(|one| newest(&one.path()))
-            .max()
-            .unwrap_or(SystemTime::UNIX_EPOCH),
+        Ok(all) => all.flatten().map(|one| newest(&one.path())).max().unwrap_or(SystemTime::UNIX_EPOCH),
         Err(_) => written(at),
     }
 }
@@ -61,7 +53,10 @@ fn main() {
         ));
     }
     let archive = match env::var_os("KOTUSERAW_ARCHIVE") {
-        Some(path) => PathBuf::from(path),
+        Some(path) => {
+            println!("cargo:rerun-if-changed={}", Path::new(&path).display());
+            PathBuf::from(path)
+        }
         None => made(&Path::new(&env::var("CARGO_MANIFEST_DIR").unwrap()).join("../..")),
     };
     let out = PathBuf::from(env::var("OUT_DIR").unwrap());

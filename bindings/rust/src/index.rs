@@ -1,8 +1,6 @@
 //! The log with its snapshot: one that a program owns, and one that it lends.
 use crate::entry::{entries, words, Entry};
-use crate::plain::{
-    self, Ballot, BlockPlace, IndexRecord, LogIndex, Reply, Said, ShownSaid, StopSign,
-};
+use crate::plain::{self, Ballot, BlockPlace, IndexRecord, LogIndex, Reply, Said, ShownSaid, StopSign};
 use crate::requests::{bound, Appended, Diff, Lent, LogSync, Marker, Op, Run};
 use crate::snapshot::{Snapshot, SNAPSHOT_WORDS};
 use crate::{ready, Refusal};
@@ -70,10 +68,7 @@ fn kept(record: &mut IndexRecord, reply: Reply) -> Result<Said, Refusal> {
 fn appended(said: Said) -> Appended {
     match said.told {
         0 => Appended::Held,
-        _ => Appended::Flushed {
-            accepted: LogIndex(said.first),
-            entries: said.second as usize,
-        },
+        _ => Appended::Flushed { accepted: LogIndex(said.first), entries: said.second as usize },
     }
 }
 
@@ -81,20 +76,12 @@ fn part(log: &[u64], first: usize, count: usize) -> &[Entry] {
     &entries(log)[first..first + count]
 }
 
-fn run<'a>(
-    record: &'a IndexRecord,
-    log: &'a [u64],
-    snapshot: &'a [u64],
-    shown: ShownSaid,
-) -> Option<Run<'a>> {
+fn run<'a>(record: &'a IndexRecord, log: &'a [u64], snapshot: &'a [u64], shown: ShownSaid) -> Option<Run<'a>> {
     let index = LogIndex(shown.index);
     let marker = match shown.marker {
         0 => Marker::None,
         1 => Marker::Trimmed(index),
-        _ => Marker::Snapshot {
-            index,
-            keys: part(snapshot, 0, shown.keys),
-        },
+        _ => Marker::Snapshot { index, keys: part(snapshot, 0, shown.keys) },
     };
     (shown.told == 1).then(|| Run {
         marker,
@@ -135,56 +122,28 @@ macro_rules! calls {
         pub fn append(&mut self, entry: Entry) -> Result<Appended, Refusal> {
             let (record, log, snapshot) = self.parts_mut();
             let place = entry.place();
-            let reply = $call!(append_entry_with_batching(
-                *record,
-                log,
-                snapshot,
-                entry.key(),
-                place.is_none(),
-                place.unwrap_or_default()
-            ));
+            let reply = $call!(append_entry_with_batching(*record, log, snapshot, entry.key(), place.is_none(), place.unwrap_or_default()));
             kept(record, reply).map(appended)
         }
 
         /// Appends entries, through the batch.
         pub fn append_entries_with_batching(&mut self, run: &[Entry]) -> Result<Appended, Refusal> {
             let (record, log, snapshot) = self.parts_mut();
-            let reply = $call!(append_entries_with_batching(
-                *record,
-                log,
-                snapshot,
-                words(run)
-            ));
+            let reply = $call!(append_entries_with_batching(*record, log, snapshot, words(run)));
             kept(record, reply).map(appended)
         }
 
         /// The same, telling the accepted index alone where the batch was flushed.
-        pub fn append_entries_and_get_accepted_idx(
-            &mut self,
-            run: &[Entry],
-        ) -> Result<Option<LogIndex>, Refusal> {
+        pub fn append_entries_and_get_accepted_idx(&mut self, run: &[Entry]) -> Result<Option<LogIndex>, Refusal> {
             let (record, log, snapshot) = self.parts_mut();
-            let reply = $call!(append_entries_and_get_accepted_idx(
-                *record,
-                log,
-                snapshot,
-                words(run)
-            ));
+            let reply = $call!(append_entries_and_get_accepted_idx(*record, log, snapshot, words(run)));
             kept(record, reply).map(|said| (said.told == 1).then_some(LogIndex(said.first)))
         }
 
         /// Appends entries at once, before those that wait. Tells the accepted index.
-        pub fn append_entries_without_batching(
-            &mut self,
-            run: &[Entry],
-        ) -> Result<LogIndex, Refusal> {
+        pub fn append_entries_without_batching(&mut self, run: &[Entry]) -> Result<LogIndex, Refusal> {
             let (record, log, snapshot) = self.parts_mut();
-            let reply = $call!(append_entries_without_batching(
-                *record,
-                log,
-                snapshot,
-                words(run)
-            ));
+            let reply = $call!(append_entries_without_batching(*record, log, snapshot, words(run)));
             kept(record, reply).map(|said| LogIndex(said.first))
         }
 
@@ -212,13 +171,7 @@ macro_rules! calls {
         /// Sets the stop-sign, or takes it away. Tells the accepted index.
         pub fn set_stopsign(&mut self, ss: Option<StopSign>) -> Result<LogIndex, Refusal> {
             let (record, log, snapshot) = self.parts_mut();
-            let reply = $call!(set_stopsign(
-                *record,
-                log,
-                snapshot,
-                ss.is_some(),
-                ss.unwrap_or_default()
-            ));
+            let reply = $call!(set_stopsign(*record, log, snapshot, ss.is_some(), ss.unwrap_or_default()));
             kept(record, reply).map(|said| LogIndex(said.first))
         }
 
@@ -246,13 +199,7 @@ macro_rules! calls {
         /// Folds the decided entries below an index, or all of them, into the snapshot.
         pub fn try_snapshot(&mut self, upto: Option<LogIndex>) -> Result<(), Refusal> {
             let (record, log, snapshot) = self.parts_mut();
-            let reply = plain::try_snapshot(
-                *record,
-                log,
-                snapshot,
-                upto.is_some(),
-                upto.unwrap_or_default(),
-            );
+            let reply = plain::try_snapshot(*record, log, snapshot, upto.is_some(), upto.unwrap_or_default());
             kept(record, reply).map(drop)
         }
 
@@ -272,20 +219,9 @@ macro_rules! calls {
         ) -> Result<LogIndex, Refusal> {
             let (record, log, snapshot) = self.parts_mut();
             let none = Snapshot::default();
-            let (part, incoming) =
-                log_sync.map_or((Default::default(), none.words()), |sync| sync.plain(&none));
+            let (part, incoming) = log_sync.map_or((Default::default(), none.words()), |sync| sync.plain(&none));
             let suffix = words(log_sync.map_or(&[], |sync| sync.suffix));
-            let reply = plain::sync_log(
-                *record,
-                log,
-                snapshot,
-                accepted_round,
-                decided_idx,
-                log_sync.is_some(),
-                part,
-                incoming,
-                suffix,
-            );
+            let reply = plain::sync_log(*record, log, snapshot, accepted_round, decided_idx, log_sync.is_some(), part, incoming, suffix);
             kept(record, reply).map(|said| LogIndex(said.first))
         }
 
@@ -303,15 +239,7 @@ macro_rules! calls {
             let (record, log, snapshot) = self.parts_mut();
             let none = Snapshot::default();
             let incoming = lent.snapshot.unwrap_or(&none).words();
-            let reply = plain::write_list(
-                *record,
-                log,
-                snapshot,
-                words(lent.entries),
-                incoming,
-                lent.plain(),
-                Op::list(ops),
-            );
+            let reply = plain::write_list(*record, log, snapshot, words(lent.entries), incoming, lent.plain(), Op::list(ops));
             kept(record, reply).map(drop)
         }
 
@@ -374,8 +302,7 @@ macro_rules! calls {
         /// The decided index without the stop-sign.
         pub fn get_decided_idx_without_stopsign(&self) -> Result<LogIndex, Refusal> {
             let (record, log, snapshot) = self.parts();
-            let said =
-                $call!(get_decided_idx_without_stopsign(*record, log, snapshot)).accepted()?;
+            let said = $call!(get_decided_idx_without_stopsign(*record, log, snapshot)).accepted()?;
             Ok(LogIndex(said.first))
         }
 
@@ -389,16 +316,13 @@ macro_rules! calls {
         /// The snapshot that a snapshot up to this index would hold.
         pub fn create_snapshot(&self, idx: LogIndex) -> Result<Snapshot, Refusal> {
             let (record, log, snapshot) = self.parts();
-            Snapshot::written(|out| plain::create_snapshot(*record, log, snapshot, idx, out))
-                .map(|(made, _)| made)
+            Snapshot::written(|out| plain::create_snapshot(*record, log, snapshot, idx, out)).map(|(made, _)| made)
         }
 
         /// What brings a follower that has decided up to an index to log-decided, which it tells.
         pub fn create_diff_snapshot(&self, from: LogIndex) -> Result<(Diff, LogIndex), Refusal> {
             let (record, log, snapshot) = self.parts();
-            let (made, said) = Snapshot::written(|out| {
-                plain::create_diff_snapshot(*record, log, snapshot, from, out)
-            })?;
+            let (made, said) = Snapshot::written(|out| plain::create_diff_snapshot(*record, log, snapshot, from, out))?;
             let diff = match said.told {
                 1 => Diff::Plain,
                 2 => Diff::Complete(made),
@@ -415,11 +339,7 @@ impl Index {
         let (mut log, mut snapshot) = (Box::new([0; LOG_WORDS]), Box::new([0; SNAPSHOT_WORDS]));
         let reply = plain::fresh(batch_size, &mut log[..], &mut snapshot[..]);
         reply.said.accepted()?;
-        Ok(Index {
-            record: reply.index,
-            log,
-            snapshot,
-        })
+        Ok(Index { record: reply.index, log, snapshot })
     }
 
     /// A copy of a state from elsewhere, where it is well formed.
@@ -438,11 +358,7 @@ impl Index {
         let fine = plain::well_formed(record, log, snapshot);
         let log = Box::new(log.try_into().ok()?);
         let snapshot = Box::new(snapshot.try_into().ok()?);
-        fine.then_some(Index {
-            record,
-            log,
-            snapshot,
-        })
+        fine.then_some(Index { record, log, snapshot })
     }
 
     /// Its numbers.
@@ -462,9 +378,7 @@ impl Index {
 
     /// Its snapshot's keys, ascending; None where it holds none.
     pub fn snapshot(&self) -> Option<&[Entry]> {
-        self.record
-            .snapshot_held
-            .then(|| part(&self.snapshot[..], 0, self.record.keys))
+        self.record.snapshot_held.then(|| part(&self.snapshot[..], 0, self.record.keys))
     }
 
     fn parts(&self) -> (&IndexRecord, &[u64], &[u64]) {

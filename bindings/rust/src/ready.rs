@@ -3,9 +3,7 @@
 //!
 //! # Safety
 //! Of each: the state must be well formed, as [`plain::well_formed`](crate::plain::well_formed) judges it.
-use crate::plain::{
-    export, Ballot, BlockPlace, Bound, IndexRecord, LogIndex, Reply, Said, ShownSaid, StopSign,
-};
+use crate::plain::{export, Ballot, BlockPlace, Bound, IndexRecord, LogIndex, Reply, Said, ShownSaid, StopSign};
 
 macro_rules! exports {
     ($($name:ident($($args:tt)*) -> $out:ty = $symbol:literal;)*) => {

@@ -16,14 +16,8 @@ const MEANINGS: [(&str, &str); 12] = [
     ("the index is below the compacted index", "compacted index"),
     ("the log is stopped", "accepted index"),
     ("the index is below the decided index", "decided index"),
-    (
-        "the decided index would be above the accepted index",
-        "accepted index",
-    ),
-    (
-        "the index is outside the run that is held",
-        "end of the run",
-    ),
+    ("the decided index would be above the accepted index", "accepted index"),
+    ("the index is outside the run that is held", "end of the run"),
     ("the snapshot would have too many keys", ""),
     ("the log would pass the last index", "accepted index"),
     ("entries wait in the batch", "entries waiting"),

@@ -24,12 +24,7 @@ impl StopSign {
     /// A stop-sign for up to seven nodes with up to 32 bytes of metadata; None where there are more. One without a node is in no
     /// form, and refused by every call.
     pub fn new(config_id: u32, nodes: &[u64], metadata: Option<&[u8]>) -> Option<StopSign> {
-        let mut sign = StopSign {
-            config_id,
-            node_count: nodes.len(),
-            metadata_held: metadata.is_some(),
-            ..StopSign::default()
-        };
+        let mut sign = StopSign { config_id, node_count: nodes.len(), metadata_held: metadata.is_some(), ..StopSign::default() };
         let bytes = metadata.unwrap_or(&[]);
         sign.metadata_len = bytes.len();
         sign.nodes.get_mut(..nodes.len())?.copy_from_slice(nodes);
@@ -146,21 +141,9 @@ pub enum Op {
 
 impl Op {
     fn plain(self) -> plain::Op {
-        let at = |kind, index| plain::Op {
-            kind,
-            index,
-            ..plain::Op::default()
-        };
-        let by = |kind, ballot| plain::Op {
-            kind,
-            ballot,
-            ..plain::Op::default()
-        };
-        let given = |kind, given| plain::Op {
-            kind,
-            given,
-            ..plain::Op::default()
-        };
+        let at = |kind, index| plain::Op { kind, index, ..plain::Op::default() };
+        let by = |kind, ballot| plain::Op { kind, ballot, ..plain::Op::default() };
+        let given = |kind, given| plain::Op { kind, given, ..plain::Op::default() };
         match self {
             Op::AppendEntries => given(0, false),
             Op::AppendOnPrefix(i) => at(1, i),
@@ -178,10 +161,7 @@ impl Op {
 
     /// A list of more than eight keeps its count, with which it is refused.
     pub(crate) fn list(ops: &[Op]) -> plain::Ops {
-        let mut list = plain::Ops {
-            count: ops.len(),
-            ..plain::Ops::default()
-        };
+        let mut list = plain::Ops { count: ops.len(), ..plain::Ops::default() };
         for (to, op) in list.ops.iter_mut().zip(ops) {
             *to = op.plain();
         }

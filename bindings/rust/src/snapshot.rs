@@ -17,18 +17,13 @@ pub struct Snapshot {
 impl Default for Snapshot {
     /// The empty one.
     fn default() -> Snapshot {
-        Snapshot {
-            keys: 0,
-            words: Box::new([0; SNAPSHOT_WORDS]),
-        }
+        Snapshot { keys: 0, words: Box::new([0; SNAPSHOT_WORDS]) }
     }
 }
 
 impl Snapshot {
     /// What a call writes into a slice of a snapshot's length, whose keys it tells first, and what it says.
-    pub(crate) fn written(
-        call: impl FnOnce(&mut [u64]) -> Said,
-    ) -> Result<(Snapshot, Said), Refusal> {
+    pub(crate) fn written(call: impl FnOnce(&mut [u64]) -> Said) -> Result<(Snapshot, Said), Refusal> {
         let mut made = Snapshot::default();
         let said = call(&mut made.words[..]).accepted()?;
         made.keys = said.first as usize;
@@ -59,10 +54,7 @@ impl Snapshot {
     /// # Ok::<(), kotuseraw::Refusal>(())
     /// ```
     pub fn merge(&self, delta: &Snapshot) -> Result<Snapshot, Refusal> {
-        Snapshot::written(|out| {
-            plain::merge(self.words(), self.keys, delta.words(), delta.keys, out)
-        })
-        .map(|(made, _)| made)
+        Snapshot::written(|out| plain::merge(self.words(), self.keys, delta.words(), delta.keys, out)).map(|(made, _)| made)
     }
 
     /// A key's place: none where it is removed or not there.

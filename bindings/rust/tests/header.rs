@@ -51,10 +51,7 @@ fn folder() -> PathBuf {
 
 /// A command of words, with more of them after it.
 fn command(words: &str, more: &[&Path]) -> Command {
-    let mut all = words
-        .split_whitespace()
-        .map(Path::new)
-        .chain(more.iter().copied());
+    let mut all = words.split_whitespace().map(Path::new).chain(more.iter().copied());
     let mut command = Command::new(all.next().unwrap());
     command.args(all);
     command
@@ -65,17 +62,9 @@ fn printed(name: &str, source: &Path, more: &[&Path]) -> String {
     let program = Path::new(env!("CARGO_TARGET_TMPDIR")).join(name);
     let cc = env::var("CC").unwrap_or("cc".to_string());
     let flags = format!("{cc} -std=c11 -Wall -Wextra -Werror -I");
-    let built = command(&flags, &[&folder(), source])
-        .args(more)
-        .arg("-o")
-        .arg(&program)
-        .output()
-        .expect("a C compiler, cc or what CC says");
-    assert!(
-        built.status.success(),
-        "{}",
-        String::from_utf8_lossy(&built.stderr)
-    );
+    let built =
+        command(&flags, &[&folder(), source]).args(more).arg("-o").arg(&program).output().expect("a C compiler, cc or what CC says");
+    assert!(built.status.success(), "{}", String::from_utf8_lossy(&built.stderr));
     let runner = env::var("KOTUSERAW_RUNNER").unwrap_or_default();
     let ran = command(&runner, &[&program]).output().unwrap();
     assert!(ran.status.success());
@@ -88,19 +77,13 @@ fn the_structs_are_the_same_to_the_byte() {
     let mut due = String::new();
     for layout in layouts() {
         let mut shown = vec![format!("sizeof({})", layout.name)];
-        shown.extend(
-            layout
-                .fields
-                .iter()
-                .map(|f| format!("offsetof({}, {f})", layout.name)),
-        );
+        shown.extend(layout.fields.iter().map(|f| format!("offsetof({}, {f})", layout.name)));
         for (c, number) in shown.iter().zip(&layout.numbers) {
             source += &format!("printf(\"{c} %zu\\n\", {c});\n");
             due += &format!("{c} {number}\n");
         }
     }
-    source +=
-        "printf(\"%d %d\\n\", KOTUSERAW_LOG_WORDS, KOTUSERAW_SNAPSHOT_WORDS);\nreturn 0;\n}\n";
+    source += "printf(\"%d %d\\n\", KOTUSERAW_LOG_WORDS, KOTUSERAW_SNAPSHOT_WORDS);\nreturn 0;\n}\n";
     due += &format!("{LOG_WORDS} {SNAPSHOT_WORDS}\n");
     let file = Path::new(env!("CARGO_TARGET_TMPDIR")).join("layout.c");
     fs::write(&file, source).unwrap();
@@ -120,8 +103,7 @@ fn functions(text: &str, after: char) -> BTreeSet<String> {
 #[test]
 fn the_functions_are_the_same() {
     let header = fs::read_to_string(folder().join("kotuseraw.h")).unwrap();
-    let rust =
-        fs::read_to_string(Path::new(env!("CARGO_MANIFEST_DIR")).join("src/plain.rs")).unwrap();
+    let rust = fs::read_to_string(Path::new(env!("CARGO_MANIFEST_DIR")).join("src/plain.rs")).unwrap();
     let declared = functions(&header, '(');
     assert_eq!(declared, functions(&rust, '"'));
     assert_eq!(declared.len(), 42);
@@ -131,8 +113,5 @@ fn the_functions_are_the_same() {
 fn a_c_program_links_the_archive() {
     let source = folder().join("example.c");
     let archive = Path::new(env!("KOTUSERAW_LINKED"));
-    assert_eq!(
-        printed("example", &source, &[archive]),
-        "refused 0, found 1, place 80\nrefused 5, carrying 2\n"
-    );
+    assert_eq!(printed("example", &source, &[archive]), "refused 0, found 1, place 80\nrefused 5, carrying 2\n");
 }

@@ -1,8 +1,5 @@
 //! The calls of an owned index, which do not judge its form, beside the same calls on lent words, which do.
-use kotuseraw::{
-    plain, Ballot, BlockPlace, Entry, Index, Lent, LogIndex, LogSync, Op, Refusal, Snapshot,
-    SnapshotType, StopSign, View,
-};
+use kotuseraw::{plain, Ballot, BlockPlace, Entry, Index, Lent, LogIndex, LogSync, Op, Refusal, Snapshot, SnapshotType, StopSign, View};
 use std::collections::BTreeMap;
 
 /// Numbers that look random and are the same in every run.
@@ -33,36 +30,19 @@ impl Dice {
     fn index(&mut self, of: &Index) -> LogIndex {
         let record = of.record();
         let end = record.compacted.0 + record.retained as u64;
-        let near = [
-            record.compacted.0,
-            record.decided.0,
-            end,
-            self.next(end + 2),
-            u64::MAX,
-            4_294_967_290,
-        ];
+        let near = [record.compacted.0, record.decided.0, end, self.next(end + 2), u64::MAX, 4_294_967_290];
         let at = near[[0, 1, 1, 2, 2, 3, 3, 3, 3, 4, 5][self.next(11) as usize]];
         LogIndex(at.wrapping_add(self.next(3)).wrapping_sub(1))
     }
 
     fn ballot(&mut self) -> Ballot {
-        Ballot {
-            config_id: self.next(2) as u32,
-            n: self.next(3) as u32,
-            priority: self.next(2) as u32,
-            pid: self.next(3),
-        }
+        Ballot { config_id: self.next(2) as u32, n: self.next(3) as u32, priority: self.next(2) as u32, pid: self.next(3) }
     }
 
     fn stopsign(&mut self) -> StopSign {
         let nodes: Vec<u64> = (0..self.next(8)).collect();
         let bytes = vec![7; self.next(33) as usize];
-        StopSign::new(
-            self.next(9) as u32,
-            &nodes,
-            Some(&bytes).filter(|_| nodes.len() > 2).map(|b| &b[..]),
-        )
-        .unwrap()
+        StopSign::new(self.next(9) as u32, &nodes, Some(&bytes).filter(|_| nodes.len() > 2).map(|b| &b[..])).unwrap()
     }
 }
 
@@ -134,39 +114,15 @@ fn turn(index: &mut Index, dice: &mut Dice, met: &mut Met) {
         15 => {
             let (run, ballot) = (dice.entries(), dice.ballot());
             let shot = Snapshot::fold(&dice.entries()).unwrap();
-            let kinds = [
-                SnapshotType::None,
-                SnapshotType::Complete(&shot),
-                SnapshotType::Delta(&shot),
-            ];
-            let part = LogSync {
-                sync_idx: i,
-                decided_snapshot: kinds[(j.0 % 3) as usize],
-                suffix: &run,
-                stopsign: None,
-            };
-            both!(
-                index,
-                met,
-                sync_log(ballot, j, Some(part).filter(|_| j.0 % 5 > 0))
-            )
+            let kinds = [SnapshotType::None, SnapshotType::Complete(&shot), SnapshotType::Delta(&shot)];
+            let part = LogSync { sync_idx: i, decided_snapshot: kinds[(j.0 % 3) as usize], suffix: &run, stopsign: None };
+            both!(index, met, sync_log(ballot, j, Some(part).filter(|_| j.0 % 5 > 0)))
         }
         16 => {
             let run = dice.entries();
-            let lent = Lent {
-                entries: &run,
-                ..Lent::default()
-            };
-            let ops = [
-                Op::AppendOnPrefix(i),
-                Op::SetDecidedIndex(j),
-                Op::SetPromise(dice.ballot()),
-            ];
-            both!(
-                index,
-                met,
-                write_atomically(lent, &ops[..(i.0 % 4) as usize])
-            )
+            let lent = Lent { entries: &run, ..Lent::default() };
+            let ops = [Op::AppendOnPrefix(i), Op::SetDecidedIndex(j), Op::SetPromise(dice.ballot())];
+            both!(index, met, write_atomically(lent, &ops[..(i.0 % 4) as usize]))
         }
         17 => both!(index, met, lookup(i.0 % 900)),
         18 => both!(index, met, read(i..j)),
@@ -205,15 +161,9 @@ fn an_owned_index_answers_as_a_lent_one() {
         }
     }
     for number in 1..=11 {
-        assert!(
-            met.keys().any(|(_, met)| *met == number),
-            "refusal {number} was not met"
-        );
+        assert!(met.keys().any(|(_, met)| *met == number), "refusal {number} was not met");
     }
-    let names = met
-        .keys()
-        .map(|(name, _)| name)
-        .collect::<std::collections::BTreeSet<_>>();
+    let names = met.keys().map(|(name, _)| name).collect::<std::collections::BTreeSet<_>>();
     for name in &names {
         assert!(met.contains_key(&(**name, 0)), "{name} was never accepted");
     }
@@ -224,13 +174,7 @@ fn an_owned_index_answers_as_a_lent_one() {
 fn a_place_that_there_is_not_is_malformed() {
     let mut index = Index::fresh(0).unwrap();
     for place in [1 << 48, u64::MAX - 1, u64::MAX] {
-        assert_eq!(
-            index
-                .append(Entry::put(1, BlockPlace(place)))
-                .unwrap_err()
-                .number(),
-            11
-        );
+        assert_eq!(index.append(Entry::put(1, BlockPlace(place))).unwrap_err().number(), 11);
     }
 }
 
@@ -238,22 +182,15 @@ fn a_place_that_there_is_not_is_malformed() {
 fn a_state_that_is_not_well_formed_becomes_no_index() {
     let index = Index::fresh(4).unwrap();
     let (log, snapshot) = (index.log().to_vec(), index.snapshot_words().to_vec());
-    let spoilt: [fn(&mut kotuseraw::IndexRecord); 4] = [
-        |record| record.retained = 1025,
-        |record| record.decided.0 = 1,
-        |record| record.batch_size = 65,
-        |record| record.keys = 1,
-    ];
+    let spoilt: [fn(&mut kotuseraw::IndexRecord); 4] =
+        [|record| record.retained = 1025, |record| record.decided.0 = 1, |record| record.batch_size = 65, |record| record.keys = 1];
     for spoil in spoilt {
         let mut record = *index.record();
         spoil(&mut record);
         assert_eq!(Index::judged(record, &log, &snapshot), None);
     }
     assert_eq!(Index::judged(*index.record(), &log[1..], &snapshot), None);
-    assert_eq!(
-        Index::judged(*index.record(), &log, &snapshot[..1022]),
-        None
-    );
+    assert_eq!(Index::judged(*index.record(), &log, &snapshot[..1022]), None);
 }
 
 #[test]

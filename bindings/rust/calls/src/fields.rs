@@ -44,31 +44,16 @@ pub fn set(record: &mut IndexRecord, field: u64, v: u64) -> Option<()> {
 }
 
 fn ballot(ballot: &Ballot) -> [u64; 4] {
-    [
-        ballot.config_id as u64,
-        ballot.n as u64,
-        ballot.priority as u64,
-        ballot.pid,
-    ]
+    [ballot.config_id as u64, ballot.n as u64, ballot.priority as u64, ballot.pid]
 }
 
 /// A record as line 0 shows it.
 pub fn shown(record: &IndexRecord) -> Vec<u64> {
     let stop = &record.stop;
-    let mut shown = vec![
-        record.batch_size,
-        record.retained as u64,
-        record.batched as u64,
-        record.compacted.0,
-        record.decided.0,
-    ];
+    let mut shown = vec![record.batch_size, record.retained as u64, record.batched as u64, record.compacted.0, record.decided.0];
     shown.extend(ballot(&record.promise));
     shown.extend(ballot(&record.accepted_round));
-    shown.extend([
-        record.snapshot_held as u64,
-        record.keys as u64,
-        record.stop_held as u64,
-    ]);
+    shown.extend([record.snapshot_held as u64, record.keys as u64, record.stop_held as u64]);
     shown.extend([stop.config_id as u64, stop.node_count as u64]);
     shown.extend(replies::area(&stop.nodes));
     shown.extend([stop.metadata_held as u64, stop.metadata_len as u64]);

@@ -1,8 +1,5 @@
 //! Every call of the library made from a line of numbers, on any record and any words: docs/CALLS.md says what each line does.
-use kotuseraw::plain::{
-    self, Ballot, BlockPlace, Bound, IndexRecord, Lent, LogIndex, LogSync, Op, Ops, ShownSaid,
-    StopSign,
-};
+use kotuseraw::plain::{self, Ballot, BlockPlace, Bound, IndexRecord, Lent, LogIndex, LogSync, Op, Ops, ShownSaid, StopSign};
 
 mod fields;
 mod replies;
@@ -44,19 +41,11 @@ fn kind(n: u64, kinds: u64) -> Option<u64> {
 }
 
 fn ballot(config_id: u64, n: u64, priority: u64, pid: u64) -> Option<Ballot> {
-    Some(Ballot {
-        config_id: u32::try_from(config_id).ok()?,
-        n: u32::try_from(n).ok()?,
-        priority: u32::try_from(priority).ok()?,
-        pid,
-    })
+    Some(Ballot { config_id: u32::try_from(config_id).ok()?, n: u32::try_from(n).ok()?, priority: u32::try_from(priority).ok()?, pid })
 }
 
 fn bound(n: u64, index: u64) -> Option<Bound> {
-    Some(Bound {
-        kind: kind(n, 3)?,
-        index: LogIndex(index),
-    })
+    Some(Bound { kind: kind(n, 3)?, index: LogIndex(index) })
 }
 
 /// A read's answer, made up: nothing, a refusal, or a run of so many entries from one on.
@@ -168,8 +157,7 @@ impl Calls {
     fn put(&mut self, area: u64, at: u64, words: &[u64]) -> Option<()> {
         let area = &mut self.areas[kind(area, 5)? as usize];
         let at = at as usize;
-        area.get_mut(at..at.checked_add(words.len())?)?
-            .copy_from_slice(words);
+        area.get_mut(at..at.checked_add(words.len())?)?.copy_from_slice(words);
         Some(())
     }
 
@@ -177,12 +165,7 @@ impl Calls {
     fn add(&mut self, kind: u64, index: u64, given: bool) -> Option<()> {
         let at = Some(self.ops.count).filter(|count| *count < 9)?;
         if let Some(op) = self.ops.ops.get_mut(at) {
-            *op = Op {
-                kind,
-                index: LogIndex(index),
-                ballot: self.ballot,
-                given,
-            };
+            *op = Op { kind, index: LogIndex(index), ballot: self.ballot, given };
         }
         self.ops.count += 1;
         Some(())
@@ -199,43 +182,19 @@ impl Calls {
                 }
                 Some(replies::settled(reply.said))
             }
-            [11] => Some(replies::number(replies::kept(
-                record,
-                plain::load_cache(*record, log, snapshot),
-            ))),
+            [11] => Some(replies::number(replies::kept(record, plain::load_cache(*record, log, snapshot)))),
             [12] => Some(replies::flag(plain::well_formed(*record, log, snapshot))),
-            [13] => Some(replies::number(plain::get_accepted_idx(
-                *record, log, snapshot,
-            ))),
-            [14] => Some(replies::number(plain::get_decided_idx_without_stopsign(
-                *record, log, snapshot,
-            ))),
-            [15] => Some(replies::number(plain::stopsign_is_decided(
-                *record, log, snapshot,
-            ))),
+            [13] => Some(replies::number(plain::get_accepted_idx(*record, log, snapshot))),
+            [14] => Some(replies::number(plain::get_decided_idx_without_stopsign(*record, log, snapshot))),
+            [15] => Some(replies::number(plain::stopsign_is_decided(*record, log, snapshot))),
             _ => None,
         }
     }
 
     fn append(&mut self, line: &[u64]) -> Option<Vec<u64>> {
-        let (
-            record,
-            Words {
-                log,
-                snapshot,
-                entries,
-                ..
-            },
-        ) = self.lend();
+        let (record, Words { log, snapshot, entries, .. }) = self.lend();
         let reply = match *line {
-            [20, key, removed, place] => plain::append_entry_with_batching(
-                *record,
-                log,
-                snapshot,
-                key,
-                flag(removed)?,
-                BlockPlace(place),
-            ),
+            [20, key, removed, place] => plain::append_entry_with_batching(*record, log, snapshot, key, flag(removed)?, BlockPlace(place)),
             [21] => plain::append_entries_with_batching(*record, log, snapshot, entries),
             [22] => plain::append_entries_and_get_accepted_idx(*record, log, snapshot, entries),
             [23] => plain::append_entries_without_batching(*record, log, snapshot, entries),
@@ -272,35 +231,11 @@ impl Calls {
     fn read(&mut self, line: &[u64]) -> Option<Vec<u64>> {
         let (record, Words { log, snapshot, .. }) = self.lend();
         match *line {
-            [30, a, from, b, to] => Some(replies::shown(plain::read(
-                *record,
-                log,
-                snapshot,
-                bound(a, from)?,
-                bound(b, to)?,
-            ))),
-            [31, from] => Some(replies::shown(plain::read_decided_suffix(
-                *record,
-                log,
-                snapshot,
-                LogIndex(from),
-            ))),
-            [32, from, to] => Some(replies::span(plain::get_entries(
-                *record,
-                log,
-                snapshot,
-                LogIndex(from),
-                LogIndex(to),
-            ))),
-            [33, from] => Some(replies::span(plain::get_suffix(
-                *record,
-                log,
-                snapshot,
-                LogIndex(from),
-            ))),
-            [34, key] => Some(replies::maybe_number(plain::lookup(
-                *record, log, snapshot, key,
-            ))),
+            [30, a, from, b, to] => Some(replies::shown(plain::read(*record, log, snapshot, bound(a, from)?, bound(b, to)?))),
+            [31, from] => Some(replies::shown(plain::read_decided_suffix(*record, log, snapshot, LogIndex(from)))),
+            [32, from, to] => Some(replies::span(plain::get_entries(*record, log, snapshot, LogIndex(from), LogIndex(to)))),
+            [33, from] => Some(replies::span(plain::get_suffix(*record, log, snapshot, LogIndex(from)))),
+            [34, key] => Some(replies::maybe_number(plain::lookup(*record, log, snapshot, key))),
             [35, a, from, b, to] => {
                 let (from, to) = (bound(a, from)?, bound(b, to)?);
                 let shown = plain::read(*record, log, snapshot, from, to);
@@ -317,37 +252,13 @@ impl Calls {
     }
 
     fn compact(&mut self, line: &[u64]) -> Option<Vec<u64>> {
-        let (
-            record,
-            Words {
-                log,
-                snapshot,
-                output,
-                ..
-            },
-        ) = self.lend();
+        let (record, Words { log, snapshot, output, .. }) = self.lend();
         let reply = match *line {
             [40, index] => plain::try_trim(*record, log, snapshot, LogIndex(index)),
             [41, index] => plain::try_snapshot(*record, log, snapshot, true, LogIndex(index)),
             [42] => plain::try_snapshot(*record, log, snapshot, false, LogIndex(0)),
-            [43, index] => {
-                return Some(replies::number(plain::create_snapshot(
-                    *record,
-                    log,
-                    snapshot,
-                    LogIndex(index),
-                    output,
-                )))
-            }
-            [44, from] => {
-                return Some(replies::diff(plain::create_diff_snapshot(
-                    *record,
-                    log,
-                    snapshot,
-                    LogIndex(from),
-                    output,
-                )))
-            }
+            [43, index] => return Some(replies::number(plain::create_snapshot(*record, log, snapshot, LogIndex(index), output))),
+            [44, from] => return Some(replies::diff(plain::create_diff_snapshot(*record, log, snapshot, LogIndex(from), output))),
             _ => return None,
         };
         Some(replies::settled(replies::kept(record, reply)))
@@ -355,103 +266,37 @@ impl Calls {
 
     fn write(&mut self, line: &[u64]) -> Option<Vec<u64>> {
         let (sign, round, ops) = (self.sign, self.ballot, self.ops);
-        let (
-            record,
-            Words {
-                log,
-                snapshot,
-                entries,
-                second,
-                ..
-            },
-        ) = self.lend();
+        let (record, Words { log, snapshot, entries, second, .. }) = self.lend();
         let lent = |snapshot_lent, keys, stop_lent| {
-            Some(Lent {
-                snapshot_lent: flag(snapshot_lent)?,
-                keys: keys as usize,
-                stop_lent: flag(stop_lent)?,
-                stop: sign,
-            })
+            Some(Lent { snapshot_lent: flag(snapshot_lent)?, keys: keys as usize, stop_lent: flag(stop_lent)?, stop: sign })
         };
         match *line {
             [45, held, decided, index, n, keys, stop] => {
-                let part = LogSync {
-                    sync_idx: LogIndex(index),
-                    kind: kind(n, 3)?,
-                    keys: keys as usize,
-                    stop_held: flag(stop)?,
-                    stopsign: sign,
-                };
-                let reply = plain::sync_log(
-                    *record,
-                    log,
-                    snapshot,
-                    round,
-                    LogIndex(decided),
-                    flag(held)?,
-                    part,
-                    second,
-                    entries,
-                );
+                let part =
+                    LogSync { sync_idx: LogIndex(index), kind: kind(n, 3)?, keys: keys as usize, stop_held: flag(stop)?, stopsign: sign };
+                let reply = plain::sync_log(*record, log, snapshot, round, LogIndex(decided), flag(held)?, part, second, entries);
                 Some(replies::number(replies::kept(record, reply)))
             }
             [46, shot, keys, stop] => {
-                let reply = plain::write_list(
-                    *record,
-                    log,
-                    snapshot,
-                    entries,
-                    second,
-                    lent(shot, keys, stop)?,
-                    ops,
-                );
+                let reply = plain::write_list(*record, log, snapshot, entries, second, lent(shot, keys, stop)?, ops);
                 Some(replies::settled(replies::kept(record, reply)))
             }
             [47, shot, keys, stop] => {
-                let reply = plain::write_atomically(
-                    *record,
-                    log,
-                    snapshot,
-                    entries,
-                    second,
-                    lent(shot, keys, stop)?,
-                    ops,
-                );
+                let reply = plain::write_atomically(*record, log, snapshot, entries, second, lent(shot, keys, stop)?, ops);
                 Some(replies::settled(replies::kept(record, reply)))
             }
-            [48, index] => Some(replies::settled(plain::in_place_set_decided_idx(
-                record,
-                log,
-                snapshot,
-                LogIndex(index),
-            ))),
-            [49, index] => Some(replies::settled(plain::in_place_try_trim(
-                record,
-                log,
-                snapshot,
-                LogIndex(index),
-            ))),
+            [48, index] => Some(replies::settled(plain::in_place_set_decided_idx(record, log, snapshot, LogIndex(index)))),
+            [49, index] => Some(replies::settled(plain::in_place_try_trim(record, log, snapshot, LogIndex(index)))),
             _ => None,
         }
     }
 
     fn plain(&mut self, line: &[u64]) -> Option<Vec<u64>> {
         let (sign, held) = (self.sign, self.ballot);
-        let (
-            _,
-            Words {
-                snapshot,
-                entries,
-                second,
-                output,
-                ..
-            },
-        ) = self.lend();
+        let (_, Words { snapshot, entries, second, output, .. }) = self.lend();
         Some(match *line {
             [50] => replies::number(plain::fold(entries, output)),
-            [51, n, m] => replies::number(plain::merge(
-                snapshot, n as usize, second, m as usize, output,
-            )),
+            [51, n, m] => replies::number(plain::merge(snapshot, n as usize, second, m as usize, output)),
             [52, n, key] => replies::maybe_number(plain::find(second, n as usize, key)),
             [53, n] => replies::flag(plain::snapshot_formed(second, n as usize)),
             [54] => replies::flag(plain::entries_formed(entries)),
@@ -459,11 +304,7 @@ impl Calls {
             [56] => replies::flag(plain::sign_formed(sign)),
             [57, config_id, n, priority, pid] => {
                 let other = ballot(config_id, n, priority, pid)?;
-                vec![
-                    1,
-                    plain::ballot_cmp(held, other),
-                    plain::ballot_eq(held, other) as u64,
-                ]
+                vec![1, plain::ballot_cmp(held, other), plain::ballot_eq(held, other) as u64]
             }
             _ => return None,
         })
@@ -474,9 +315,7 @@ impl Calls {
         let mut out = [0; AREAS[0]];
         let used = match *line {
             [60, first, count] => plain::entries_of(log, first as usize, count as usize, &mut out),
-            [61, answer, first, count] => {
-                plain::entries_shown(log, made_up(answer, first, count)?, &mut out)
-            }
+            [61, answer, first, count] => plain::entries_shown(log, made_up(answer, first, count)?, &mut out),
             _ => return None,
         };
         let mut answer = vec![1];

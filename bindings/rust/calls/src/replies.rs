@@ -76,10 +76,7 @@ pub fn shown(said: ShownSaid) -> Vec<u64> {
 
 /// Words as an area is shown: without the zeros at their end, and their count before them.
 pub fn area(words: &[u64]) -> Vec<u64> {
-    let used = words
-        .iter()
-        .rposition(|w| *w != 0)
-        .map_or(0, |last| last + 1);
+    let used = words.iter().rposition(|w| *w != 0).map_or(0, |last| last + 1);
     let mut shown = vec![used as u64];
     shown.extend(&words[..used]);
     shown

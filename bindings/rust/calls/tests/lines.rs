@@ -4,21 +4,12 @@ use std::process::{Command, Stdio};
 use std::{env, fs, path::Path, thread};
 
 fn file(name: &str) -> Vec<u8> {
-    fs::read(
-        Path::new(env!("CARGO_MANIFEST_DIR"))
-            .join("tests")
-            .join(name),
-    )
-    .unwrap()
+    fs::read(Path::new(env!("CARGO_MANIFEST_DIR")).join("tests").join(name)).unwrap()
 }
 
 /// What the program answers to its input.
 fn answers(input: &[u8]) -> Vec<u8> {
-    let mut program = Command::new(env!("CARGO_BIN_EXE_calls"))
-        .stdin(Stdio::piped())
-        .stdout(Stdio::piped())
-        .spawn()
-        .unwrap();
+    let mut program = Command::new(env!("CARGO_BIN_EXE_calls")).stdin(Stdio::piped()).stdout(Stdio::piped()).spawn().unwrap();
     let mut to = program.stdin.take().unwrap();
     let input = input.to_vec();
     let asking = thread::spawn(move || to.write_all(&input).unwrap());
@@ -29,10 +20,7 @@ fn answers(input: &[u8]) -> Vec<u8> {
 }
 
 fn lines(text: &[u8]) -> Vec<&[u8]> {
-    text.strip_suffix(b"\n")
-        .unwrap_or(text)
-        .split(|byte| *byte == b'\n')
-        .collect()
+    text.strip_suffix(b"\n").unwrap_or(text).split(|byte| *byte == b'\n').collect()
 }
 
 /// The answers that the Rust of omnipaxos judged when they were recorded.
@@ -40,19 +28,9 @@ fn lines(text: &[u8]) -> Vec<&[u8]> {
 fn recorded_answers() {
     let (asked, answered) = (file("recorded.in"), file("recorded.out"));
     let given = answers(&asked);
-    for (at, ((line, due), is)) in lines(&asked)
-        .into_iter()
-        .zip(lines(&answered))
-        .zip(lines(&given))
-        .enumerate()
-    {
+    for (at, ((line, due), is)) in lines(&asked).into_iter().zip(lines(&answered)).zip(lines(&given)).enumerate() {
         let line = String::from_utf8_lossy(line);
-        assert_eq!(
-            String::from_utf8_lossy(due),
-            String::from_utf8_lossy(is),
-            "line {}: {line}",
-            at + 1
-        );
+        assert_eq!(String::from_utf8_lossy(due), String::from_utf8_lossy(is), "line {}: {line}", at + 1);
     }
     assert_eq!(answered, given);
 }
@@ -73,8 +51,5 @@ fn ends_and_bytes() {
     assert_eq!(answers(b""), b"");
     assert_eq!(answers(b"\n"), b"bad line\n");
     assert_eq!(answers(b"12"), b"1 1\n");
-    assert_eq!(
-        answers(b"\xff\n12 \xc3\x28\n12\n"),
-        b"bad line\nbad line\n1 1\n"
-    );
+    assert_eq!(answers(b"\xff\n12 \xc3\x28\n12\n"), b"bad line\nbad line\n1 1\n");
 }

@@ -89,39 +89,21 @@ impl Turn {
         self.load(case);
         let answer = (call.make)(self, case, dice)?;
         let number = answer.number;
-        hold(
-            call.answers.contains(&number),
-            format_args!("{number} is no answer of this call"),
-        )?;
+        hold(call.answers.contains(&number), format_args!("{number} is no answer of this call"))?;
         self.untouched(case)?;
         let same = self.same(case);
-        hold(
-            number == 0 || same.all(),
-            format_args!("refused with {number}, it changed something"),
-        )?;
+        hold(number == 0 || same.all(), format_args!("refused with {number}, it changed something"))?;
         hold(same.within(call.changes), "it changed what it may not")?;
         if call.on_state() {
             self.judged(call, case, number, &same)?;
         }
-        answer
-            .wrote
-            .filter(|_| number == 0)
-            .map_or(Ok(()), |keys| self.written(keys))?;
+        answer.wrote.filter(|_| number == 0).map_or(Ok(()), |keys| self.written(keys))?;
         Ok(number)
     }
 
     fn untouched(&self, case: &Case) -> Result<(), String> {
-        let guards = [
-            &self.log,
-            &self.snapshot,
-            &self.entries,
-            &self.second,
-            &self.out,
-        ];
-        hold(
-            guards.into_iter().all(Guarded::stands),
-            "a word beside a slice changed",
-        )?;
+        let guards = [&self.log, &self.snapshot, &self.entries, &self.second, &self.out];
+        hold(guards.into_iter().all(Guarded::stands), "a word beside a slice changed")?;
         let read = self.entries.words() == case.entries && self.second.words() == case.second;
         hold(read, "a slice that is lent to be read changed")
     }
@@ -129,40 +111,18 @@ impl Turn {
     /// A state that is not well formed is refused with 12, no other is, and what an accepted call leaves is well formed.
     fn judged(&self, call: &Call, case: &Case, number: u64, same: &Same) -> Result<(), String> {
         let before = form::well_formed(&case.state);
-        hold(
-            before || number == 12,
-            format_args!("a state that is not well formed was answered {number}"),
-        )?;
-        hold(
-            !before || number != 12 || call.lists,
-            "a well-formed state was refused with 12",
-        )?;
+        hold(before || number == 12, format_args!("a state that is not well formed was answered {number}"))?;
+        hold(!before || number != 12 || call.lists, "a well-formed state was refused with 12")?;
         if number != 0 || same.state() {
             return Ok(());
         }
-        let after = State {
-            record: self.record,
-            log: self.log.words().to_vec(),
-            snapshot: self.snapshot.words().to_vec(),
-        };
-        hold(
-            form::well_formed(&after),
-            "it left a state that is not well formed",
-        )?;
-        hold(
-            plain::well_formed(after.record, &after.log, &after.snapshot),
-            "it left a state that the library calls ill formed",
-        )
+        let after = State { record: self.record, log: self.log.words().to_vec(), snapshot: self.snapshot.words().to_vec() };
+        hold(form::well_formed(&after), "it left a state that is not well formed")?;
+        hold(plain::well_formed(after.record, &after.log, &after.snapshot), "it left a state that the library calls ill formed")
     }
 
     fn written(&self, keys: usize) -> Result<(), String> {
-        hold(
-            form::snapshot_formed(self.out.words(), keys),
-            "it wrote a snapshot that is not in form",
-        )?;
-        hold(
-            plain::snapshot_formed(self.out.words(), keys),
-            "it wrote a snapshot that the library calls malformed",
-        )
+        hold(form::snapshot_formed(self.out.words(), keys), "it wrote a snapshot that is not in form")?;
+        hold(plain::snapshot_formed(self.out.words(), keys), "it wrote a snapshot that the library calls malformed")
     }
 }

@@ -16,10 +16,7 @@ const UNKNOWN: [u64; 5] = [3, 9, 255, 1 << 32, u64::MAX];
 impl Dice {
     pub fn of(seed: u64) -> Self {
         // The generator stands still at 0.
-        Dice {
-            at: (0x9E37_79B9_7F4A_7C15 ^ seed).max(1),
-            wide: false,
-        }
+        Dice { at: (0x9E37_79B9_7F4A_7C15 ^ seed).max(1), wide: false }
     }
 
     fn roll(&mut self) -> u64 {
@@ -56,18 +53,7 @@ impl Dice {
     /// Any word, one at an end of what there is more often than others.
     pub fn word(&mut self) -> u64 {
         match self.below(3) {
-            0 => self.pick(&[
-                0,
-                1,
-                2,
-                PLACES - 1,
-                PLACES,
-                LARGEST,
-                LARGEST + 1,
-                1 << 63,
-                REMOVED - 1,
-                REMOVED,
-            ]),
+            0 => self.pick(&[0, 1, 2, PLACES - 1, PLACES, LARGEST, LARGEST + 1, 1 << 63, REMOVED - 1, REMOVED]),
             1 => self.roll() >> self.below(64),
             _ => self.roll(),
         }
@@ -89,45 +75,24 @@ impl Dice {
     pub fn index(&mut self, record: &IndexRecord) -> LogIndex {
         let end = record.compacted.0.wrapping_add(record.retained as u64);
         let accepted = end.wrapping_add(record.stop_held as u64);
-        let near = [
-            0,
-            record.compacted.0,
-            record.decided.0,
-            end,
-            accepted,
-            accepted.wrapping_add(record.batched as u64),
-        ];
+        let near = [0, record.compacted.0, record.decided.0, end, accepted, accepted.wrapping_add(record.batched as u64)];
         LogIndex(match self.below(20) {
             0 => self.word(),
             1 => LARGEST - self.below(70),
-            2..=6 => record
-                .compacted
-                .0
-                .wrapping_add(self.below((record.retained as u64).saturating_add(4))),
-            _ => self
-                .pick(&near)
-                .wrapping_add(self.pick(&[0, 0, 1, u64::MAX, 2])),
+            2..=6 => record.compacted.0.wrapping_add(self.below((record.retained as u64).saturating_add(4))),
+            _ => self.pick(&near).wrapping_add(self.pick(&[0, 0, 1, u64::MAX, 2])),
         })
     }
 
     pub fn ballot(&mut self) -> Ballot {
         let mut field = || self.pick(&[0, 1, 2, u32::MAX]);
         let (config_id, n, priority) = (field(), field(), field());
-        Ballot {
-            config_id,
-            n,
-            priority,
-            pid: self.pick(&[0, 1, 2, u64::MAX]),
-        }
+        Ballot { config_id, n, priority, pid: self.pick(&[0, 1, 2, u64::MAX]) }
     }
 
     /// A stop-sign; one in eight is out of form.
     pub fn sign(&mut self) -> StopSign {
-        let mut sign = StopSign {
-            config_id: self.word() as u32,
-            node_count: 1 + self.below(7) as usize,
-            ..StopSign::default()
-        };
+        let mut sign = StopSign { config_id: self.word() as u32, node_count: 1 + self.below(7) as usize, ..StopSign::default() };
         for node in &mut sign.nodes[..sign.node_count] {
             *node = self.word();
         }
@@ -175,10 +140,7 @@ impl Dice {
             match to.len() {
                 0 => to.push(0),
                 len if self.one_in(2) => to.truncate(len - 1),
-                len => {
-                    to[2 * self.below(len as u64 / 2) as usize + 1] =
-                        self.pick(&[PLACES, REMOVED - 1])
-                }
+                len => to[2 * self.below(len as u64 / 2) as usize + 1] = self.pick(&[PLACES, REMOVED - 1]),
             }
         }
     }
@@ -224,16 +186,8 @@ impl Dice {
 
     /// Words of any kind, one slice in two of another length.
     pub fn noise(&mut self, to: &mut Vec<u64>, len: usize) {
-        let len = if self.one_in(2) {
-            len
-        } else {
-            self.pick(&[0, 1, 2, len - 1, len + 1, len + 2, 3000])
-        };
-        let used = if self.one_in(2) {
-            len
-        } else {
-            len.min(self.below(12) as usize)
-        };
+        let len = if self.one_in(2) { len } else { self.pick(&[0, 1, 2, len - 1, len + 1, len + 2, 3000]) };
+        let used = if self.one_in(2) { len } else { len.min(self.below(12) as usize) };
         let few = self.one_in(2);
         to.clear();
         for _ in 0..used {
@@ -243,15 +197,8 @@ impl Dice {
     }
 
     pub fn bound(&mut self, record: &IndexRecord) -> Bound {
-        let kind = if self.one_in(60) {
-            self.pick(&UNKNOWN)
-        } else {
-            self.pick(&[0, 0, 1, 1, 2])
-        };
-        Bound {
-            kind,
-            index: self.index(record),
-        }
+        let kind = if self.one_in(60) { self.pick(&UNKNOWN) } else { self.pick(&[0, 0, 1, 1, 2]) };
+        Bound { kind, index: self.index(record) }
     }
 
     /// The kind of a sync's log part that there is not.
@@ -260,25 +207,13 @@ impl Dice {
     }
 
     fn op(&mut self, record: &IndexRecord) -> Op {
-        let kind = if self.one_in(60) {
-            self.pick(&UNKNOWN[1..])
-        } else {
-            self.below(9)
-        };
-        Op {
-            kind,
-            index: self.index(record),
-            ballot: self.ballot(),
-            given: self.one_in(2),
-        }
+        let kind = if self.one_in(60) { self.pick(&UNKNOWN[1..]) } else { self.below(9) };
+        Op { kind, index: self.index(record), ballot: self.ballot(), given: self.one_in(2) }
     }
 
     /// An operation list. A trim and the compacted index mostly come together, as a list that stands needs them.
     pub fn ops(&mut self, record: &IndexRecord) -> Ops {
-        let mut list = Ops {
-            count: self.pick(&[1, 1, 1, 2, 2, 3, 4, 8]),
-            ..Ops::default()
-        };
+        let mut list = Ops { count: self.pick(&[1, 1, 1, 2, 2, 3, 4, 8]), ..Ops::default() };
         for at in 0..list.ops.len() {
             list.ops[at] = self.op(record);
             let before = list.ops[at.saturating_sub(1)];
@@ -288,10 +223,7 @@ impl Dice {
                 _ => continue,
             };
             if at > 0 && at % 2 == 1 && !self.one_in(5) {
-                list.ops[at] = Op {
-                    kind: pair,
-                    ..before
-                };
+                list.ops[at] = Op { kind: pair, ..before };
             }
         }
         if self.one_in(20) {

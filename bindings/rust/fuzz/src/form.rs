@@ -23,26 +23,18 @@ pub fn entries_formed(words: &[u64]) -> bool {
 /// So many entries in form, and zeros after them.
 fn held_formed(words: &[u64], entries: u128) -> bool {
     let used = 2 * entries;
-    used <= words.len() as u128
-        && entries_formed(&words[..used as usize])
-        && zero(&words[used as usize..])
+    used <= words.len() as u128 && entries_formed(&words[..used as usize]) && zero(&words[used as usize..])
 }
 
 pub fn snapshot_formed(words: &[u64], keys: usize) -> bool {
     words.len() == SHOT_WORDS
         && held_formed(words, keys as u128)
-        && words[..2 * keys]
-            .chunks(2)
-            .zip(words[..2 * keys].chunks(2).skip(1))
-            .all(|(key, next)| key[0] < next[0])
+        && words[..2 * keys].chunks(2).zip(words[..2 * keys].chunks(2).skip(1)).all(|(key, next)| key[0] < next[0])
 }
 
 pub fn sign_formed(sign: &StopSign) -> bool {
     let nodes = sign.nodes.get(sign.node_count..).is_some_and(zero);
-    let metadata = sign
-        .metadata
-        .get(sign.metadata_len..)
-        .is_some_and(|unused| unused.iter().all(|byte| *byte == 0));
+    let metadata = sign.metadata.get(sign.metadata_len..).is_some_and(|unused| unused.iter().all(|byte| *byte == 0));
     sign.node_count > 0 && nodes && metadata && (sign.metadata_held || sign.metadata_len == 0)
 }
 
@@ -51,11 +43,7 @@ fn numbers_formed(record: &IndexRecord) -> bool {
     let batched = record.batched as u128;
     let end = compacted + record.retained as u128;
     let accepted = end + record.stop_held as u128;
-    let log_decided = if record.stop_held && decided == accepted {
-        decided - 1
-    } else {
-        decided
-    };
+    let log_decided = if record.stop_held && decided == accepted { decided - 1 } else { decided };
     let batch = batched == 0 || (batched < record.batch_size as u128 && !record.stop_held);
     record.batch_size <= 64
         && compacted <= log_decided
@@ -76,9 +64,5 @@ pub fn well_formed(state: &State) -> bool {
         false => record.stop == StopSign::default(),
     };
     let entries = record.retained as u128 + record.batched as u128;
-    numbers_formed(record)
-        && stop
-        && shot
-        && state.log.len() == LOG_WORDS
-        && held_formed(&state.log, entries)
+    numbers_formed(record) && stop && shot && state.log.len() == LOG_WORDS && held_formed(&state.log, entries)
 }

@@ -42,13 +42,9 @@ pub fn run(calls: u64, seed: u64) -> Result<Report, String> {
             }
             let sound = case.fill(&reached, &mut dice);
             let call = dice.among(calls::ALL, |call| call.weight);
-            let number = turn.take(call, &case, &mut dice).map_err(|what| {
-                format!(
-                    "call {} from seed {seed}, {}: {what}\n{case:?}",
-                    report.calls() + 1,
-                    call.name
-                )
-            })?;
+            let number = turn
+                .take(call, &case, &mut dice)
+                .map_err(|what| format!("call {} from seed {seed}, {}: {what}\n{case:?}", report.calls() + 1, call.name))?;
             report.count(call, number);
             if sound && number == 0 {
                 turn.leave(&mut reached);

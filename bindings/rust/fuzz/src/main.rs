@@ -6,18 +6,12 @@ use std::{env, process::exit};
 const WHOLE: u64 = 10_000_000;
 
 fn clock() -> u64 {
-    SystemTime::now()
-        .duration_since(UNIX_EPOCH)
-        .map_or(0, |since| since.as_nanos() as u64)
+    SystemTime::now().duration_since(UNIX_EPOCH).map_or(0, |since| since.as_nanos() as u64)
 }
 
 fn main() {
     let words: Vec<String> = env::args().skip(1).collect();
-    let number = |at: usize| {
-        words
-            .get(at)
-            .map(|word| word.parse::<u64>().expect("fuzz [CALLS [SEED]]"))
-    };
+    let number = |at: usize| words.get(at).map(|word| word.parse::<u64>().expect("fuzz [CALLS [SEED]]"));
     let calls = number(0).unwrap_or(WHOLE);
     let seed = number(1).unwrap_or_else(clock);
     println!("{calls} calls from seed {seed}");

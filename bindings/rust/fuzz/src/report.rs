@@ -19,12 +19,7 @@ fn cell(number: u64) -> String {
 
 impl Report {
     pub(crate) fn count(&mut self, call: &Call, number: u64) {
-        *self
-            .counts
-            .entry(call.name)
-            .or_default()
-            .entry(number)
-            .or_default() += 1;
+        *self.counts.entry(call.name).or_default().entry(number).or_default() += 1;
         self.calls += 1;
     }
 
@@ -34,15 +29,9 @@ impl Report {
 
     /// What a call may be answered and was not.
     pub fn missing(&self) -> Vec<String> {
-        let met =
-            |name: &str, n: &u64| self.counts.get(name).is_some_and(|row| row.contains_key(n));
-        let cells = ALL
-            .iter()
-            .flat_map(|call| call.answers.iter().map(|n| (call.name, *n)));
-        cells
-            .filter(|(name, n)| !met(name, n))
-            .map(|(name, n)| format!("{name} {}", cell(n)))
-            .collect()
+        let met = |name: &str, n: &u64| self.counts.get(name).is_some_and(|row| row.contains_key(n));
+        let cells = ALL.iter().flat_map(|call| call.answers.iter().map(|n| (call.name, *n)));
+        cells.filter(|(name, n)| !met(name, n)).map(|(name, n)| format!("{name} {}", cell(n))).collect()
     }
 }
 
@@ -50,18 +39,10 @@ impl fmt::Display for Report {
     fn fmt(&self, f: &mut fmt::Formatter<'_>) -> fmt::Result {
         writeln!(f, "call × refusal × how often (`-` is accepted)")?;
         for (name, row) in &self.counts {
-            let cells: Vec<String> = row
-                .iter()
-                .map(|(n, times)| format!("{}:{times}", cell(*n)))
-                .collect();
+            let cells: Vec<String> = row.iter().map(|(n, times)| format!("{}:{times}", cell(*n))).collect();
             writeln!(f, "  {name:36} {}", cells.join("  "))?;
         }
         let accepted: u64 = self.counts.values().filter_map(|row| row.get(&0)).sum();
-        writeln!(
-            f,
-            "{} calls: {accepted} accepted, {} refused",
-            self.calls,
-            self.calls - accepted
-        )
+        writeln!(f, "{} calls: {accepted} accepted, {} refused", self.calls, self.calls - accepted)
     }
 }

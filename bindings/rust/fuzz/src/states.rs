@@ -24,15 +24,8 @@ pub struct Case {
 
 impl State {
     pub fn fresh(batch_size: u64) -> Self {
-        let record = IndexRecord {
-            batch_size,
-            ..IndexRecord::default()
-        };
-        State {
-            record,
-            log: vec![0; LOG_WORDS],
-            snapshot: vec![0; SHOT_WORDS],
-        }
+        let record = IndexRecord { batch_size, ..IndexRecord::default() };
+        State { record, log: vec![0; LOG_WORDS], snapshot: vec![0; SHOT_WORDS] }
     }
 
     pub fn copy(&mut self, other: &State) {
@@ -45,20 +38,8 @@ impl State {
     fn break_some(&mut self, dice: &mut Dice) {
         for _ in 0..1 + dice.below(3) {
             match dice.below(6) {
-                0 => break_words(
-                    &mut self.log,
-                    2 * self
-                        .record
-                        .retained
-                        .saturating_add(self.record.batched)
-                        .min(LOG_WORDS),
-                    dice,
-                ),
-                1 => break_words(
-                    &mut self.snapshot,
-                    2 * self.record.keys.min(SHOT_WORDS),
-                    dice,
-                ),
+                0 => break_words(&mut self.log, 2 * self.record.retained.saturating_add(self.record.batched).min(LOG_WORDS), dice),
+                1 => break_words(&mut self.snapshot, 2 * self.record.keys.min(SHOT_WORDS), dice),
                 2 if dice.one_in(3) => break_length(&mut self.log, dice),
                 2 if dice.one_in(2) => break_length(&mut self.snapshot, dice),
                 _ => break_record(&mut self.record, dice),
@@ -69,10 +50,7 @@ impl State {
     fn noise(&mut self, dice: &mut Dice) {
         let few = dice.one_in(2);
         let mut number = || if few { dice.below(5) } else { dice.word() };
-        let ballot = Ballot {
-            pid: number(),
-            ..Ballot::default()
-        };
+        let ballot = Ballot { pid: number(), ..Ballot::default() };
         self.record = IndexRecord {
             batch_size: number(),
             retained: number() as usize,
@@ -98,19 +76,7 @@ fn other(n: u64, dice: &mut Dice) -> u64 {
         0 => n ^ 1 << dice.below(64),
         1 => n.wrapping_add(1),
         2 => n.wrapping_sub(1),
-        _ => dice.pick(&[
-            0,
-            1,
-            64,
-            65,
-            512,
-            513,
-            1024,
-            1025,
-            LARGEST,
-            LARGEST + 1,
-            REMOVED,
-        ]),
+        _ => dice.pick(&[0, 1, 64, 65, 512, 513, 1024, 1025, LARGEST, LARGEST + 1, REMOVED]),
     }
 }
 
@@ -119,21 +85,8 @@ fn break_words(words: &mut [u64], used: usize, dice: &mut Dice) {
     if words.is_empty() {
         return;
     }
-    let near = dice.pick(&[
-        0,
-        1,
-        2,
-        used.saturating_sub(2),
-        used.saturating_sub(1),
-        used,
-        used + 1,
-        words.len() - 1,
-    ]);
-    let at = if dice.one_in(2) {
-        near.min(words.len() - 1)
-    } else {
-        dice.below(words.len() as u64) as usize
-    };
+    let near = dice.pick(&[0, 1, 2, used.saturating_sub(2), used.saturating_sub(1), used, used + 1, words.len() - 1]);
+    let at = if dice.one_in(2) { near.min(words.len() - 1) } else { dice.below(words.len() as u64) as usize };
     words[at] = match dice.below(3) {
         0 => words[at] ^ 1 << dice.below(64),
         _ => dice.pick(&[0, 1, PLACES - 1, PLACES, REMOVED - 1, REMOVED]),
@@ -142,19 +95,7 @@ fn break_words(words: &mut [u64], used: usize, dice: &mut Dice) {
 
 fn break_length(words: &mut Vec<u64>, dice: &mut Dice) {
     let len = words.len();
-    words.resize(
-        dice.pick(&[
-            0,
-            1,
-            2,
-            len - len.min(2),
-            len - len.min(1),
-            len + 1,
-            len + 2,
-            2 * len,
-        ]),
-        0,
-    );
+    words.resize(dice.pick(&[0, 1, 2, len - len.min(2), len - len.min(1), len + 1, len + 2, 2 * len]), 0);
 }
 
 fn break_sign(sign: &mut StopSign, dice: &mut Dice) {
@@ -203,31 +144,11 @@ impl Case {
 
 impl fmt::Debug for Case {
     fn fmt(&self, f: &mut fmt::Formatter<'_>) -> fmt::Result {
-        let used = |words: &[u64]| {
-            words
-                .iter()
-                .rposition(|word| *word != 0)
-                .map_or(0, |last| last + 1)
-        };
+        let used = |words: &[u64]| words.iter().rposition(|word| *word != 0).map_or(0, |last| last + 1);
         writeln!(f, "{:?}", self.state.record)?;
-        let slices = [
-            &self.state.log,
-            &self.state.snapshot,
-            &self.entries,
-            &self.second,
-            &self.out,
-        ];
-        for (name, words) in ["log", "snapshot", "entries", "second", "out"]
-            .into_iter()
-            .zip(slices)
-        {
-            writeln!(
-                f,
-                "{name}: {} words, then zeros up to {}: {:?}",
-                used(words),
-                words.len(),
-                &words[..used(words).min(40)]
-            )?;
+        let slices = [&self.state.log, &self.state.snapshot, &self.entries, &self.second, &self.out];
+        for (name, words) in ["log", "snapshot", "entries", "second", "out"].into_iter().zip(slices) {
+            writeln!(f, "{name}: {} words, then zeros up to {}: {:?}", used(words), words.len(), &words[..used(words).min(40)])?;
         }
         write!(f, "keys said of the second: {}", self.keys)
     }

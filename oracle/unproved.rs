@@ -1,6 +1,6 @@
 
 /// How an argument goes to a function of an unproved module: a number as it is, anything else as a pointer to it.
-trait Passed {
+pub(crate) trait Passed {
     type As;
     fn pass(&self) -> Self::As;
 }

@@ -1,6 +1,6 @@
 -- A walk over the first n entries that compares neighbours and keeps a flag: at i the flag and the order of the rest are together
 -- what is asked.
-use Prim.Native.Nat.{ℕ, suc, _+_, _<_, _≤_, _*_}
+use Prim.Native.Nat.{ℕ, zero, suc, _+_, _<_, _≤_, _*_}
 use mathlib.Core.Path.{_≡_, refl, sym, ap, _∙_}
 use mathlib.Core.Bool.{Bool, true, _&&_, and-true, and-assoc}
 use mathlib.Core.List.{List, [], _∷_}
@@ -8,6 +8,8 @@ use native.Mathlib.Omega.{arith}
 use native.Mathlib.Numerals.{add-one}
 use lib.Dec.{ltb}
 use lib.ListN.{length, drop, length-drop, getD}
+use borrow.Author.Tests.{ltb-true}
+use Rattle.words.proofs.Tests.{and-left, and-right}
 use Rattle.words.proofs.CodedLaws.{entries-length}
 use Rattle.entry.specs.Limits.{width}
 use Rattle.entry.specs.Change.{Change, changeCode, entriesOf}
@@ -45,3 +47,19 @@ module _ (n : ℕ) (ws : List ℕ) (i : ℕ) (ok asked : Bool) (so : (ok && risi
       ∙ ap (λ (t : Bool). ok && t) (sym (rising-two e f m))
       ∙ ap (λ (l : List Change). ok && rising l) (sym both)
       ∙ so
+
+-- where all ascend, so do the entries from any on, and each key is below the next
+module _ (n : ℕ) (ws : List ℕ) (up : rising (entriesOf n ws) ≡ true) where
+  turn : (i : ℕ) → rising (drop i (entriesOf n ws)) ≡ true → i + 1 < n → (getD ws (i * width) 0 < getD ws ((i + 1) * width) 0) × (rising (drop (i + 1) (entriesOf n ws)) ≡ true)
+  turn i e h =
+      let a : ℕ = getD ws (i * width) 0 in
+      let b : ℕ = getD ws ((i + 1) * width) 0 in
+      let both = rising-turn n ws i true true e h in
+      (ltb-true a b (and-left (true && ltb a b) (rising (drop (i + 1) (entriesOf n ws))) both), and-right (true && ltb a b) (rising (drop (i + 1) (entriesOf n ws))) both)
+
+  from : (i : ℕ) → i < n → rising (drop i (entriesOf n ws)) ≡ true
+  from zero h = up
+  from (suc i) h = rw (sym (add-one i)) (turn i (from i (omega arith)) (omega arith) .1)
+
+  pub keys-climb : (i : ℕ) → i + 1 < n → getD ws (i * width) 0 < getD ws ((i + 1) * width) 0
+  keys-climb i h = turn i (from i (omega arith)) h .0

@@ -16,10 +16,11 @@ use Rattle.words.proofs.CodedLaws.{entries-length}
 use Rattle.entry.specs.Limits.{width}
 use Rattle.entry.specs.Change.{Change, changeCode, entriesOf}
 use Rattle.entry.proofs.ChangeLaws.{changeAt, entry-cons}
-use Rattle.snapshot.specs.Folds.{insert}
-use Rattle.snapshot.specs.Inner.{place, here, spotOf}
+use Rattle.snapshot.specs.Folds.{insert, rising}
+use Rattle.snapshot.specs.Inner.{place, here, spotOf, Passed}
 use Rattle.snapshot.specs.declared.inner.Spot.the-variants.{At, Before}
 use Rattle.snapshot.proofs.Folds.{insert-below, insert-same, insert-above}
+use Rattle.snapshot.proofs.Rising.{keys-climb}
 
 module _ (e : Change) (es : List Change) (k : ℕ) where
   pub place-below : e .key < k → place (e ∷ es) k ≡ suc (place es k)
@@ -41,11 +42,6 @@ module _ (e : Change) (es : List Change) (k : ℕ) where
 pub here-nil : (k : ℕ) → here [] k ≡ false
 unfolding here
 here-nil k = refl
-
--- i entries are passed: the answer for all is the answer for the rest
-pub record Passed (es : List Change) (k i : ℕ) : Type 0 where
-  pub placed : place es k ≡ i + place (drop i es) k
-  pub found : here es k ≡ here (drop i es) k
 
 pub passed-none : (es : List Change) (k : ℕ) → Passed es k 0
 passed-none es k = record { placed = omega arith; found = refl }
@@ -87,6 +83,24 @@ module _ (n : ℕ) (ws : List ℕ) (k i : ℕ) (p : Passed (entriesOf n ws) k i)
 
       pub search-before : (getD ws (i * width) 0 ≡ k → ⊥) → Before i ≡ spotOf (entriesOf n ws) k
       search-before e = spot-is false i (tests ∙ ne-eqb (getD ws (i * width) 0) k e) stops
+
+-- four entries are below a key where the last of them is
+pub pass-four : (n : ℕ) (ws : List ℕ) (k i : ℕ) → rising (entriesOf n ws) ≡ true → Passed (entriesOf n ws) k i → i + 4 ≤ n → getD ws ((i + 3) * width) 0 < k → Passed (entriesOf n ws) k (i + 4)
+pass-four n ws k i up p h l =
+    let c : getD ws ((i + 1 + 1 + 1) * width) 0 < k = rw (three i) at l in
+    let b₂ : getD ws ((i + 1 + 1) * width) 0 < getD ws ((i + 1 + 1 + 1) * width) 0 = keys-climb n ws up (i + 1 + 1) (omega arith) in
+    let b₁ : getD ws ((i + 1) * width) 0 < getD ws ((i + 1 + 1) * width) 0 = keys-climb n ws up (i + 1) (omega arith) in
+    let b₀ : getD ws (i * width) 0 < getD ws ((i + 1) * width) 0 = keys-climb n ws up i (omega arith) in
+    let p₁ = search-more n ws k i p (omega arith) (omega arith) in
+    let p₂ = search-more n ws k (i + 1) p₁ (omega arith) (omega arith) in
+    let p₃ = search-more n ws k (i + 1 + 1) p₂ (omega arith) (omega arith) in
+    rw (four i) (search-more n ws k (i + 1 + 1 + 1) p₃ (omega arith) c)
+  where
+    three : (j : ℕ) → j + 3 ≡ j + 1 + 1 + 1
+    three j = omega arith
+
+    four : (j : ℕ) → j + 4 ≡ j + 1 + 1 + 1 + 1
+    four j = omega arith
 
 -- what a spot says
 pub spot-at : (es : List Change) (k i : ℕ) → spotOf es k ≡ At i → (here es k ≡ true) × (place es k ≡ i)

@@ -10,7 +10,7 @@ ghost use Rattle.entry.specs.Limits.{width};
 ghost use Rattle.entry.specs.Change.{change, saidOf, saidFormed, entriesOf};
 ghost use Rattle.snapshot.specs.Folds.{rising, insert, foldOnto};
 ghost use Rattle.snapshot.specs.Calls.{outcome, folded};
-ghost use Rattle.snapshot.specs.Inner.{spotOf, Holds, Shows, FoldIs, Aside, foldedOut};
+ghost use Rattle.snapshot.specs.Inner.{spotOf, Passed, Holds, Shows, FoldIs, Aside, foldedOut};
 
 // Whether the keys of the first n entries ascend strictly.
 pub fn keys_ascend(s: &[u64], n: usize) -> bool
@@ -34,13 +34,30 @@ pub enum Spot {
     Before(usize),
 }
 
-// A search that stops at the first key not below the one asked for. It asks for ascending keys, though a walk from the front does
-// not need them: what it finds is the key's place only among such.
+// How many entries a search may pass: four at a time, while the last of them, and so each, is below the key.
+fn pass_fours(s: &[u64], n: usize, key: u64) -> usize
+    requires { ⌜ Holds (length (now s)) n (now s) ⌝ }
+    ensures { λ i. ⌜ (i ≤ n) × Passed (entriesOf n (now (s .entry))) key i ⌝ }
+{
+    let mut i = 0;
+    loop {
+        if n - i < 4 {
+            break i;
+        }
+        let at = (i + 3) * entry::WIDTH;
+        if key <= s[at] {
+            break i;
+        }
+        i += 4;
+    }
+}
+
+// A search that stops at the first key not below the one asked for.
 pub fn search(s: &[u64], n: usize, key: u64) -> Spot
     requires { ⌜ Holds (length (now s)) n (now s) ⌝ }
     ensures { λ r. ⌜ r ≡ spotOf (entriesOf n (now (s .entry))) key ⌝ }
 {
-    let mut i = 0;
+    let mut i = pass_fours(s, n, key);
     loop {
         if n <= i {
             break Spot::Before(i);

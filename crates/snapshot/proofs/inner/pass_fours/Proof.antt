@@ -1,0 +1,69 @@
+-- `snapshot::inner::pass_fours` meets its contract.
+use Prim.Native.Nat.{_≤_, _-_}
+use native.Mathlib.Omega.{arith}
+use denote.Ref.{now}
+use Rattle.entry.specs.Change.{entriesOf}
+use Rattle.snapshot.specs.Inner.{Passed}
+use Rattle.snapshot.proofs.Searching.{passed-none, pass-four}
+use Rattle.snapshot.proofs.inner.pass_fours.Statement.{statement}
+use Rattle.snapshot.proofs.inner.pass_fours.Tie as tie
+
+abbrev Inv-loop : tie.InvT-loop
+Inv-loop s n key i₀ i = (i ≤ n) × Passed (entriesOf n s) key i
+
+abbrev μ-loop : tie.MeasureT-loop
+μ-loop s n key i₀ i = n - i
+
+loop-holds : tie.Need-loop-holds Inv-loop μ-loop
+loop-holds c = (omega arith, passed-none _ _)
+
+sub-if1 : tie.Need-sub-if1 Inv-loop μ-loop
+sub-if1 c = omega arith
+
+add-at : tie.Need-add-at Inv-loop μ-loop
+add-at c = omega arith
+
+mul-at : tie.Need-mul-at Inv-loop μ-loop
+mul-at c = omega arith
+
+mul-if2 : tie.Need-mul-if2 Inv-loop μ-loop
+mul-if2 c = omega arith
+
+shared-slice-read-if2 : tie.Need-shared-slice-read-if2 Inv-loop μ-loop
+shared-slice-read-if2 c = omega arith
+
+add-i : tie.Need-add-i Inv-loop μ-loop
+add-i c = omega arith
+
+loop-less : tie.Need-loop-less Inv-loop μ-loop
+loop-less c = omega arith
+
+loop-again : tie.Need-loop-again Inv-loop μ-loop
+loop-again c =
+    let l = c .before .before .before in
+    let a = l .before .args in
+    (omega arith, pass-four (a .n) (now (a .s)) (a .key) (l .loop .i) (l .before .pre .rises) (l .loop .inv .1) (omega arith) (c .if2 .left))
+
+returns : tie.Need-returns Inv-loop μ-loop
+returns c = c .before .loop .inv
+
+returns-2 : tie.Need-returns-2 Inv-loop μ-loop
+returns-2 c = c .before .before .before .loop .inv
+
+pub pass-fours-spec : {M : Type 1} → statement M
+pass-fours-spec =
+    tie.close
+    (tie.spec
+    Inv-loop
+    μ-loop
+    loop-holds
+    sub-if1
+    add-at
+    mul-at
+    mul-if2
+    shared-slice-read-if2
+    add-i
+    loop-less
+    loop-again
+    returns
+    returns-2)

@@ -311,6 +311,88 @@ fn lists(meter: &mut Meter, state: &str, both: &Both, sixteen: &[Entry], changes
     }
 }
 
+/// A fresh log, and one reloaded after a restart.
+fn starts(meter: &mut Meter) {
+    for (state, keys, entries) in STATES {
+        let both = Both::with(keys, entries);
+        let row = "load_cache";
+        let (record, mut log, snapshot) = both.lent();
+        let said = meter.of("call", row, &format!("lent, {state}"), || {
+            plain::load_cache(record, &mut log, &snapshot)
+        });
+        assert_eq!(said.said.number, 0);
+        let shared = Shared::of(both.held.clone());
+        meter.of("call", row, &format!("Rust, {state}"), || {
+            InternalStorage::with(shared, InternalStorageConfig { batch_size: 0 })
+        });
+        let row = "fresh (over such words)";
+        let (_, mut log, mut snapshot) = both.lent();
+        let said = meter.of("call", row, &format!("lent, {state}"), || {
+            plain::fresh(0, &mut log, &mut snapshot)
+        });
+        assert_eq!(said.said.number, 0);
+    }
+}
+
+/// Folds, merges and finds, beside the Rust's snapshot, which is a BTreeMap.
+fn snapshots(meter: &mut Meter) {
+    for n in [0, 64, 512] {
+        let row = |what: &str| format!("{what}, {n}");
+        let run: Vec<Entry> = (0..n).map(|i| Entry::put(key(i), BlockPlace(i))).collect();
+        let changes: Vec<Change> = run.iter().map(changed).collect();
+        let folded = meter.of("snapshot", &row("fold of entries"), "ours", || {
+            Snapshot::fold(&run)
+        });
+        let made = meter.of("snapshot", &row("fold of entries"), "Rust", || {
+            Keys::create(&changes)
+        });
+        let (folded, later) = (
+            folded.unwrap(),
+            Snapshot::fold(&run[..run.len() / 2]).unwrap(),
+        );
+        let mut both = made.clone();
+        let delta = Keys::create(&changes[..changes.len() / 2]);
+        let merged = meter.of("snapshot", &row("merge of half onto keys"), "ours", || {
+            folded.merge(&later)
+        });
+        meter.of("snapshot", &row("merge of half onto keys"), "Rust", || {
+            both.merge(delta)
+        });
+        assert_eq!(
+            merged
+                .unwrap()
+                .entries()
+                .iter()
+                .map(changed)
+                .collect::<Vec<_>>(),
+            listed(&both)
+        );
+        let last = black_box(folded.entries().last().map_or(1, Entry::key));
+        let found = meter.of("snapshot", &row("find of the last of keys"), "ours", || {
+            folded.find(last)
+        });
+        let place = meter.of("snapshot", &row("find of the last of keys"), "Rust", || {
+            made.0.get(&last).copied().flatten()
+        });
+        assert_eq!(found.map(|p| p.0), place);
+    }
+}
+
+fn changed(entry: &Entry) -> Change {
+    Change {
+        key: entry.key(),
+        place: entry.place().map(|p| p.0),
+    }
+}
+
+fn listed(keys: &Keys) -> Vec<Change> {
+    let one = |(key, place): (&u64, &Option<u64>)| Change {
+        key: *key,
+        place: *place,
+    };
+    keys.0.iter().map(one).collect()
+}
+
 /// What a Rust program would write for lookup: the newest decided entry, else the snapshot.
 fn scan(held: &Backend, key: u64) -> Option<u64> {
     let decided = &held.log[..held.decided - held.start];
@@ -428,6 +510,8 @@ fn growth(meter: &mut Meter) {
 
 fn measure(meter: &mut Meter) {
     calls(meter);
+    starts(meter);
+    snapshots(meter);
     lookups(meter);
     growth(meter);
 }

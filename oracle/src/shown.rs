@@ -210,6 +210,8 @@ pub fn run(before: &str, counts: &str, times: Option<&String>) {
     print_bars(&before, &counts);
     println!("## Each call: instructions\n");
     print_calls(&counts, &counts);
+    println!("## Snapshots: instructions\n");
+    print_whole(&counts, &counts, "snapshot", "what, and of how many");
     println!("## Lookup: instructions\n");
     print_whole(&counts, &counts, "lookup", "the key is");
     println!("## How cost grows: instructions\n");
@@ -218,6 +220,8 @@ pub fn run(before: &str, counts: &str, times: Option<&String>) {
         let times = figures(times);
         println!("## Each call: nanoseconds\n");
         print_calls(&counts, &times);
+        println!("## Snapshots: nanoseconds\n");
+        print_whole(&counts, &times, "snapshot", "what, and of how many");
         println!("## Lookup: nanoseconds\n");
         print_whole(&counts, &times, "lookup", "the key is");
         println!("## How cost grows: nanoseconds\n");

@@ -327,7 +327,9 @@ impl<S: Sight> Judge<S> {
                 let rust = self
                     .storage
                     .sync_log(*round, *decided as usize, Some(log_sync(p)));
-                if rust.unwrap() as u64 != accepted || self.apart(&due).is_err() {
+                // Its base goes past the old decided index: over the library that may be refused for room.
+                let same = rust.is_ok_and(|idx| idx as u64 == accepted);
+                if !same || self.apart(&due).is_err() {
                     *self = Judge::of(&due);
                     return Ok(Verdict::Listed("a delta sync"));
                 }

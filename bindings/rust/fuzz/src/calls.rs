@@ -42,8 +42,15 @@ impl Call {
     }
 }
 
+/// A refusal says its number and what it carries, and nothing else.
+fn plainly(said: Said) -> Result<u64, String> {
+    let more = (said.told, said.first, said.second);
+    hold(said.number == 0 || more == (0, 0, 0), format_args!("a refusal tells {more:?}"))?;
+    Ok(said.number)
+}
+
 fn said(said: Said) -> Result<Answer, String> {
-    Ok(Answer { number: said.number, wrote: None })
+    Ok(Answer { number: plainly(said)?, wrote: None })
 }
 
 fn reply(turn: &mut Turn, reply: Reply) -> Result<Answer, String> {
@@ -53,7 +60,7 @@ fn reply(turn: &mut Turn, reply: Reply) -> Result<Answer, String> {
 
 /// A snapshot of so many keys in the output.
 fn wrote(said: Said, keys: u64) -> Result<Answer, String> {
-    Ok(Answer { number: said.number, wrote: Some(keys as usize) })
+    Ok(Answer { number: plainly(said)?, wrote: Some(keys as usize) })
 }
 
 /// An answer of a test of form, beside that of another reading.

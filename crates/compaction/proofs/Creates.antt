@@ -2,21 +2,22 @@
 use Prim.Native.Nat.{ℕ, _+_, _-_, _≤_, _<_}
 use mathlib.Core.Path.{_≡_, refl, sym, ap, _∙_}
 use mathlib.Core.Bool.{Bool, true, false}
-use mathlib.Core.List.{List, [], _∷_}
+use mathlib.Core.List.{List}
+use mathlib.Core.Option.{some}
 use native.Mathlib.Omega.{arith}
 use borrow.Author.Tests.{lt-ltb, le-ltb}
 use lib.Dec.{ltb}
-use Rattle.words.specs.If.{if_then_else_}
 use Rattle.entry.specs.Change.{Change}
 use Rattle.entry.specs.Guards.{Verdict, passes, refuses, first, Answer, refused, settle}
 use Rattle.entry.proofs.GuardLaws.{passing, stopping, found, first-goes-on}
-use Rattle.snapshot.specs.Calls.{outcome as shotOutcome, written, overRoom}
-use Rattle.snapshot.specs.Inner.{foldedOut}
-use Rattle.model.specs.Numbers.{Numbers, logDecided}
-use Rattle.model.specs.Log.{Log, foldedTo}
-use Rattle.model.specs.Compact.{target, createGuards, created}
+use Rattle.snapshot.specs.Calls.{outcome as shotOutcome, written, foldGuards}
+use Rattle.snapshot.specs.Inner.{foldWritten, foldedOut}
+use Rattle.model.specs.Numbers.{Numbers}
+use Rattle.model.specs.Log.{Log, numbersOf, foldedTo}
+use Rattle.model.specs.Compact.{target, pastDecided, foldedUpto, createGuards, created}
 use Rattle.model.specs.Calls.{Call, query, create, malformed, further, queryGuards, effect, replyOf, queryReply}
 use Rattle.model.proofs.Forms.{Sound, ranges}
+use Rattle.model.proofs.Keeps.{target-least}
 use Rattle.state_cache.specs.State.{Raw, numbersIn, formed, logOf}
 use Rattle.state_cache.specs.Run.{Outcome, run}
 use Rattle.state_cache.proofs.Stands.{Stands, stands-of}
@@ -26,13 +27,8 @@ use Rattle.compaction.specs.Written.{writtenOut}
 use Rattle.compaction.proofs.Folding.{fold-is}
 
 -- no target is below compacted that is asked for at or above it
-pub target-from : (i : ℕ) (n : Numbers) → Sound n → n .compacted ≤ i → n .compacted ≤ target i n
-unfolding target
-target-from i n f h = go (ltb i (n .decided))
-  where
-    go : (t : Bool) → n .compacted ≤ (if t then i else logDecided n)
-    go true = h
-    go false = ranges n f .low
+pub target-from : (i : ℕ) (n : Numbers) → Sound n → n .compacted ≤ i → n .compacted ≤ target (some i) n
+target-from i n f h = omega (arith, target-least i n, ranges n f .low)
 
 module _ (r : Raw) (i : ℕ) (out : List ℕ) where
   abbrev c : Call
@@ -73,21 +69,21 @@ module _ (r : Raw) (i : ℕ) (out : List ℕ) where
       from : ltb i (s .run .compacted) ≡ false
       from = le-ltb i (s .run .compacted) (omega (arith, st .run .start, low))
 
-      pub create-above : r .index .decided .0 < i → shotOutcome (refused 2 (r .index .decided .0)) out ≡ writtenOut (run c true r .answer) out
+      pub create-above : pastDecided (some i) (numbersIn (r .index)) ≡ true → shotOutcome (refused 2 (r .index .decided .0)) out ≡ writtenOut (run c true r .answer) out
       unfolding further queryGuards createGuards
       create-above h =
           told (refuses 2 (r .index .decided .0))
           (found {gs = createGuards i s} {v = refuses 2 (r .index .decided .0)}
-          (passing from (stopping (lt-ltb (s .marks .decided) i (omega (arith, st .marks .index, h))) (sym (st .marks .index)))))
+          (passing from (stopping (rw (numbers r ok) h) (sym (st .marks .index)))))
 
-      pub create-folds : i ≤ r .index .decided .0 → (to : ℕ) → to ≡ target i (numbersIn (r .index)) → to ≤ r .index .compacted .0 + r .index .retained
+      pub create-folds : pastDecided (some i) (numbersIn (r .index)) ≡ false → (to : ℕ) → to ≡ target (some i) (numbersIn (r .index)) → to ≤ r .index .compacted .0 + r .index .retained
           → foldedOut (r .index .keys) (r .snapshot) (to - r .index .compacted .0) (r .log) out ≡ writtenOut (run c true r .answer) out
       create-folds h to e in-run =
-          ap (λ (es : List Change). written (first (overRoom es ∷ [])) es out) (fold-is r ok to in-run ∙ asked) ∙ told (first (overRoom (created i s) ∷ [])) verdict
+          ap (λ (es : List Change). foldWritten es out) (fold-is r ok to in-run ∙ asked) ∙ told (first (foldGuards (created i s))) verdict
         where
           asked : foldedTo to (s .run) ≡ created i s
-          asked = unfold created in ap (λ (j : ℕ). foldedTo j (s .run)) (e ∙ ap (target i) (sym (numbers r ok)))
+          asked = unfold foldedUpto in ap (λ (j : ℕ). foldedTo j (s .run)) (e ∙ ap (target (some i)) (sym (numbers r ok)))
 
-          verdict : first (overRoom (created i s) ∷ []) ≡ first (further c s)
+          verdict : first (foldGuards (created i s)) ≡ first (further c s)
           verdict = unfold further queryGuards createGuards in
-              sym (first-goes-on 3 (s .run .compacted) (ltb i (s .run .compacted)) _ from ∙ first-goes-on 2 (s .marks .decided) (ltb (s .marks .decided) i) _ (le-ltb (s .marks .decided) i (omega (arith, st .marks .index, h))))
+              sym (first-goes-on 3 (s .run .compacted) (ltb i (s .run .compacted)) _ from ∙ first-goes-on 2 (s .marks .decided) (pastDecided (some i) (numbersOf s)) _ (rw (numbers r ok) h))

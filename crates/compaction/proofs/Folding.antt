@@ -1,18 +1,16 @@
 -- The entries below an index folded onto the held snapshot, on a lent state: the model's `foldedTo`.
 use Prim.Native.Nat.{ℕ, _+_, _-_, _≤_}
-use mathlib.Core.Path.{_≡_, refl, sym, ap, ap₂, _∙_}
-use mathlib.Core.Bool.{Bool, true, false}
-use mathlib.Core.List.{List, [], _∷_}
+use mathlib.Core.Path.{_≡_, sym, ap₂, _∙_}
+use mathlib.Core.Bool.{true}
+use mathlib.Core.List.{List}
 use native.Mathlib.Omega.{arith}
 use lib.ListN.{length, take}
 use Rattle.words.proofs.Alls.{all-take}
 use Rattle.words.proofs.CodedLaws.{entries-take}
 use Rattle.entry.specs.Limits.{snapshotWords}
-use Rattle.entry.specs.Change.{Change, changeCode, changeFormed, entriesOf, stored}
-use Rattle.entry.specs.Guards.{guard, first, Answer, refused, replied}
+use Rattle.entry.specs.Change.{changeCode, changeFormed, entriesOf}
 use Rattle.entry.proofs.SliceLaws.{stored-entries}
 use Rattle.snapshot.specs.Folds.{foldOnto, merge}
-use Rattle.snapshot.specs.Calls.{Outcome, outcome, written}
 use Rattle.snapshot.specs.Inner.{Aside}
 use Rattle.model.specs.Numbers.{Numbers, endOf, logDecided}
 use Rattle.model.specs.Log.{Log, orEmpty, foldedTo}
@@ -57,23 +55,3 @@ module _ (r : Raw) (ok : formed r ≡ true) where
           };
           room = roomy;
         }
-
--- what a fold's answer tells
-abbrev refusing : Answer ℕ → ℕ
-refusing (refused n k) = 1
-refusing (replied n) = 0
-
-abbrev keysIn : Answer ℕ → ℕ
-keysIn (refused n k) = 0
-keysIn (replied n) = n
-
-module _ (es : List Change) (out exit : List ℕ) where
-  pub fold-wrote : (k : ℕ) (t : Bool) → outcome (replied k) exit ≡ written (first (guard 8 0 t ∷ [])) es out → (t ≡ false) × (k ≡ length es) × (exit ≡ stored snapshotWords es)
-  unfolding first
-  fold-wrote k true e = let z : _≡_ {A = ℕ} 0 1 = ap (λ (o : Outcome). refusing (o .answer)) e in absurd (omega arith)
-  fold-wrote k false e = (refl, ap (λ (o : Outcome). keysIn (o .answer)) e, ap (λ (o : Outcome). o .output) e)
-
-  pub fold-left : (n k : ℕ) (t : Bool) → outcome (refused n k) exit ≡ written (first (guard 8 0 t ∷ [])) es out → (t ≡ true) × (exit ≡ out)
-  unfolding first
-  fold-left n k true e = (refl, ap (λ (o : Outcome). o .output) e)
-  fold-left n k false e = let z : _≡_ {A = ℕ} 1 0 = ap (λ (o : Outcome). refusing (o .answer)) e in absurd (omega arith)

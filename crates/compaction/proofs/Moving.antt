@@ -1,60 +1,97 @@
--- The run's start moved up, on a lent state that stands for a log: the model's `movedTo`.
+-- A trim or a snapshot of a lent state: refusal 2, where it ends, and the run's start moved up there, the model's `movedTo`.
 use Prim.Native.Nat.{ℕ, _+_, _-_, _≤_, _<_}
 use mathlib.Core.Path.{_≡_, refl, sym, ap, _∙_}
 use mathlib.Core.Bool.{Bool, true, false}
-use mathlib.Core.List.{List, []}
-use mathlib.Core.Option.{Option}
+use mathlib.Core.List.{List, [], _∷_, _++_}
+use mathlib.Core.Option.{Option, some}
 use native.Mathlib.Omega.{arith}
-use borrow.Author.Tests.{lt-ltb, le-ltb, ltb-true}
+use borrow.Author.Tests.{lt-ltb, le-ltb}
 use lib.Dec.{ltb}
 use lib.ListN.{length, length-drop}
-use Rattle.words.specs.If.{if_then_else_}
 use Rattle.words.specs.Coded.{wordsOf}
 use Rattle.words.proofs.CodedLaws.{spliced-trim}
 use Rattle.entry.specs.Limits.{logWords, snapshotWords}
 use Rattle.entry.specs.Change.{Change, stored}
-use Rattle.entry.specs.Guards.{passes, refuses, refused, replied}
-use Rattle.entry.proofs.GuardLaws.{clear-all, passing, stopping, found}
-use Rattle.model.specs.Numbers.{Numbers, logDecided, endOf}
+use Rattle.entry.specs.Guards.{Guard, passes, refuses, first, replied}
+use Rattle.entry.specs.Refusals.{numberOf, carriedOf}
+use Rattle.entry.proofs.GuardLaws.{first-left, first-right}
+use Rattle.model.specs.Numbers.{Numbers, endOf}
 use Rattle.model.specs.Log.{Log, numbersOf, given, orEmpty}
-use Rattle.model.specs.Compact.{target, trimGuards, movedTo, trimmedTo}
-use Rattle.model.specs.Calls.{trim, malformed, further, effect, replyOf}
-use Rattle.model.proofs.Forms.{Sound, ranges}
+use Rattle.model.specs.Compact.{target, aboveDecided, trimGuards, passesStart, movedTo, trimmedTo}
+use Rattle.model.specs.Calls.{Call, trim, malformed, further, effect, replyOf}
+use Rattle.model.proofs.Forms.{ranges}
+use Rattle.model.proofs.Keeps.{target-range}
 use Rattle.state_cache.specs.State.{Raw, raw, numbersIn, formed, logOf}
-use Rattle.state_cache.specs.Run.{outcome, run}
+use Rattle.state_cache.specs.Run.{outcome, run, settled}
 use Rattle.state_cache.specs.declared.IndexRecord.{IndexRecord}
-use Rattle.state_cache.proofs.Small.{accepted-le}
-use Rattle.state_cache.proofs.Stands.{Stands, stands-of, log-formed}
+use Rattle.state_cache.specs.declared.Settled.{Settled}
+use Rattle.state_cache.specs.declared.Settled.the-variants.{Done, Refused}
+use Rattle.state_cache.proofs.Stands.{Stands, stands-of, log-formed, ready-of}
 use Rattle.state_cache.proofs.Runs.{call-refused, call-stands}
 use Rattle.state_cache.proofs.Changes.{log-spliced}
 use Rattle.internal_storage.proofs.Effects.{numbers}
-use Rattle.compaction.specs.Moves.{Moved}
+use Rattle.compaction.specs.Inner.{pastVerdict, Stay, Up, Movable, Moved}
 
--- the target is at most the end: what is decided is held or compacted
-pub target-in : (i : ℕ) (n : Numbers) → Sound n → target i n ≤ n .compacted + n .retained
-unfolding target endOf
-target-in i n f = go (ltb i (n .decided)) refl
-  where
-    go : (t : Bool) → ltb i (n .decided) ≡ t → (if t then i else logDecided n) ≤ n .compacted + n .retained
-    go true e = omega (arith, ltb-true i (n .decided) e, f .high, accepted-le n)
-    go false e = ranges n f .high
-
-module _ (r : Raw) (ok : formed r ≡ true) where
+module _ (r : Raw) (ok : formed r ≡ true) (upto : Option ℕ) where
   abbrev s : Log
   s = logOf r
 
   st : Stands s r
   st = stands-of r ok
 
-  -- the snapshot then held is given, with its words
-  module _ (to : ℕ) (held : Bool) (keys : ℕ) (y : IndexRecord) (words : List ℕ) (m : Moved to held keys (r .index) (r .log) y words) (up : r .index .compacted .0 < to) (in-run : to ≤ r .index .compacted .0 + r .index .retained) where
+  target-is : target upto (numbersOf s) ≡ target upto (numbersIn (r .index))
+  target-is = ap (target upto) (numbers r ok)
+
+  -- what is decided is held or compacted
+  pub target-in : target upto (numbersIn (r .index)) ≤ r .index .compacted .0 + r .index .retained
+  target-in =
+      let f = ready-of r ok .numbers in
+      unfold endOf in omega (arith, target-range upto (numbersIn (r .index)), ranges (numbersIn (r .index)) f .high)
+
+  -- refusal 2 stands first among those of a trim and of a snapshot
+  module _ (c : Call) (more : List Guard) (is : further c s ≡ aboveDecided upto (numbersOf s) ∷ more) where
+    guards-are : first (further c s) ≡ first ((aboveDecided upto (numbersIn (r .index)) ∷ []) ++ more)
+    guards-are = ap first is ∙ ap (λ (n : Numbers). first (aboveDecided upto n ∷ more)) (numbers r ok)
+
+    pub past-stops : (n k : ℕ) → refuses n k ≡ pastVerdict upto (r .index) → refuses n k ≡ first (further c s)
+    past-stops n k e = first-left (aboveDecided upto (numbersIn (r .index)) ∷ []) more n k e ∙ sym guards-are
+
+    pub past-goes-on : passes ≡ pastVerdict upto (r .index) → first (further c s) ≡ first more
+    past-goes-on e = guards-are ∙ first-right (aboveDecided upto (numbersIn (r .index)) ∷ []) more e
+
+  -- one that does not pass compacted changes nothing
+  module _ (low : target upto (numbersIn (r .index)) ≤ r .index .compacted .0) where
+    pub not-past : passesStart upto s ≡ false
+    unfolding passesStart
+    not-past = le-ltb (s .run .compacted) (target upto (numbersOf s)) (omega (arith, st .run .start, target-is, low))
+
+    pub unmoved-stands : (o : Option (List Change)) → Stands (movedTo upto o s) r
+    unfolding movedTo
+    unmoved-stands o = rw not-past st
+
+  module _ (to : ℕ) (u : Up upto (r .index) to) where
+    pub in-run : to ≤ r .index .compacted .0 + r .index .retained
+    in-run = omega (arith, u .is, target-in)
+
+    pub movable : Movable to (r .index) (r .log)
+    movable = record { up = omega (arith, u .up); within = in-run; laid-out = ready-of r ok .log }
+
+    pub ends-at : target upto (numbersOf s) ≡ to
+    ends-at = target-is ∙ sym (u .is)
+
+    pub is-past : passesStart upto s ≡ true
+    unfolding passesStart
+    is-past = lt-ltb (s .run .compacted) (target upto (numbersOf s)) (omega (arith, st .run .start, ends-at, u .up))
+
     gone-le : to - s .run .compacted ≤ length (s .run .retained)
     gone-le = omega (arith, st .run .start, st .run .count, in-run)
 
-    pub moved-stands : (o : Option (List Change)) (snapshot : List ℕ) → given o ≡ held → length (orEmpty o) ≡ keys → stored snapshotWords (orEmpty o) ≡ snapshot
-        → Stands (movedTo to o s) (raw y words snapshot)
+    -- the snapshot then held is given, with its words
+    pub moved-stands : (held : Bool) (keys : ℕ) (y : IndexRecord) (words : List ℕ) → Moved to held keys (r .index) (r .log) y words
+        → (o : Option (List Change)) (snapshot : List ℕ) → given o ≡ held → length (orEmpty o) ≡ keys → stored snapshotWords (orEmpty o) ≡ snapshot
+        → Stands (movedTo upto o s) (raw y words snapshot)
     unfolding movedTo
-    moved-stands o snapshot g k e = rw (lt-ltb (s .run .compacted) to (omega (arith, st .run .start, up)), m .index) (record {
+    moved-stands held keys y words m o snapshot g k e = rw (is-past, ends-at, m .index) (record {
       run = record {
         start = refl;
         count = omega (arith, length-drop (to - s .run .compacted) (s .run .retained), st .run .count, st .run .start);
@@ -69,32 +106,30 @@ module _ (r : Raw) (ok : formed r ≡ true) where
       snapshot = e;
     })
 
-  -- one that does not pass compacted changes nothing
-  pub unmoved-stands : (to : ℕ) (o : Option (List Change)) → to ≤ r .index .compacted .0 → Stands (movedTo to o s) r
-  unfolding movedTo
-  unmoved-stands to o h = rw (le-ltb (s .run .compacted) to (omega (arith, st .run .start, h))) st
+-- ---- a trim
 
-  -- ---- a trim
+module _ (r : Raw) (ok : formed r ≡ true) (i : ℕ) where
+  abbrev t : Log
+  t = logOf r
 
-  pub trim-refused : (i : ℕ) → r .index .decided .0 < i → outcome (refused 2 (r .index .decided .0)) r ≡ run (trim i) true r
-  unfolding malformed further trimGuards
-  trim-refused i h =
-      call-refused (trim i) r ok refl 2 (r .index .decided .0)
-      (found {gs = trimGuards i (numbersOf s)} {v = refuses 2 (r .index .decided .0)} (stopping (lt-ltb (s .marks .decided) i (omega (arith, st .marks .index, h))) (sym (st .marks .index))))
+  only : further (trim i) t ≡ aboveDecided (some i) (numbersOf t) ∷ []
+  unfolding further trimGuards
+  only = refl
 
-  module _ (i to : ℕ) (h : i ≤ r .index .decided .0) (e : to ≡ target i (numbersIn (r .index))) where
-    trim-stands : (x : Raw) → Stands (movedTo to (s .run .held) s) x → outcome (replied tt) x ≡ run (trim i) true r
-    unfolding malformed further trimGuards effect trimmedTo replyOf
-    trim-stands x p =
-        call-stands (trim i) r ok refl (found {gs = trimGuards i (numbersOf s)} {v = passes} (passing (le-ltb (s .marks .decided) i (omega (arith, st .marks .index, h))) clear-all)) tt x refl
-        (rw (numbers r ok, ← e) p)
+  trim-stands : passes ≡ pastVerdict (some i) (r .index) → (x : Raw) → Stands (movedTo (some i) (t .run .held) t) x → outcome (replied tt) x ≡ run (trim i) true r
+  unfolding malformed effect trimmedTo replyOf first
+  trim-stands v x p = call-stands (trim i) r ok refl (sym (past-goes-on r ok (some i) (trim i) [] only v)) tt x refl p
 
-    pub trim-idle : to ≤ r .index .compacted .0 → outcome (replied tt) r ≡ run (trim i) true r
-    trim-idle low = trim-stands r (unmoved-stands to (s .run .held) low)
+  pub trim-stays : (a : Settled) → Stay (some i) (r .index) a → outcome (settled a) r ≡ run (trim i) true r
+  unfolding malformed
+  trim-stays Done p = trim-stands (p .verdict) r (unmoved-stands r ok (some i) (p .low refl) (t .run .held))
+  trim-stays (Refused x) p =
+      call-refused (trim i) r ok refl (numberOf x) (carriedOf x) (past-stops r ok (some i) (trim i) [] only (numberOf x) (carriedOf x) (p .verdict))
 
-    pub trim-moves : r .index .compacted .0 < to → to ≤ r .index .compacted .0 + r .index .retained → (y : IndexRecord) (words : List ℕ)
-        → Moved to (r .index .«snapshot_held») (r .index .keys) (r .index) (r .log) y words
-        → outcome (replied tt) (raw y words (r .snapshot)) ≡ run (trim i) true r
-    trim-moves up in-run y words m =
-        trim-stands (raw y words (r .snapshot))
-        (moved-stands to (r .index .«snapshot_held») (r .index .keys) y words m up in-run (s .run .held) (r .snapshot) (st .run .shot) (st .run .shot-keys) (st .snapshot))
+  pub trim-moves : (to : ℕ) (u : Up (some i) (r .index) to) (y : IndexRecord) (words : List ℕ)
+      → Moved to (r .index .«snapshot_held») (r .index .keys) (r .index) (r .log) y words
+      → outcome (replied tt) (raw y words (r .snapshot)) ≡ run (trim i) true r
+  trim-moves to u y words m =
+      let st = stands-of r ok in
+      trim-stands (u .verdict) (raw y words (r .snapshot))
+      (moved-stands r ok (some i) to u (r .index .«snapshot_held») (r .index .keys) y words m (t .run .held) (r .snapshot) (st .run .shot) (st .run .shot-keys) (st .snapshot))

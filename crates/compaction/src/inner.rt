@@ -8,27 +8,59 @@ use state_cache::Settled;
 use state_cache::SettledAt;
 ghost use mathlib.Core.Path.{_≡_};
 ghost use mathlib.Core.Bool.{true};
-ghost use lib.Dec.{ltb};
 ghost use lib.ListN.{length};
 ghost use Rattle.entry.specs.Limits.{snapshotWords};
 ghost use Rattle.snapshot.specs.Calls.{outcome as shotOutcome, folded};
-ghost use Rattle.snapshot.specs.Inner.{Aside, foldedOut};
 ghost use Rattle.model.specs.Calls.{query, create, trim, snapshot as snapshotCall};
-ghost use Rattle.model.specs.Compact.{target, targetOf, pastDecided};
+ghost use Rattle.model.specs.Compact.{target, pastDecided};
 ghost use Rattle.state_cache.specs.State.{raw, numbersIn, Small, Ready};
 ghost use Rattle.state_cache.specs.Run.{outcome, run, settled};
-ghost use Rattle.compaction.specs.Moves.{uptoOf, Movable, Moved};
+ghost use Rattle.compaction.specs.Inner.{ReachIs, Movable, Moved};
+ghost use Rattle.compaction.specs.Moves.{uptoOf};
 ghost use Rattle.compaction.specs.Written.{writtenOut};
 
-// Below decided, that index; else log-decided, since a decided stop-sign is no entry to compact.
-pub fn target(index: IndexRecord, idx: LogIndex) -> u64
-    requires { ⌜ Small (numbersIn index) ⌝ }
-    ensures { λ r. ⌜ r ≡ target (idx .0) (numbersIn index) ⌝ }
+// Whether refusal 2 applies.
+fn past_decided(index: IndexRecord, upto: Upto) -> bool
+    ensures { λ r. ⌜ r ≡ pastDecided (uptoOf upto) (numbersIn index) ⌝ }
 {
-    if idx.0 < index.decided.0 {
-        return idx.0;
+    match upto {
+        Upto::Decided => false,
+        Upto::Index(i) => index.decided.0 < i.0,
     }
-    state_cache::inner::log_decided(index)
+}
+
+// Where a trim or a snapshot ends. An index that is decided is no more than log-decided, but for that of a decided stop-sign, which is no
+// entry to compact.
+fn target(index: IndexRecord, upto: Upto) -> u64
+    requires { ⌜ Small (numbersIn index) ⌝ }
+    ensures { λ r. ⌜ r ≡ target (uptoOf upto) (numbersIn index) ⌝ }
+{
+    let decided = state_cache::inner::log_decided(index);
+    match upto {
+        Upto::Decided => decided,
+        Upto::Index(i) => state_cache::inner::least(i.0, decided),
+    }
+}
+
+// What becomes of the run's start: it stays, with the answer to that, or it moves up to an index.
+pub enum Reach {
+    Stays(Settled),
+    To(u64),
+}
+
+fn reach_of(index: IndexRecord, upto: Upto) -> Reach
+    requires { ⌜ Small (numbersIn index) ⌝ }
+    ensures { λ r. ⌜ ReachIs (uptoOf upto) index r ⌝ }
+{
+    let decided = index.decided;
+    if past_decided(index, upto) {
+        return Reach::Stays(Settled::Refused(Refusal::AboveDecided(decided)));
+    }
+    let to = target(index, upto);
+    if to <= index.compacted.0 {
+        return Reach::Stays(Settled::Done);
+    }
+    Reach::To(to)
 }
 
 // Moves the run's start up to an index: the entries below it are cut out. The snapshot that is then held is the caller's.
@@ -57,97 +89,48 @@ pub fn move_to(
 // Refusal 2, or the entries below the target dropped.
 pub fn trim_at(index: IndexRecord, log: &mut [u64], snapshot: &[u64], idx: LogIndex) -> SettledAt
     requires { ⌜ Ready (raw index (now log) (now snapshot)) ⌝ }
-    ensures { λ r. ⌜ outcome (settled (r .answer)) (raw (r .index) (now (log .exit)) (now (snapshot .entry))) ≡ run (trim (idx .0)) true (raw index (now (log .entry)) (now (snapshot .entry))) ⌝ }
+    ensures { λ r. ⌜ outcome (settled (r .answer)) (raw (r .index) (now (log .exit)) (now (snapshot .entry)))
+        ≡ run (trim (idx .0)) true (raw index (now (log .entry)) (now (snapshot .entry))) ⌝ }
 {
-    let decided = index.decided;
-    if decided.0 < idx.0 {
-        return SettledAt {
-            answer: Settled::Refused(Refusal::AboveDecided(decided)),
-            index,
-        };
+    let way = reach_of(index, Upto::Index(idx));
+    match way {
+        Reach::Stays(answer) => SettledAt { answer, index },
+        Reach::To(to) => {
+            let next = move_to(index, log, to, index.snapshot_held, index.keys);
+            SettledAt {
+                answer: Settled::Done,
+                index: next,
+            }
+        }
     }
-    let to = target(index, idx);
-    if to <= index.compacted.0 {
-        return SettledAt {
-            answer: Settled::Done,
-            index,
-        };
-    }
-    let next = move_to(index, log, to, index.snapshot_held, index.keys);
-    SettledAt {
-        answer: Settled::Done,
-        index: next,
-    }
-}
-
-// Whether refusal 2 applies.
-fn past_decided(index: IndexRecord, idx: Upto) -> bool
-    ensures { λ r. ⌜ r ≡ pastDecided (uptoOf idx) (numbersIn index) ⌝ }
-{
-    match idx {
-        Upto::Decided => false,
-        Upto::Index(i) => index.decided.0 < i.0,
-    }
-}
-
-fn target_of(index: IndexRecord, idx: Upto) -> u64
-    requires { ⌜ Small (numbersIn index) ⌝ }
-    ensures { λ r. ⌜ r ≡ targetOf (uptoOf idx) (numbersIn index) ⌝ }
-{
-    match idx {
-        Upto::Decided => state_cache::inner::log_decided(index),
-        Upto::Index(i) => target(index, i),
-    }
-}
-
-// Whether a snapshot up to there folds anything: one that does not pass compacted changes nothing.
-fn passes(index: IndexRecord, to: u64) -> bool
-    ensures { λ r. ⌜ r ≡ ltb (index .compacted .0) to ⌝ }
-{
-    index.compacted.0 < to
-}
-
-// Folds the first n entries onto a snapshot in its place. The fold is made aside, so that one with too many keys writes nothing.
-fn fold_over(shot: &mut [u64], kept: usize, entries: &[u64], n: usize) -> Folded
-    requires { ⌜ Aside kept (now shot) n (now entries) (now shot) ⌝ }
-    ensures { λ r. ⌜ shotOutcome (folded r) (now (shot .exit)) ≡ foldedOut kept (now (shot .entry)) n (now (entries .entry)) (now (shot .entry)) ⌝ }
-{
-    let mut scratch = [0u64; entry::SNAPSHOT_WORDS];
-    words::copy_words(shot, &mut scratch);
-    snapshot::inner::fold_out(&mut scratch, kept, entries, n, shot)
 }
 
 // Refusals 2 and 8, or the entries below the target folded and dropped.
-pub fn snapshot_at(index: IndexRecord, log: &mut [u64], shot: &mut [u64], idx: Upto) -> SettledAt
+pub fn snapshot_at(index: IndexRecord, log: &mut [u64], shot: &mut [u64], upto: Upto) -> SettledAt
     requires { ⌜ Ready (raw index (now log) (now shot)) ⌝ }
-    ensures { λ r. ⌜ outcome (settled (r .answer)) (raw (r .index) (now (log .exit)) (now (shot .exit))) ≡ run (snapshotCall (uptoOf idx)) true (raw index (now (log .entry)) (now (shot .entry))) ⌝ }
+    ensures { λ r. ⌜ outcome (settled (r .answer)) (raw (r .index) (now (log .exit)) (now (shot .exit)))
+        ≡ run (snapshotCall (uptoOf upto)) true (raw index (now (log .entry)) (now (shot .entry))) ⌝ }
 {
-    let decided = index.decided;
-    if past_decided(index, idx) {
-        return SettledAt {
-            answer: Settled::Refused(Refusal::AboveDecided(decided)),
-            index,
-        };
-    }
-    let to = target_of(index, idx);
-    if !passes(index, to) {
-        return SettledAt {
-            answer: Settled::Done,
-            index,
-        };
-    }
-    let gone = (to - index.compacted.0) as usize;
-    let r = fold_over(shot, index.keys, log, gone);
-    let Folded::Keys(keys) = r else {
-        return SettledAt {
-            answer: Settled::Refused(Refusal::TooManyKeys),
-            index,
-        };
-    };
-    let next = move_to(index, log, to, true, keys);
-    SettledAt {
-        answer: Settled::Done,
-        index: next,
+    let way = reach_of(index, upto);
+    match way {
+        Reach::Stays(answer) => SettledAt { answer, index },
+        Reach::To(to) => {
+            let gone = (to - index.compacted.0) as usize;
+            let folded = snapshot::inner::fold_over(shot, index.keys, log, gone, &[], 0);
+            match folded {
+                Folded::Refused(refusal) => SettledAt {
+                    answer: Settled::Refused(refusal),
+                    index,
+                },
+                Folded::Keys(keys) => {
+                    let next = move_to(index, log, to, true, keys);
+                    SettledAt {
+                        answer: Settled::Done,
+                        index: next,
+                    }
+                }
+            }
+        }
     }
 }
 
@@ -160,17 +143,21 @@ pub fn create_at(
     out: &mut [u64],
 ) -> Folded
     requires { ⌜ Ready (raw index (now log) (now shot)) × (length (now out) ≡ snapshotWords) ⌝ }
-    ensures { λ r. ⌜ shotOutcome (folded r) (now (out .exit)) ≡ writtenOut (run (query (create (idx .0))) true (raw index (now (log .entry)) (now (shot .entry))) .answer) (now (out .entry)) ⌝ }
+    ensures { λ r. ⌜ shotOutcome (folded r) (now (out .exit))
+        ≡ writtenOut
+        (run (query (create (idx .0))) true (raw index (now (log .entry)) (now (shot .entry))) .answer)
+        (now (out .entry)) ⌝ }
 {
     let start = index.compacted;
     if idx.0 < start.0 {
         return Folded::Refused(Refusal::BelowCompacted(start));
     }
     let decided = index.decided;
-    if idx.0 > decided.0 {
+    let upto = Upto::Index(idx);
+    if past_decided(index, upto) {
         return Folded::Refused(Refusal::AboveDecided(decided));
     }
-    let to = target(index, idx);
+    let to = target(index, upto);
     let n = (to - start.0) as usize;
     snapshot::inner::fold_aside(shot, index.keys, log, n, out)
 }

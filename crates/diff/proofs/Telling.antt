@@ -2,25 +2,23 @@
 use Prim.Native.Nat.{ℕ, _-_, _*_, _≤_, _<_, min}
 use mathlib.Core.Path.{_≡_, refl, sym, ap, ap₂, _∙_}
 use mathlib.Core.Bool.{Bool, true, false, _||_}
-use mathlib.Core.List.{List, [], _∷_}
+use mathlib.Core.List.{List, []}
 use mathlib.Core.Option.{Option, none, some}
 use lib.Dec.{ltb}
-use lib.ListN.{length, drop}
+use lib.ListN.{drop}
 use Rattle.words.specs.Coded.{entriesAt}
-use Rattle.entry.specs.Limits.{width, keyRoom, snapshotWords}
+use Rattle.entry.specs.Limits.{width, snapshotWords}
 use Rattle.entry.specs.Change.{Change, formed as entriesFormed, entriesOf, stored}
-use Rattle.entry.specs.Guards.{Verdict, passes, refuses, first, Answer, refused, replied, settle}
+use Rattle.entry.specs.Guards.{Verdict, passes, refuses, first, Answer, refused, replied, refusedBy, settle}
 use Rattle.entry.specs.Refusals.{numberOf, carriedOf}
-use Rattle.entry.specs.declared.Refusal.{Refusal}
-use Rattle.entry.specs.declared.Refusal.the-variants.{TooManyKeys, Malformed, IllFormed}
-use Rattle.entry.specs.declared.LogIndex.{LogIndex}
-use Rattle.entry.proofs.GuardLaws.{clear-all, passing, stopping, found}
+use Rattle.entry.specs.declared.Refusal.the-variants.{Malformed, IllFormed}
 use Rattle.entry.proofs.SliceLaws.{stored-entries}
 use Rattle.snapshot.specs.Folds.{fold}
-use Rattle.snapshot.specs.Calls.{outcome as shotOutcome, folded, written, overRoom}
-use Rattle.snapshot.specs.Inner.{foldedOut}
+use Rattle.snapshot.specs.Calls.{outcome as shotOutcome, folded, foldGuards}
+use Rattle.snapshot.specs.Inner.{foldWritten, foldedOut}
 use Rattle.snapshot.specs.declared.Folded.{Folded}
 use Rattle.snapshot.specs.declared.Folded.the-variants.{Keys, Refused as FoldRefused}
+use Rattle.snapshot.proofs.Calling.{wrote-nothing, wrote-keys}
 use Rattle.model.specs.Numbers.{logDecided}
 use Rattle.model.specs.Log.{Log, orEmpty, foldedTo}
 use Rattle.model.specs.Diff.{Given, plain, complete, delta, snapshotIn, diffOf, diffGuards}
@@ -30,11 +28,25 @@ use Rattle.state_cache.specs.Run.{Outcome, run}
 use Rattle.state_cache.proofs.Stands.{stands-of, ready-of}
 use Rattle.state_cache.proofs.Runs.{ill-formed, not-whole, call-refused, call-stands}
 use Rattle.internal_storage.proofs.Effects.{numbers}
-use Rattle.compaction.proofs.Folding.{decided-high, fold-is, fold-wrote, fold-left}
+use Rattle.compaction.proofs.Folding.{decided-high, fold-is}
 use Rattle.diff.specs.Replies.{reply, diffSaid, outAfter}
+use Rattle.diff.specs.Inner.{keysTold, foldTold}
 use Rattle.diff.specs.declared.Diff.{Diff}
-use Rattle.diff.specs.declared.Diff.the-variants.{Nothing, Complete, Delta, Refused}
+use Rattle.diff.specs.declared.Diff.the-variants.{Nothing, Refused}
 use Rattle.diff.proofs.Giving.{diff-plain, diff-complete, complete-formed, diff-delta, delta-formed}
+
+-- a snapshot of either kind, with the words of it and its index
+abbrev kindOf : Bool → List Change → Given
+kindOf true es = delta es
+kindOf false es = complete es
+
+kind-holds : (kind : Bool) (es : List Change) → snapshotIn (kindOf kind es) ≡ some es
+kind-holds true es = refl
+kind-holds false es = refl
+
+kind-says : (kind : Bool) (k last : ℕ) (exit : List ℕ) → diffSaid exit (keysTold kind (record { 0 = last }) k) ≡ replied (reply (kindOf kind (entriesOf k exit)) last)
+kind-says true k last exit = refl
+kind-says false k last exit = refl
 
 module _ (r : Raw) (i : ℕ) (out : List ℕ) where
   abbrev c : Call
@@ -72,67 +84,45 @@ module _ (r : Raw) (i : ℕ) (out : List ℕ) where
       answers (refuses n k) e = ap answerOf (call-refused c r ok refl n k e)
 
       -- refusal 8 looks at what is given
-      verdict : (es : List Change) → orEmpty (snapshotIn (diffOf i s)) ≡ es → (v : Verdict) → v ≡ first (overRoom es ∷ []) → v ≡ first (further c s)
+      verdict : (es : List Change) → orEmpty (snapshotIn (diffOf i s)) ≡ es → first (foldGuards es) ≡ first (further c s)
       unfolding further queryGuards diffGuards
-      verdict es e v f = f ∙ ap (λ (t : List Change). first (overRoom t ∷ [])) (sym e)
+      verdict es e = ap (λ (t : List Change). first (foldGuards t)) (sym e)
 
       pub diff-nothing : i ≤ r .index .compacted .0 → (r .index .«snapshot_held» || ltb (r .index .compacted .0) last) ≡ false → Told (Nothing (record { 0 = last })) out true
       unfolding first
       diff-nothing h g =
           let e = diff-plain r ok i last l h g in
           told (Nothing (record { 0 = last })) out true (replied (reply plain last))
-          (ap (λ (x : Given). replied (reply x last)) (sym e) ∙ answers passes (verdict [] (ap (λ (x : Given). orEmpty (snapshotIn x)) e) passes refl)) refl refl
+          (ap (λ (x : Given). replied (reply x last)) (sym e) ∙ answers passes (verdict [] (ap (λ (x : Given). orEmpty (snapshotIn x)) e))) refl refl
 
       -- a snapshot written out, of either kind
-      module _ (kind : List Change → Given) (named : ℕ → LogIndex → Diff)
-          (holds : (es : List Change) → snapshotIn (kind es) ≡ some es)
-          (says : (k : ℕ) (j : LogIndex) (exit : List ℕ) → diffSaid exit (named k j) ≡ replied (reply (kind (entriesOf k exit)) (j .0)))
-          (es : List Change) (is : diffOf i s ≡ kind es) (fine : entriesFormed es ≡ true)
-          (a : Folded) (exit : List ℕ) (f : shotOutcome (folded a) exit ≡ written (first (overRoom es ∷ [])) es out) where
+      module _ (kind : Bool) (es : List Change) (is : diffOf i s ≡ kindOf kind es) (fine : entriesFormed es ≡ true) (exit : List ℕ) where
         given-is : orEmpty (snapshotIn (diffOf i s)) ≡ es
-        given-is = ap (λ (g : Given). orEmpty (snapshotIn g)) is ∙ ap orEmpty (holds es)
+        given-is = ap (λ (g : Given). orEmpty (snapshotIn g)) is ∙ ap orEmpty (kind-holds kind es)
 
-        over : (x : Refusal) → a ≡ FoldRefused x → Told (Refused TooManyKeys) exit true
-        over x p =
-            let q = fold-left es out exit (numberOf x) (carriedOf x) (ltb keyRoom (length es)) (ap (λ (b : Folded). shotOutcome (folded b) exit) (sym p) ∙ f) in
-            told (Refused TooManyKeys) exit true (refused 8 0) (answers (refuses 8 0) (verdict es given-is (refuses 8 0) (found {gs = overRoom es ∷ []} (stopping (q .0) refl)))) refl (q .1)
-
-        wrote : (k : ℕ) → a ≡ Keys k → Told (named k (record { 0 = last })) exit true
-        wrote k p =
-            let q = fold-wrote es out exit k (ltb keyRoom (length es)) (ap (λ (b : Folded). shotOutcome (folded b) exit) (sym p) ∙ f) in
-            told (named k (record { 0 = last })) exit true (replied (reply (kind es) last))
-            (ap (λ (g : Given). replied (reply g last)) (sym is) ∙ answers passes (verdict es given-is passes (found {gs = overRoom es ∷ []} (passing (q .0) clear-all))))
-            (says k (record { 0 = last }) exit
-            ∙ ap (λ (t : List Change). replied (reply (kind t) last)) (ap₂ entriesOf (q .1) (q .2) ∙ stored-entries snapshotWords es fine))
-            (q .2 ∙ ap (λ (o : Option (List Change)). elim o [ none ↦ out | some t ↦ stored snapshotWords t ]) (sym (holds es)))
+        wrote : (a : Folded) → shotOutcome (folded a) exit ≡ foldWritten es out → Told (foldTold kind (record { 0 = last }) a) exit true
+        wrote (FoldRefused x) f =
+            let q = wrote-nothing (first (foldGuards es)) es out exit (FoldRefused x) f x refl in
+            told (Refused x) exit true (refusedBy x) (answers (refuses (numberOf x) (carriedOf x)) (sym (q .0) ∙ verdict es given-is)) refl (q .1)
+        wrote (Keys k) f =
+            let q = wrote-keys (first (foldGuards es)) es out exit (Keys k) f k refl in
+            told (keysTold kind (record { 0 = last }) k) exit true (replied (reply (kindOf kind es) last))
+            (ap (λ (g : Given). replied (reply g last)) (sym is) ∙ answers passes (sym (q .0) ∙ verdict es given-is))
+            (kind-says kind k last exit
+            ∙ ap (λ (t : List Change). replied (reply (kindOf kind t) last)) (ap₂ entriesOf (q .1) (q .2) ∙ stored-entries snapshotWords es fine))
+            (q .2 ∙ ap (λ (o : Option (List Change)). elim o [ none ↦ out | some t ↦ stored snapshotWords t ]) (sym (kind-holds kind es)))
 
       -- of all that is decided
-      module _ (h : i ≤ r .index .compacted .0) (g : (r .index .«snapshot_held» || ltb (r .index .compacted .0) last) ≡ true) (a : Folded) (exit : List ℕ)
-          (f : shotOutcome (folded a) exit ≡ foldedOut (r .index .keys) (r .snapshot) (last - r .index .compacted .0) (r .log) out) where
-        abbrev all : List Change
-        all = foldedTo last (s .run)
-
-        all-folded : shotOutcome (folded a) exit ≡ written (first (overRoom all ∷ [])) all out
-        all-folded = f ∙ ap (λ (es : List Change). written (first (overRoom es ∷ [])) es out) (fold-is r ok last (decided-high (numbersIn (r .index)) (ready-of r ok .numbers) last l))
-
-        pub complete-over : (x : Refusal) → a ≡ FoldRefused x → Told (Refused TooManyKeys) exit true
-        complete-over = over complete Complete (λ t. refl) (λ k j w. refl) all (diff-complete r ok i last l h g) (complete-formed r ok i last l) a exit all-folded
-
-        pub complete-wrote : (k : ℕ) → a ≡ Keys k → Told (Complete k (record { 0 = last })) exit true
-        complete-wrote = wrote complete Complete (λ t. refl) (λ k j w. refl) all (diff-complete r ok i last l h g) (complete-formed r ok i last l) a exit all-folded
+      pub complete-wrote : i ≤ r .index .compacted .0 → (r .index .«snapshot_held» || ltb (r .index .compacted .0) last) ≡ true → (a : Folded) (exit : List ℕ)
+          → shotOutcome (folded a) exit ≡ foldedOut (r .index .keys) (r .snapshot) (last - r .index .compacted .0) (r .log) out
+          → Told (foldTold false (record { 0 = last }) a) exit true
+      complete-wrote h g a exit f =
+          wrote false (foldedTo last (s .run)) (diff-complete r ok i last l h g) (complete-formed r ok i last l) exit a
+          (f ∙ ap (λ (es : List Change). foldWritten es out) (fold-is r ok last (decided-high (numbersIn (r .index)) (ready-of r ok .numbers) last l)))
 
       -- of what is decided from an index on
-      module _ (h : r .index .compacted .0 < i) (start : ℕ) (e : start ≡ min i last) (a : Folded) (exit : List ℕ)
-          (f : shotOutcome (folded a) exit ≡ foldedOut 0 [] (last - start) (drop ((start - r .index .compacted .0) * width) (r .log)) out) where
-        abbrev part : List Change
-        part = fold (entriesOf (last - start) (drop ((start - r .index .compacted .0) * width) (r .log)))
-
-        part-folded : shotOutcome (folded a) exit ≡ written (first (overRoom part ∷ [])) part out
-        unfolding fold entriesAt
-        part-folded = f
-
-        pub delta-over : (x : Refusal) → a ≡ FoldRefused x → Told (Refused TooManyKeys) exit true
-        delta-over = over delta Delta (λ t. refl) (λ k j w. refl) part (diff-delta r ok i last l h start e) (delta-formed r ok i last l h start e) a exit part-folded
-
-        pub delta-wrote : (k : ℕ) → a ≡ Keys k → Told (Delta k (record { 0 = last })) exit true
-        delta-wrote = wrote delta Delta (λ t. refl) (λ k j w. refl) part (diff-delta r ok i last l h start e) (delta-formed r ok i last l h start e) a exit part-folded
+      pub delta-wrote : (h : r .index .compacted .0 < i) (start : ℕ) (e : start ≡ min i last) (a : Folded) (exit : List ℕ)
+          → shotOutcome (folded a) exit ≡ foldedOut 0 [] (last - start) (drop ((start - r .index .compacted .0) * width) (r .log)) out
+          → Told (foldTold true (record { 0 = last }) a) exit true
+      unfolding fold entriesAt
+      delta-wrote h start e a exit f = wrote true _ (diff-delta r ok i last l h start e) (delta-formed r ok i last l h start e) exit a f

@@ -9,10 +9,10 @@ use Rattle.model.specs.Numbers.{endOf, acceptedOf, stopDecided, logDecid
 use Rattle.model.specs.Log.{foldedTo, shotFormed, wellFormed, freshLog}
 use Rattle.model.specs.Append.{appendGuards, fills, appended, appendReply}
 use Rattle.model.specs.Read.{markerOf, fullRun, readFrom, readReply}
-use Rattle.model.specs.Compact.{target, trimGuards, movedTo, trimmedTo}
+use Rattle.model.specs.Compact.{target, passesStart, trimGuards, movedTo, trimmedTo}
 use Rattle.model.specs.Calls.{malformed, queryGuards, further, guards, effect, queryReply, replyOf, answerTo, stateAfter}
 use Rattle.model.specs.Cases.{Case, logL, table}
 
 pub cases : map (λ (c : Case). c .seen) table ≡ map (λ (c : Case). c .due) table
-unfolding allOf signFormed first insert foldOnto fold merge climbs rising endOf acceptedOf stopDecided logDecided numbersFormed foldedTo shotFormed wellFormed freshLog appendGuards fills appended appendReply markerOf fullRun readFrom readReply target trimGuards movedTo trimmedTo malformed queryGuards further guards effect queryReply replyOf answerTo stateAfter logL
+unfolding allOf signFormed first insert foldOnto fold merge climbs rising endOf acceptedOf stopDecided logDecided numbersFormed foldedTo shotFormed wellFormed freshLog appendGuards fills appended appendReply markerOf fullRun readFrom readReply target passesStart trimGuards movedTo trimmedTo malformed queryGuards further guards effect queryReply replyOf answerTo stateAfter logL
 cases = refl

@@ -2,6 +2,7 @@
 -- of the kinds that it does not admit when they stand.
 use Prim.Native.Nat.{ℕ}
 use mathlib.Core.Path.{_≡_, refl}
+use mathlib.Core.Bool.{true}
 use mathlib.Core.List.{List, [], _∷_, _++_}
 use mathlib.Core.Option.{none, some}
 use native.Mathlib.Omega.{arith}
@@ -14,11 +15,11 @@ use Rattle.model.specs.Numbers.{endOf, acceptedOf, stopDecided, logDecid
 use Rattle.model.specs.Log.{Run, foldedTo, shotFormed, wellFormed, noBallot, freshLog}
 use Rattle.model.specs.Append.{appendGuards, fills, appended}
 use Rattle.model.specs.Backend.{opsFormed}
-use Rattle.model.specs.Compact.{target, targetOf, trimGuards, snapshotGuards, movedTo, snapshotTo}
+use Rattle.model.specs.Compact.{target, passesStart, foldedUpto, trimGuards, snapshotGuards, movedTo, snapshotTo}
 use Rattle.model.specs.Diff.{Given, plain, complete, delta}
 use Rattle.model.specs.Sync.{partFormed, deltaOnto, runThen, partNumberGuards, partGuards, partSynced}
 use Rattle.model.specs.Calls.{Call, append, decide, trim, snapshot, sync, write, malformed, decideGuards, syncGuards, further, guards, synced, effect, stateAfter}
-use Rattle.model.specs.History.{syncedHistory, grown, Stands, Truthful, Event, next, told, AllTruthful, fresh}
+use Rattle.model.specs.History.{syncedHistory, grown, Stands, Event, next, told, AllTruthful, fresh}
 use Rattle.model.specs.Cases.{put, del}
 
 abbrev says : Call → Event
@@ -48,10 +49,13 @@ trace =
     ∷ [])
 
 pub premise-met : AllTruthful trace (fresh 0)
-unfolding AllTruthful Truthful Stands allOf signFormed first insert foldOnto fold merge climbs rising endOf acceptedOf stopDecided logDecided numbersFormed foldedTo shotFormed wellFormed freshLog appendGuards fills appended target targetOf trimGuards snapshotGuards movedTo snapshotTo opsFormed partFormed deltaOnto runThen partNumberGuards partGuards partSynced malformed decideGuards syncGuards further guards synced effect stateAfter syncedHistory grown next told fresh
+unfolding AllTruthful Stands allOf signFormed first insert foldOnto fold merge climbs rising endOf acceptedOf stopDecided logDecided numbersFormed foldedTo shotFormed wellFormed freshLog appendGuards fills appended target passesStart foldedUpto trimGuards snapshotGuards movedTo snapshotTo opsFormed partFormed deltaOnto runThen partNumberGuards partGuards partSynced malformed decideGuards syncGuards further guards synced effect stateAfter syncedHistory grown next told fresh
 premise-met =
-    (λ q. tt, (λ q. tt, (λ q. tt, (λ q. tt, (λ q. never 2 3 q, (λ q. (refl, refl), (λ q. never 11 0 q, (λ q. (refl, refl), tt))))))))
+    (λ q. plainly, (λ q. plainly, (λ q. plainly, (λ q. plainly, (λ q. absurd (never 2 3 q), (λ q. (refl, (refl, refl)), (λ q. absurd (never 11 0 q), (λ q. (refl, (refl, refl)), tt))))))))
   where
+    plainly : (true ≡ true) × Unit {0}
+    plainly = (refl, tt)
+
     never : (n k : ℕ) → refuses n k ≡ passes → ⊥
     never n k z = let y : _≡_ {A = ℕ} 0 1 = cc in omega arith
 
@@ -60,9 +64,9 @@ abbrev runAt : ℕ → List Change → List Change → Run
 runAt c r h = record { compacted = c; retained = r; held = some h }
 
 pub delta-held : told toDelta (fresh 0) .log .run ≡ runAt 5 (put 5 500 ∷ []) (put 4 200 ∷ put 6 600 ∷ put 7 700 ∷ del 9 ∷ [])
-unfolding allOf signFormed first insert foldOnto fold merge climbs rising endOf acceptedOf stopDecided logDecided numbersFormed foldedTo shotFormed wellFormed freshLog appendGuards fills appended target targetOf trimGuards snapshotGuards movedTo snapshotTo opsFormed partFormed deltaOnto runThen partNumberGuards partGuards partSynced malformed decideGuards syncGuards further guards synced effect stateAfter syncedHistory grown next told fresh
+unfolding allOf signFormed first insert foldOnto fold merge climbs rising endOf acceptedOf stopDecided logDecided numbersFormed foldedTo shotFormed wellFormed freshLog appendGuards fills appended target passesStart foldedUpto trimGuards snapshotGuards movedTo snapshotTo opsFormed partFormed deltaOnto runThen partNumberGuards partGuards partSynced malformed decideGuards syncGuards further guards synced effect stateAfter syncedHistory grown next told fresh
 delta-held = refl
 
 pub complete-held : told trace (fresh 0) .log .run ≡ runAt 6 (put 4 400 ∷ []) (put 1 10 ∷ del 4 ∷ [])
-unfolding allOf signFormed first insert foldOnto fold merge climbs rising endOf acceptedOf stopDecided logDecided numbersFormed foldedTo shotFormed wellFormed freshLog appendGuards fills appended target targetOf trimGuards snapshotGuards movedTo snapshotTo opsFormed partFormed deltaOnto runThen partNumberGuards partGuards partSynced malformed decideGuards syncGuards further guards synced effect stateAfter syncedHistory grown next told fresh
+unfolding allOf signFormed first insert foldOnto fold merge climbs rising endOf acceptedOf stopDecided logDecided numbersFormed foldedTo shotFormed wellFormed freshLog appendGuards fills appended target passesStart foldedUpto trimGuards snapshotGuards movedTo snapshotTo opsFormed partFormed deltaOnto runThen partNumberGuards partGuards partSynced malformed decideGuards syncGuards further guards synced effect stateAfter syncedHistory grown next told fresh
 complete-held = refl

@@ -1,5 +1,5 @@
 -- Every call leaves a well-formed state well formed: so refusal 12 is given to no state that a fresh log comes to.
-use Prim.Native.Nat.{ℕ, _+_, _-_, _≤_, max}
+use Prim.Native.Nat.{ℕ, _+_, _-_, _≤_, min, max}
 use mathlib.Core.Path.{_≡_, refl}
 use mathlib.Core.Bool.{Bool, true, false, _&&_}
 use mathlib.Core.List.{List, [], _∷_, _++_}
@@ -23,35 +23,37 @@ use Rattle.model.specs.Numbers.{Numbers, endOf, acceptedOf, stopDecided,
 use Rattle.model.specs.Log.{Log, given, ifGiven, numbersOf, foldedTo, shotFormed, wellFormed, withMarks, deciding, freshLog}
 use Rattle.model.specs.Append.{appendGuards, appendStopGuards, setStopGuards, joined, batchWith, fills, appended, appendedNow, flushed, stopAppended, stopSet, reloaded}
 use Rattle.model.specs.Backend.{Op, Lent, Midst, step, steps, stepGuards, lastGuards, opGuards, midst, writeGuards, written}
-use Rattle.model.specs.Compact.{target, targetOf, snapshotGuards, movedTo, trimmedTo, snapshotTo}
+use Rattle.model.specs.Compact.{target, passesStart, foldedUpto, snapshotGuards, movedTo, trimmedTo, snapshotTo}
 use Rattle.model.specs.Diff.{Given, plain, complete, delta}
 use Rattle.model.specs.Sync.{Part, partFormed, deltaOnto, runThen, partNumberGuards, partGuards, roundGuards, partSynced}
 use Rattle.model.specs.Calls.{Call, query, append, appendNow, flush, flushEntries, appendStop, setStop, setPromise, decide, trim, snapshot, sync, reload, write, malformed, decideGuards, syncGuards, further, guards, synced, effect, after, stateAfter}
 use Rattle.model.proofs.Forms.{log-min, Formed, formed-of, of-formed, shot-held, shot-merge, of-shot, shot-folded}
 
 -- log-decided is decided, or one less
-pub log-near : (n : Numbers) → n .decided ≤ logDecided n + 1
+pub log-near : (n : Numbers) → (n .decided ≤ logDecided n + 1) × (logDecided n ≤ n .decided)
 unfolding logDecided
 log-near n = go (stopDecided n)
   where
-    go : (t : Bool) → n .decided ≤ (if t then n .decided - 1 else n .decided) + 1
-    go true = omega arith
-    go false = omega arith
+    go : (t : Bool) → (n .decided ≤ (if t then n .decided - 1 else n .decided) + 1) × ((if t then n .decided - 1 else n .decided) ≤ n .decided)
+    go true = (omega arith, omega arith)
+    go false = (omega arith, omega arith)
 
 pub unstopped : (n : Numbers) → stopDecided n ≡ false → logDecided n ≡ n .decided
 unfolding logDecided
 unstopped n e = rw e
 
--- the index at which a trim or a snapshot ends is decided
-pub target-range : (i : ℕ) (n : Numbers) → target i n ≤ logDecided n
+-- a trim or a snapshot ends at its index or at log-decided, whichever is the lesser
+pub target-least : (i : ℕ) (n : Numbers) → target (some i) n ≡ min i (logDecided n)
 unfolding target
-target-range i n =
-    either (λ k. k ≤ logDecided n) (ltb i (n .decided)) i (logDecided n) (λ e. omega (arith, ltb-true i (n .decided) e, log-near n)) (λ e. omega arith)
+target-least i n = go (ltb i (n .decided)) refl
+  where
+    go : (t : Bool) → ltb i (n .decided) ≡ t → (if t then i else logDecided n) ≡ min i (logDecided n)
+    go true e = omega (arith, ltb-true i (n .decided) e, log-near n)
+    go false e = omega (arith, ltb-false i (n .decided) e, log-near n)
 
-pub targetOf-range : (i : Option ℕ) (n : Numbers) → targetOf i n ≤ logDecided n
-unfolding targetOf
-targetOf-range none n = omega arith
-targetOf-range (some i) n = target-range i n
+pub target-range : (upto : Option ℕ) (n : Numbers) → target upto n ≤ logDecided n
+target-range none n = unfold target in omega arith
+target-range (some i) n = omega (arith, target-least i n)
 
 nothing-formed : formed [] ≡ true
 unfolding allOf
@@ -199,10 +201,11 @@ module _ (s : Log) (f : Formed s) where
   }
 
   -- the run's start moved up to a decided index
-  moved-keeps : (to : ℕ) (held : Option (List Change)) → to ≤ logDecided (numbersOf s)
-      → (ltb (s .run .compacted) to ≡ true → ifGiven shotFormed held ≡ true) → Formed (movedTo to held s)
-  unfolding movedTo acceptedOf endOf
-  moved-keeps to held k w =
+  moved-keeps : (upto : Option ℕ) (held : Option (List Change)) → (passesStart upto s ≡ true → ifGiven shotFormed held ≡ true) → Formed (movedTo upto held s)
+  unfolding movedTo passesStart acceptedOf endOf
+  moved-keeps upto held w =
+      let to = target upto (numbersOf s) in
+      let k = target-range upto (numbersOf s) in
       let m = log-min (numbersOf s) (f .numbers .high) in
       let l = length-drop (to - s .run .compacted) (s .run .retained) in
       either Formed (ltb (s .run .compacted) to) _ _
@@ -225,16 +228,15 @@ module _ (s : Log) (f : Formed s) where
       })
       (λ e. f)
 
-  trim-keeps : (i : ℕ) → Formed (trimmedTo i s)
+  trim-keeps : (upto : Option ℕ) → Formed (trimmedTo upto s)
   unfolding trimmedTo
-  trim-keeps i = moved-keeps (target i (numbersOf s)) (s .run .held) (target-range i (numbersOf s)) (λ e. f .shot)
+  trim-keeps upto = moved-keeps upto (s .run .held) (λ e. f .shot)
 
-  snapshot-keeps : (i : Option ℕ) → Clear (snapshotGuards i s) → Formed (snapshotTo i s)
-  unfolding snapshotTo snapshotGuards
-  snapshot-keeps i clr =
-      let to : ℕ = targetOf i (numbersOf s) in
-      moved-keeps to (some (foldedTo to (s .run))) (targetOf-range i (numbersOf s))
-      (λ e. of-shot (foldedTo to (s .run)) (shot-folded to s f) (ltb-false keyRoom (length (foldedTo to (s .run))) (rw e at (clr 8))))
+  snapshot-keeps : (upto : Option ℕ) → Clear (snapshotGuards upto s) → Formed (snapshotTo upto s)
+  unfolding snapshotTo snapshotGuards foldedUpto
+  snapshot-keeps upto clr =
+      let all : List Change = foldedTo (target upto (numbersOf s)) (s .run) in
+      moved-keeps upto (some all) (λ e. of-shot all (shot-folded _ s f) (ltb-false keyRoom (length all) (rw e at (clr 8))))
 
   -- the whole record of a sync with a log part: where the run starts, how long it is, and what is held before it
   part-formed : (b : Ballot) (d : ℕ) (p : Part) → formed (runThen p s .retained) ≡ true → ifGiven shotFormed (runThen p s .held) ≡ true → ifGiven signFormed (p .stop) ≡ true
@@ -368,7 +370,7 @@ keeps (appendStop g) s f p = of-formed _ (stop-keeps g s f (not-false (signForme
 keeps (setStop g) s f p = of-formed _ (setStop-keeps s f g (not-false (ifGiven signFormed g) (argued (setStop g) s p)) (cleared (setStop g) s p))
 keeps (setPromise b) s f p = of-formed _ (marks-keep s f (s .marks .decided) b (s .marks .round) (f .numbers .low) (f .numbers .high))
 keeps (decide i) s f p = of-formed _ (decide-keeps i s f (cleared (decide i) s p))
-keeps (trim i) s f p = of-formed _ (trim-keeps s f i)
+keeps (trim i) s f p = of-formed _ (trim-keeps s f (some i))
 keeps (snapshot i) s f p = of-formed _ (snapshot-keeps s f i (cleared (snapshot i) s p))
 keeps (sync b d q) s f p = of-formed _ (sync-keeps s f b d q (not-false (ifGiven partFormed q) (argued (sync b d q) s p)) (cleared (sync b d q) s p))
 keeps reload s f p = of-formed _ (reload-keeps s f)

@@ -1,7 +1,7 @@
 -- Demand 3's last sentence: what a log holds is the fold of its history.
 use Prim.Native.Nat.{ℕ, _+_, _-_, _≤_}
-use mathlib.Core.Path.{_≡_, refl, _∙_}
-use mathlib.Core.Bool.{Bool, true, false}
+use mathlib.Core.Path.{_≡_, refl, sym, _∙_}
+use mathlib.Core.Bool.{Bool, true, false, true≢false}
 use mathlib.Core.List.{List, [], _∷_, _++_}
 use mathlib.Core.Option.{Option, none, some}
 use native.Mathlib.Omega.{arith}
@@ -22,13 +22,13 @@ use Rattle.snapshot.proofs.Folds.{fold-append, merge-fold}
 use Rattle.model.specs.Numbers.{Numbers, endOf, logDecided}
 use Rattle.model.specs.Log.{Run, Log, numbersOf, orEmpty, foldedTo, wellFormed, waiting, withTail, freshLog}
 use Rattle.model.specs.Append.{joined, batchWith, fills, appended, appendedNow, flushed, stopAppended, stopSet}
-use Rattle.model.specs.Compact.{targetOf, movedTo, snapshotTo}
+use Rattle.model.specs.Compact.{target, passesStart, foldedUpto, movedTo, snapshotTo}
 use Rattle.model.specs.Diff.{Given, plain, complete, delta}
 use Rattle.model.specs.Sync.{deltaOnto, runThen, partNumberGuards, partGuards, partSynced}
 use Rattle.model.specs.Calls.{Call, query, append, appendNow, flush, flushEntries, appendStop, setStop, setPromise, decide, trim, snapshot, sync, reload, write, syncGuards, further, guards, synced, effect, after, stateAfter}
 use Rattle.model.specs.History.{syncedHistory, grown, Stands, Truthful, Event, Told, historyAfter, next, told, AllTruthful, fresh}
 use Rattle.model.proofs.Forms.{Ranges, ranges, formed-of}
-use Rattle.model.proofs.Keeps.{part, unstopped, targetOf-range, cleared, call-keeps, fresh-formed}
+use Rattle.model.proofs.Keeps.{part, unstopped, target-range, cleared, call-keeps, fresh-formed}
 
 -- what a held run and a history have in common
 pub record Agrees (r : Run) (h : List Change) : Type 0 where
@@ -102,13 +102,12 @@ part-agrees d i (delta c) es z x s h w clr t a =
     (simp (length-append, length-take) (omega (arith, a .ends, t .0, w .high, unstopped n (clr 4), ltb-false i (s .marks .decided) (clr 5))))
     (unfold deltaOnto in rw (folded-is (s .run) h a (logDecided n) (w .low), fold-on, t .1, merge-fold))
 
-snapshot-agrees : (i : Option ℕ) (s : Log) (h : List Change) → Ranges (numbersOf s) → Agrees (s .run) h → Agrees (snapshotTo i s .run) h
-unfolding snapshotTo movedTo endOf
-snapshot-agrees i s h w a =
-    either (λ (t : Log). Agrees (t .run) h) (ltb (s .run .compacted) (targetOf i (numbersOf s))) _ _
-    (λ e.
-    moved-agrees (s .run) h a (targetOf i (numbersOf s)) (omega (arith, ltb-true (s .run .compacted) (targetOf i (numbersOf s)) e))
-    (omega (arith, targetOf-range i (numbersOf s), w .high)))
+snapshot-agrees : (upto : Option ℕ) (s : Log) (h : List Change) → Ranges (numbersOf s) → Agrees (s .run) h → Agrees (snapshotTo upto s .run) h
+unfolding snapshotTo foldedUpto movedTo passesStart endOf
+snapshot-agrees upto s h w a =
+    let to : ℕ = target upto (numbersOf s) in
+    either (λ (t : Log). Agrees (t .run) h) (ltb (s .run .compacted) to) _ _
+    (λ e. moved-agrees (s .run) h a to (omega (arith, ltb-true (s .run .compacted) to e)) (omega (arith, target-range upto (numbersOf s), w .high)))
     (λ e. a)
 
 append-agrees : (es : List Change) (s : Log) (h : List Change) → Agrees (s .run) h → Agrees (appended es s .run) (if fills es s then h ++ batchWith es s else h)
@@ -122,7 +121,7 @@ append-agrees es s h a = go (fills es s)
 -- a call that stands
 stands : (c : Call) (x : List Change) (s : Log) (h : List Change) → wellFormed s ≡ true → Passed (guards c s) → Truthful c x s → Agrees (s .run) h
     → Agrees (effect c s .run) (grown c x s h)
-unfolding effect grown Truthful
+unfolding effect grown
 stands (query q) x s h w p t a = a
 stands (append es) x s h w p t a = append-agrees es s h a
 stands (appendNow es) x s h w p t a = unfold appendedNow in joined-agrees (s .run) h a es
@@ -132,15 +131,15 @@ stands (appendStop g) x s h w p t a = unfold stopAppended flushed in joined-agre
 stands (setStop g) x s h w p t a = unfold stopSet in a
 stands (setPromise b) x s h w p t a = a
 stands (decide i) x s h w p t a = a
-stands (trim i) x s h w p t a = absurd t
+stands (trim i) x s h w p t a = absurd (true≢false (sym (t .0)))
 stands (snapshot i) x s h w p t a = snapshot-agrees i s h (ranges (numbersOf s) (formed-of s w .numbers)) a
 stands (sync b d none) x s h w p t a = unfold synced in a
 stands (sync b d (some q)) x s h w p t a =
     unfold synced partSynced in
     part-agrees d (q .idx) (q .snapshot) (q .suffix) (q .stop) x s h (ranges (numbersOf s) (formed-of s w .numbers))
-    (unfold further syncGuards in cleared (sync b d (some q)) s p) t a
-stands reload x s h w p t a = absurd t
-stands (write l ops) x s h w p t a = absurd t
+    (unfold further syncGuards in cleared (sync b d (some q)) s p) (t .1) a
+stands reload x s h w p t a = absurd (true≢false (sym (t .0)))
+stands (write l ops) x s h w p t a = absurd (true≢false (sym (t .0)))
 
 -- one call, refused or not
 step-agrees : (e : Event) (t : Told) → wellFormed (t .log) ≡ true → (first (guards (e .call) (t .log)) ≡ passes → Truthful (e .call) (e .behind) (t .log))

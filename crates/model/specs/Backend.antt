@@ -14,7 +14,8 @@ use Rattle.entry.specs.Guards.{Guard, guard}
 use Rattle.entry.specs.declared.Ballot.{Ballot}
 use Rattle.entry.specs.declared.StopSign.{StopSign}
 use Rattle.model.specs.Numbers.{Numbers, endOf, acceptedOf}
-use Rattle.model.specs.Log.{Log, given, ifGiven, numbersOf, shotFormed, wellFormed, retaining, signed, deciding, promising, rounding, withRun, withTail, withMarks}
+use Rattle.model.specs.Log.{Run, Tail, Marks, Log, given, ifGiven, numbersOf, shotFormed, wellFormed}
+use Rattle.model.specs.Log.{compactedAt, retaining, holding, signed, deciding, promising, rounding, withRun, withTail, withMarks}
 
 -- "those of `StorageOp` but `AppendEntry`"; the last two set what is lent, or none
 pub data Op : Type 0 where
@@ -52,39 +53,32 @@ pub record Midst : Type 0 where
   pub start : ℕ
   pub log : Log
 
+-- the same with one part set
+abbrev pub onRun : Run → Midst → Midst
+onRun r m = record { start = m .start; log = withRun r (m .log) }
+
+abbrev pub onTail : Tail → Midst → Midst
+onTail t m = record { start = m .start; log = withTail t (m .log) }
+
+abbrev pub onMarks : Marks → Midst → Midst
+onMarks k m = record { start = m .start; log = withMarks k (m .log) }
+
+abbrev pub startingAt : ℕ → Midst → Midst
+startingAt i m = record { start = i; log = m .log }
+
 -- what an operation does
 unfoldable pub step : Lent → Op → Midst → Midst
-step l appendEntries m =
-    record { start = m .start; log = withRun (retaining (m .log .run .retained ++ l .entries) (m .log .run)) (m .log) }
+step l appendEntries m = onRun (retaining (m .log .run .retained ++ l .entries) (m .log .run)) m
 step l (appendOnPrefix i) m =
-    record {
-      start = m .start;
-      log = withRun (retaining (take (i - m .start) (m .log .run .retained) ++ l .entries) (m .log .run)) (m .log);
-    }
-step l (setDecided i) m = record { start = m .start; log = withMarks (deciding i (m .log .marks)) (m .log) }
-step l (setCompacted i) m =
-    record {
-      start = m .start;
-      log = withRun (record { compacted = i; retained = m .log .run .retained; held = m .log .run .held }) (m .log);
-    }
+    onRun (retaining (take (i - m .start) (m .log .run .retained) ++ l .entries) (m .log .run)) m
+step l (setDecided i) m = onMarks (deciding i (m .log .marks)) m
+step l (setCompacted i) m = onRun (compactedAt i (m .log .run)) m
 step l (trim i) m =
-    record {
-      start = max (m .start) i;
-      log = withRun (retaining (drop (i - m .start) (m .log .run .retained)) (m .log .run)) (m .log);
-    }
-step l (setPromise b) m = record { start = m .start; log = withMarks (promising b (m .log .marks)) (m .log) }
-step l (setRound b) m = record { start = m .start; log = withMarks (rounding b (m .log .marks)) (m .log) }
-step l (setSign t) m =
-    record { start = m .start; log = withTail (signed (if t then l .sign else none) (m .log .tail)) (m .log) }
-step l (setSnapshot t) m =
-    record {
-      start = m .start;
-      log = withRun (record {
-        compacted = m .log .run .compacted;
-        retained = m .log .run .retained;
-        held = if t then l .snapshot else none;
-      }) (m .log);
-    }
+    startingAt (max (m .start) i) (onRun (retaining (drop (i - m .start) (m .log .run .retained)) (m .log .run)) m)
+step l (setPromise b) m = onMarks (promising b (m .log .marks)) m
+step l (setRound b) m = onMarks (rounding b (m .log .marks)) m
+step l (setSign t) m = onTail (signed (if t then l .sign else none) (m .log .tail)) m
+step l (setSnapshot t) m = onRun (holding (if t then l .snapshot else none) (m .log .run)) m
 
 unfoldable pub steps : Lent → List Op → Midst → Midst
 steps l [] m = m

@@ -1,13 +1,13 @@
 -- Module 7: what a follower lacks.
 use Prim.Native.Nat.{ℕ}
-use mathlib.Core.List.{List, [], _∷_}
+use mathlib.Core.List.{List}
 use mathlib.Core.Option.{Option, none, some}
 use lib.Dec.{ltb, leb}
 use Rattle.words.specs.If.{if_then_else_}
 use Rattle.entry.specs.Change.{Change}
 use Rattle.entry.specs.Guards.{Guard}
 use Rattle.snapshot.specs.Folds.{fold}
-use Rattle.snapshot.specs.Calls.{overRoom}
+use Rattle.snapshot.specs.Calls.{foldGuards}
 use Rattle.model.specs.Numbers.{logDecided}
 use Rattle.model.specs.Log.{Log, numbersOf, orEmpty, foldedTo}
 use Rattle.model.specs.Read.{between}
@@ -34,4 +34,4 @@ diffOf from s =
 
 -- "create_diff_snapshot: 8", of what is folded for it
 unfoldable pub diffGuards : ℕ → Log → List Guard
-diffGuards from s = overRoom (orEmpty (snapshotIn (diffOf from s))) ∷ []
+diffGuards from s = foldGuards (orEmpty (snapshotIn (diffOf from s)))

@@ -1,6 +1,7 @@
 -- The history of a log as document 01 defines it, and a run of calls with what their syncs stand for.
 use Prim.Native.Nat.{ℕ, _-_}
 use mathlib.Core.Path.{_≡_}
+use mathlib.Core.Bool.{Bool, true, false}
 use mathlib.Core.List.{List, [], _∷_, _++_}
 use mathlib.Core.Option.{none, some}
 use lib.ListN.{length, take}
@@ -13,6 +14,7 @@ use Rattle.model.specs.Log.{Log, numbersOf, freshLog}
 use Rattle.model.specs.Append.{fills, batchWith}
 use Rattle.model.specs.Diff.{plain, complete, delta}
 use Rattle.model.specs.Sync.{Part}
+use Rattle.model.specs.Orders.{Moving, neither, synced, movingOf}
 use Rattle.model.specs.Calls.{Call, query, append, appendNow, flush, flushEntries, appendStop, setStop, setPromise, decide, trim, snapshot, sync, reload, write, guards, stateAfter}
 
 -- "A plain sync keeps the first sync_idx and joins the suffix. A complete sync stands for a list of sync_idx entries, a delta for
@@ -53,22 +55,29 @@ Stands p x s =
     ]
 
 -- "none a trim, an operation list or a reload"
-unfoldable pub Truthful : Call → List Change → Log → Type 0
-Truthful (query q) x s = Unit {0}
-Truthful (append es) x s = Unit {0}
-Truthful (appendNow es) x s = Unit {0}
-Truthful flush x s = Unit {0}
-Truthful flushEntries x s = Unit {0}
-Truthful (appendStop g) x s = Unit {0}
-Truthful (setStop g) x s = Unit {0}
-Truthful (setPromise b) x s = Unit {0}
-Truthful (decide i) x s = Unit {0}
-Truthful (trim i) x s = ⊥
-Truthful (snapshot i) x s = Unit {0}
-Truthful (sync b d none) x s = Unit {0}
-Truthful (sync b d (some p)) x s = Stands p x s
-Truthful reload x s = ⊥
-Truthful (write l ops) x s = ⊥
+abbrev pub admitted : Call → Bool
+admitted (query q) = true
+admitted (append es) = true
+admitted (appendNow es) = true
+admitted flush = true
+admitted flushEntries = true
+admitted (appendStop g) = true
+admitted (setStop g) = true
+admitted (setPromise b) = true
+admitted (decide i) = true
+admitted (trim i) = false
+admitted (snapshot i) = true
+admitted (sync b d p) = true
+admitted reload = false
+admitted (write l ops) = false
+
+abbrev pub Honest : Moving → List Change → Log → Type 0
+Honest neither x s = Unit {0}
+Honest (synced d none) x s = Unit {0}
+Honest (synced d (some p)) x s = Stands p x s
+
+abbrev pub Truthful : Call → List Change → Log → Type 0
+Truthful c x s = (admitted c ≡ true) × Honest (movingOf c) x s
 
 -- a call, and the list that its sync's snapshot stands for (of no account elsewhere)
 pub record Event : Type 0 where

@@ -73,8 +73,14 @@ wellFormed s =
     && (formed (s .tail .batched) && (ifGiven shotFormed (s .run .held) && ifGiven signFormed (s .tail .sign))))
 
 -- parts with one field set, and states with one part set
+abbrev pub compactedAt : ℕ → Run → Run
+compactedAt i r = record { compacted = i; retained = r .retained; held = r .held }
+
 abbrev pub retaining : List Change → Run → Run
 retaining es r = record { compacted = r .compacted; retained = es; held = r .held }
+
+abbrev pub holding : Option (List Change) → Run → Run
+holding h r = record { compacted = r .compacted; retained = r .retained; held = h }
 
 abbrev pub waiting : List Change → Tail → Tail
 waiting es t = record { batched = es; size = t .size; sign = t .sign }

@@ -13,7 +13,7 @@ use Rattle.entry.specs.Guards.{Guard, guard}
 use Rattle.entry.specs.declared.Ballot.{Ballot}
 use Rattle.entry.specs.declared.StopSign.{StopSign}
 use Rattle.snapshot.specs.Folds.{merge}
-use Rattle.snapshot.specs.Calls.{overRoom}
+use Rattle.snapshot.specs.Calls.{foldGuards}
 use Rattle.model.specs.Numbers.{Numbers, endOf, acceptedOf, stopDecided, logDecided}
 use Rattle.model.specs.Log.{Run, Log, given, ifGiven, numbersOf, foldedTo, shotFormed, signed, deciding, rounding, withMarks}
 use Rattle.model.specs.Diff.{Given, plain, complete, delta, snapshotIn}
@@ -90,7 +90,7 @@ foldThen (complete c) s = []
 foldThen (delta d) s = deltaOnto d s
 
 unfoldable pub partGuards : ℕ → Part → Log → List Guard
-partGuards d p s = partNumberGuards d (partNumbers p) (numbersOf s) ++ (overRoom (foldThen (p .snapshot) s) ∷ [])
+partGuards d p s = partNumberGuards d (partNumbers p) (numbersOf s) ++ foldGuards (foldThen (p .snapshot) s)
 
 -- "without: 6"
 unfoldable pub roundGuards : ℕ → Numbers → List Guard

@@ -1,6 +1,6 @@
 -- The calls on lent words: each way out of them against its definition.
 use Prim.Native.Nat.{ℕ, suc, _+_, _*_, _/_, _<_, _≤_}
-use mathlib.Core.Path.{_≡_, refl, sym, ap₂, _∙_}
+use mathlib.Core.Path.{_≡_, refl, sym, ap, ap₂, _∙_}
 use mathlib.Core.Bool.{Bool, true, false, _&&_, not}
 use mathlib.Core.List.{List, [], _∷_}
 use mathlib.Core.Option.{none, some}
@@ -15,14 +15,15 @@ use Rattle.words.proofs.Tests.{and-left, and-right}
 use Rattle.words.proofs.CodedLaws.{entries-length}
 use Rattle.entry.specs.Limits.{width, keyRoom, snapshotWords}
 use Rattle.entry.specs.Change.{Change, change, changeCode, saidOf, entriesOf, entriesIn, sliceFormed, stored, storedIn, formed}
-use Rattle.entry.specs.Guards.{guard, first, replied, refusedBy}
+use Rattle.entry.specs.Guards.{guard, Verdict, passes, refuses, first, refused, replied, refusedBy}
+use Rattle.entry.specs.Refusals.{numberOf, carriedOf}
 use Rattle.entry.specs.declared.Refusal.{Refusal}
 use Rattle.entry.specs.declared.Refusal.the-variants.{TooManyKeys, Malformed}
 use Rattle.entry.proofs.ChangeLaws.{changeAt, entry-cons}
 use Rattle.entry.proofs.GuardLaws.{first-refuses, first-goes-on}
 use Rattle.entry.proofs.SliceLaws.{laid-of, slice-fine, stored-entries, stored-laid}
 use Rattle.snapshot.specs.Folds.{rising, foldOnto, fold, merge, find, placeOf}
-use Rattle.snapshot.specs.Calls.{snapshotFormed, outcome, written, overRoom, folded, foldCall, mergeCall, findCall}
+use Rattle.snapshot.specs.Calls.{snapshotFormed, Outcome, outcome, written, foldGuards, folded, foldCall, mergeCall, findCall}
 use Rattle.snapshot.specs.Inner.{place, here, spotOf, Holds, Shows, FoldIs, Aside, foldedOut}
 use Rattle.snapshot.specs.declared.Folded.{Folded}
 use Rattle.snapshot.specs.declared.Folded.the-variants.{Keys, Refused}
@@ -33,21 +34,45 @@ use Rattle.snapshot.proofs.Putting.{folded-keys, folded-refused}
 
 -- refusal 8, or the snapshot written out
 module _ (es : List Change) (out : List ℕ) where
-  pub over-refused : keyRoom < length es → outcome (refusedBy TooManyKeys) out ≡ written (first (overRoom es ∷ [])) es out
+  pub over-refused : keyRoom < length es → outcome (refusedBy TooManyKeys) out ≡ written (first (foldGuards es)) es out
   over-refused h = rw (first-refuses 8 0 (ltb keyRoom (length es)) [] (lt-ltb keyRoom (length es) h))
 
-  pub over-written : length es ≤ keyRoom → outcome (replied (length es)) (stored snapshotWords es) ≡ written (first (overRoom es ∷ [])) es out
+  pub over-written : length es ≤ keyRoom → outcome (replied (length es)) (stored snapshotWords es) ≡ written (first (foldGuards es)) es out
   unfolding first
   over-written h = rw (first-goes-on 8 0 (ltb keyRoom (length es)) [] (le-ltb keyRoom (length es) h))
 
   module _ (r : Folded) (t : List ℕ) (p : FoldIs snapshotWords es r t) where
-    pub aside-refused : (x : Refusal) → r ≡ Refused x → outcome (folded (Refused TooManyKeys)) out ≡ written (first (overRoom es ∷ [])) es out
+    pub aside-refused : (x : Refusal) → r ≡ Refused x → outcome (folded (Refused TooManyKeys)) out ≡ written (first (foldGuards es)) es out
     aside-refused x e = over-refused (omega (arith, folded-refused snapshotWords es x (sym (p .reply) ∙ e)))
 
-    pub aside-written : (k : ℕ) → r ≡ Keys k → outcome (folded (Keys k)) t ≡ written (first (overRoom es ∷ [])) es out
+    pub aside-written : (k : ℕ) → r ≡ Keys k → outcome (folded (Keys k)) t ≡ written (first (foldGuards es)) es out
     aside-written k e =
         let q = folded-keys snapshotWords es k (sym (p .reply) ∙ e) in
         ap₂ (λ (n : ℕ) (ws : List ℕ). outcome (replied n) ws) (q .1) (p .words-are (q .0)) ∙ over-written (omega (arith, q .0))
+
+-- what a fold's answer tells, whatever the verdict
+module _ (v : Verdict) (es : List Change) (out exit : List ℕ) (a : Folded) (f : outcome (folded a) exit ≡ written v es out) where
+  pub wrote-nothing : (x : Refusal) → a ≡ Refused x → (v ≡ refuses (numberOf x) (carriedOf x)) × (exit ≡ out)
+  wrote-nothing x p = go v (ap (λ (b : Folded). outcome (folded b) exit) (sym p) ∙ f)
+    where
+      go : (u : Verdict) → outcome (refusedBy x) exit ≡ written u es out → (u ≡ refuses (numberOf x) (carriedOf x)) × (exit ≡ out)
+      go passes e =
+          let y : refusedBy x ≡ replied (length es) = ap (λ (o : Outcome). o .answer) e in
+          let z : _≡_ {A = ℕ} 0 1 = cc in
+          absurd (omega arith)
+      go (refuses n k) e =
+          let y : refusedBy x ≡ refused n k = ap (λ (o : Outcome). o .answer) e in (cc, ap (λ (o : Outcome). o .output) e)
+
+  pub wrote-keys : (k : ℕ) → a ≡ Keys k → (v ≡ passes) × (k ≡ length es) × (exit ≡ stored snapshotWords es)
+  wrote-keys k p = go v (ap (λ (b : Folded). outcome (folded b) exit) (sym p) ∙ f)
+    where
+      go : (u : Verdict) → outcome (replied k) exit ≡ written u es out → (u ≡ passes) × (k ≡ length es) × (exit ≡ stored snapshotWords es)
+      go passes e =
+          let y : replied k ≡ replied (length es) = ap (λ (o : Outcome). o .answer) e in (refl, cc, ap (λ (o : Outcome). o .output) e)
+      go (refuses n j) e =
+          let y : replied k ≡ refused n j = ap (λ (o : Outcome). o .answer) e in
+          let z : _≡_ {A = ℕ} 0 1 = cc in
+          absurd (omega arith)
 
 -- the same as what is needed of scratch words, and of what a fold in them comes to
 module _ (kept : ℕ) (base : List ℕ) (n : ℕ) (entries out : List ℕ) (a : Aside kept base n entries out) where
@@ -81,11 +106,11 @@ empty-formed = snapshot-stored [] (omega arith) refl refl
 
 -- refusal 11, and what follows where it is not given
 module _ (ok : Bool) (es : List Change) (out : List ℕ) where
-  malformed : ok ≡ false → outcome (refusedBy Malformed) out ≡ written (first (guard 11 0 (not ok) ∷ overRoom es ∷ [])) es out
-  malformed e = rw (first-refuses 11 0 (not ok) (overRoom es ∷ []) (rw e))
+  malformed : ok ≡ false → outcome (refusedBy Malformed) out ≡ written (first (guard 11 0 (not ok) ∷ foldGuards es)) es out
+  malformed e = rw (first-refuses 11 0 (not ok) (foldGuards es) (rw e))
 
-  in-form : ok ≡ true → written (first (overRoom es ∷ [])) es out ≡ written (first (guard 11 0 (not ok) ∷ overRoom es ∷ [])) es out
-  in-form e = rw (first-goes-on 11 0 (not ok) (overRoom es ∷ []) (rw e))
+  in-form : ok ≡ true → written (first (foldGuards es)) es out ≡ written (first (guard 11 0 (not ok) ∷ foldGuards es)) es out
+  in-form e = rw (first-goes-on 11 0 (not ok) (foldGuards es) (rw e))
 
 module _ (entries out : List ℕ) where
   abbrev pub foldable : Bool

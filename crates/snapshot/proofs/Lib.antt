@@ -10,3 +10,4 @@ pub mod Calling
 pub mod OnWords
 pub mod Unique
 pub mod Refused
+pub mod Over

@@ -16,7 +16,7 @@ use Rattle.entry.specs.Change.{Change, changeCode, formed, entriesOf, entriesIn
 use Rattle.entry.specs.Guards.{first, refused, replied}
 use Rattle.entry.proofs.SliceLaws.{laid-stored, slice-whole, slice-fine, slice-join, entries-join, stored-entries}
 use Rattle.snapshot.specs.Folds.{fold, merge, rising, within}
-use Rattle.snapshot.specs.Calls.{snapshotFormed, Outcome, outcome, written, overRoom, foldCall, mergeCall, afterwards}
+use Rattle.snapshot.specs.Calls.{snapshotFormed, Outcome, outcome, written, foldGuards, foldCall, mergeCall, afterwards}
 use Rattle.snapshot.proofs.Forming.{formed-fold, formed-merge}
 use Rattle.snapshot.proofs.Algebra.{fold-join-within, merge-assoc-within, merge-empty, empty-merge, fold-rises, merge-rises, within-fits, within-none}
 use Rattle.snapshot.proofs.Calling.{over-refused, over-written, snapshot-holds, snapshot-stored, empty-formed, fold-stands, merge-stands}
@@ -26,11 +26,11 @@ shown : Option (List Change) → List ℕ → Outcome
 shown none out = outcome (refused 8 0) out
 shown (some s) out = outcome (replied (length s)) (stored snapshotWords s)
 
-written-shown : (s : List Change) (out : List ℕ) → written (first (overRoom s ∷ [])) s out ≡ shown (within keyRoom s) out
+written-shown : (s : List Change) (out : List ℕ) → written (first (foldGuards s)) s out ≡ shown (within keyRoom s) out
 unfolding shown
 written-shown s out = by (reach (length s) keyRoom)
   where
-    by : Reach (length s) keyRoom → written (first (overRoom s ∷ [])) s out ≡ shown (within keyRoom s) out
+    by : Reach (length s) keyRoom → written (first (foldGuards s)) s out ≡ shown (within keyRoom s) out
     by (reached h) = sym (over-written s out h) ∙ rw (within-fits keyRoom s h)
     by (short h) = sym (over-refused s out h) ∙ rw (within-none keyRoom s h)
 

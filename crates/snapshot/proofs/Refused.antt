@@ -10,7 +10,7 @@ use Rattle.entry.specs.Limits.{snapshotWords}
 use Rattle.entry.specs.Change.{Change, entriesOf, entriesIn, sliceFormed}
 use Rattle.entry.specs.Guards.{guard, Verdict, passes, refuses, first, refused}
 use Rattle.snapshot.specs.Folds.{fold, merge}
-use Rattle.snapshot.specs.Calls.{snapshotFormed, written, overRoom, foldCall, mergeCall}
+use Rattle.snapshot.specs.Calls.{snapshotFormed, written, foldGuards, foldCall, mergeCall}
 
 written-keeps : (v : Verdict) (s : List Change) (out : List ℕ) (n k : ℕ) → written v s out .answer ≡ refused n k → written v s out .output ≡ out
 written-keeps passes s out n k e = let z : _≡_ {A = ℕ} 0 1 = cc in absurd (omega arith)
@@ -20,10 +20,10 @@ pub fold-keeps : (entries out : List ℕ) (n k : ℕ) → foldCall entries out .
 unfolding foldCall
 fold-keeps entries out n k e =
     let s : List Change = fold (entriesIn entries) in
-    written-keeps (first (guard 11 0 (not (sliceFormed entries && eqb (length out) snapshotWords)) ∷ overRoom s ∷ [])) s out n k e
+    written-keeps (first (guard 11 0 (not (sliceFormed entries && eqb (length out) snapshotWords)) ∷ foldGuards s)) s out n k e
 
 pub merge-keeps : (a : List ℕ) (i : ℕ) (b : List ℕ) (j : ℕ) (out : List ℕ) (n k : ℕ) → mergeCall a i b j out .answer ≡ refused n k → mergeCall a i b j out .output ≡ out
 unfolding mergeCall
 merge-keeps a i b j out n k e =
     let s : List Change = merge (entriesOf i a) (entriesOf j b) in
-    written-keeps (first (guard 11 0 (not (snapshotFormed i a && (snapshotFormed j b && eqb (length out) snapshotWords))) ∷ overRoom s ∷ [])) s out n k e
+    written-keeps (first (guard 11 0 (not (snapshotFormed i a && (snapshotFormed j b && eqb (length out) snapshotWords))) ∷ foldGuards s)) s out n k e

@@ -32,18 +32,18 @@ written passes s out = outcome (replied (length s)) (stored snapshotWords s)
 written (refuses n k) s out = outcome (refused n k) out
 
 -- "the fold has over 512 keys"
-abbrev pub overRoom : List Change → Guard
-overRoom s = guard 8 0 (ltb keyRoom (length s))
+abbrev pub foldGuards : List Change → List Guard
+foldGuards s = guard 8 0 (ltb keyRoom (length s)) ∷ []
 
 unfoldable pub foldCall : List ℕ → List ℕ → Outcome
 foldCall entries out =
     let s : List Change = fold (entriesIn entries) in
-    written (first (guard 11 0 (not (sliceFormed entries && eqb (length out) snapshotWords)) ∷ overRoom s ∷ [])) s out
+    written (first (guard 11 0 (not (sliceFormed entries && eqb (length out) snapshotWords)) ∷ foldGuards s)) s out
 
 unfoldable pub mergeCall : List ℕ → ℕ → List ℕ → ℕ → List ℕ → Outcome
 mergeCall a n b m out =
     let s : List Change = merge (entriesOf n a) (entriesOf m b) in
-    written (first (guard 11 0 (not (snapshotFormed n a && (snapshotFormed m b && eqb (length out) snapshotWords))) ∷ overRoom s ∷ [])) s out
+    written (first (guard 11 0 (not (snapshotFormed n a && (snapshotFormed m b && eqb (length out) snapshotWords))) ∷ foldGuards s)) s out
 
 unfoldable pub findCall : List ℕ → ℕ → ℕ → Answer (Option ℕ)
 findCall ws n k = settle (first (guard 11 0 (not (snapshotFormed n ws)) ∷ [])) (placeOf (find k (entriesOf n ws)))

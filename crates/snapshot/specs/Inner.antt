@@ -11,7 +11,7 @@ use Rattle.entry.specs.Change.{Change, formed, entriesOf, stored, Laid}
 use Rattle.entry.specs.Guards.{first}
 use Rattle.entry.specs.declared.Refusal.the-variants.{TooManyKeys}
 use Rattle.snapshot.specs.Folds.{rising, foldOnto}
-use Rattle.snapshot.specs.Calls.{Outcome, written, overRoom}
+use Rattle.snapshot.specs.Calls.{Outcome, written, foldGuards}
 use Rattle.snapshot.specs.declared.inner.Spot.{Spot}
 use Rattle.snapshot.specs.declared.inner.Spot.the-variants.{At, Before}
 use Rattle.snapshot.specs.declared.Folded.{Folded}
@@ -60,7 +60,8 @@ pub record Aside (kept : ℕ) (base : List ℕ) (n : ℕ) (entries out : List �
   pub room : length out ≡ snapshotWords
 
 -- what comes of it: refusal 8, or the fold written out
+abbrev pub foldWritten : List Change → List ℕ → Outcome
+foldWritten s out = written (first (foldGuards s)) s out
+
 abbrev pub foldedOut : ℕ → List ℕ → ℕ → List ℕ → List ℕ → Outcome
-foldedOut kept base n entries out =
-    let s : List Change = foldOnto (entriesOf kept base) (entriesOf n entries) in
-    written (first (overRoom s ∷ [])) s out
+foldedOut kept base n entries out = foldWritten (foldOnto (entriesOf kept base) (entriesOf n entries)) out

@@ -10,7 +10,7 @@ ghost use Rattle.entry.specs.Limits.{width};
 ghost use Rattle.entry.specs.Change.{change, saidOf, saidFormed, entriesOf};
 ghost use Rattle.snapshot.specs.Folds.{rising, insert, foldOnto};
 ghost use Rattle.snapshot.specs.Calls.{outcome, folded};
-ghost use Rattle.snapshot.specs.Inner.{spotOf, Passed, Holds, Shows, FoldIs, Aside, foldedOut};
+ghost use Rattle.snapshot.specs.Inner.{spotOf, Passed, Holds, Shows, FoldIs, Aside, foldWritten, foldedOut};
 
 // Whether the keys of the first n entries ascend strictly.
 pub fn keys_ascend(s: &[u64], n: usize) -> bool
@@ -144,4 +144,31 @@ pub fn fold_aside(base: &[u64], kept: usize, entries: &[u64], n: usize, out: &mu
     let mut scratch = [0u64; entry::SNAPSHOT_WORDS];
     words::copy_words(base, &mut scratch);
     fold_out(&mut scratch, kept, entries, n, out)
+}
+
+// Folds the first n entries, and then m more, onto a snapshot in its place. The fold is made aside, so that one with too many keys
+// writes nothing; where the first part has too many so has the whole, since keys are only added.
+pub fn fold_over(
+    shot: &mut [u64],
+    kept: usize,
+    entries: &[u64],
+    n: usize,
+    more: &[u64],
+    m: usize,
+) -> Folded
+    requires { ⌜ Aside kept (now shot) n (now entries) (now shot) × Shows m (now more) ⌝ }
+    ensures { λ r. ⌜ outcome (folded r) (now (shot .exit))
+        ≡ foldWritten
+        (foldOnto
+        (foldOnto (entriesOf kept (now (shot .entry))) (entriesOf n (now (entries .entry))))
+        (entriesOf m (now (more .entry))))
+        (now (shot .entry)) ⌝ }
+{
+    let mut scratch = [0u64; entry::SNAPSHOT_WORDS];
+    words::copy_words(shot, &mut scratch);
+    let r = fold_onto(&mut scratch, kept, entries, n);
+    let Folded::Keys(keys) = r else {
+        return r;
+    };
+    fold_out(&mut scratch, keys, more, m, shot)
 }

@@ -32,7 +32,7 @@ use Rattle.state_cache.proofs.Runs.{not-whole, bad-call}
 use Rattle.internal_storage.specs.Replies.{indexed, byNumbers, asked}
 use Rattle.internal_storage.proofs.Effects.{numbers-run}
 use Rattle.sync.specs.Requests.{givenBy, plainBy, partBy, partOf, lentWhole, requestFormed}
-use Rattle.sync.specs.Records.{marked, Syncs}
+use Rattle.sync.specs.Inner.{marked, Syncs}
 use Rattle.sync.specs.declared.LogSync.{LogSync}
 use Rattle.sync.specs.declared.SnapshotType.{SnapshotType}
 use Rattle.sync.specs.declared.SnapshotType.the-variants.{Plain, Complete, Delta}

@@ -18,7 +18,7 @@ use Rattle.state_cache.specs.State.{numbersIn, oneIf}
 use Rattle.state_cache.specs.declared.IndexRecord.{IndexRecord}
 use Rattle.internal_storage.specs.Replies.{Indexed, indexed, byNumbers}
 use Rattle.internal_storage.proofs.Numbered.{told-by}
-use Rattle.sync.specs.Records.{marked}
+use Rattle.sync.specs.Inner.{marked}
 
 -- 9, by what is left of the indexes
 module _ (idx n more : ℕ) (fits : more ≤ lastIndex) where

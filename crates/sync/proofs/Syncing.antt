@@ -2,7 +2,7 @@
 use Prim.Native.Nat.{ℕ, _+_, _-_, _*_, _/_, _%_, _≤_, max}
 use mathlib.Core.Path.{_≡_, refl, sym, ap, ap₂, _∙_}
 use mathlib.Core.Bool.{Bool, true, false, _||_, not}
-use mathlib.Core.List.{List, [], _∷_, _++_, append-assoc}
+use mathlib.Core.List.{List, _++_, append-assoc}
 use mathlib.Core.Option.{some}
 use native.Mathlib.Omega.{arith}
 use borrow.Author.Tests.{ltb-false, le-ltb, eqb-true}
@@ -14,17 +14,18 @@ use Rattle.words.specs.Coded.{wordsOf}
 use Rattle.words.proofs.CodedLaws.{spliced-sync, words-entries, entries-length}
 use Rattle.entry.specs.Limits.{width, entryRoom, keyRoom, lastIndex, logWords, snapshotWords}
 use Rattle.entry.specs.Change.{Change, changeCode, entriesOf, entriesIn, stored}
-use Rattle.entry.specs.Guards.{Guard, passes, refuses, first, refused, replied}
+use Rattle.entry.specs.Guards.{Guard, passes, refuses, first, refused, replied, refusedBy}
 use Rattle.entry.specs.Refusals.{numberOf, carriedOf}
 use Rattle.entry.specs.declared.Ballot.{Ballot}
 use Rattle.entry.specs.declared.Refusal.{Refusal}
 use Rattle.entry.proofs.ChangeLaws.{changeOk}
-use Rattle.entry.proofs.GuardLaws.{first-left, first-right, Clear, clear, passed, clear-all, passing, stopping, found}
+use Rattle.entry.proofs.GuardLaws.{first-left, first-right, Clear, clear, passed}
 use Rattle.snapshot.specs.Folds.{foldOnto, merge}
-use Rattle.snapshot.specs.Calls.{outcome as shotOutcome, folded, overRoom}
-use Rattle.snapshot.specs.Inner.{Holds}
+use Rattle.snapshot.specs.Calls.{outcome as shotOutcome, folded, foldGuards}
+use Rattle.snapshot.specs.Inner.{Holds, foldWritten}
 use Rattle.snapshot.specs.declared.Folded.{Folded}
 use Rattle.snapshot.specs.declared.Folded.the-variants.{Keys, Refused}
+use Rattle.snapshot.proofs.Calling.{wrote-nothing, wrote-keys}
 use Rattle.model.specs.Numbers.{Numbers, acceptedOf, logDecided}
 use Rattle.model.specs.Log.{Log, given, orEmpty, foldedTo}
 use Rattle.model.specs.Sync.{Part, PartNumbers, partNumbers, plain?, partNumberGuards, partGuards, foldThen, deltaOnto, runThen, partSynced}
@@ -37,10 +38,9 @@ use Rattle.state_cache.proofs.Runs.{call-refused, call-stands}
 use Rattle.state_cache.proofs.Changes.{log-spliced}
 use Rattle.internal_storage.specs.Replies.{asked}
 use Rattle.internal_storage.proofs.Effects.{numbers}
-use Rattle.compaction.proofs.Folding.{decided-high, shot-is, fold-is, fold-wrote, fold-left}
+use Rattle.compaction.proofs.Folding.{decided-high, shot-is, fold-is}
 use Rattle.sync.specs.Requests.{givenBy, plainBy, partBy, numbersBy}
-use Rattle.sync.specs.Records.{marked, keptBy, syncedIndex, Fits, Taken, Syncs}
-use Rattle.sync.specs.Shots.{shotThen, shotOver}
+use Rattle.sync.specs.Inner.{shotThen, marked, keptBy, syncedIndex, Fits, Taken, Syncs}
 use Rattle.sync.specs.declared.LogSync.{LogSync}
 use Rattle.sync.specs.declared.SnapshotType.{SnapshotType}
 use Rattle.sync.specs.declared.SnapshotType.the-variants.{Plain, Complete, Delta}
@@ -91,7 +91,7 @@ module _ (r : Raw) (x : LogSync) (incoming suffix : List ℕ) (w : Syncs r x inc
       fields t k g e q u = rw (e, q, u)
 
   abbrev last-guard : List Guard
-  last-guard = overRoom (foldThen (givenBy kind (entriesOf (x .keys) incoming)) s) ∷ []
+  last-guard = foldGuards (foldThen (givenBy kind (entriesOf (x .keys) incoming)) s)
 
   guards-are : first (further c s) ≡ first (gs ++ last-guard)
   unfolding further syncGuards partGuards
@@ -158,31 +158,31 @@ module _ (r : Raw) (x : LogSync) (incoming suffix : List ℕ) (w : Syncs r x inc
     few-keys k ws h = le-ltb keyRoom (length (entriesOf k ws)) (omega (arith, entries-length changeCode k ws, h .laid .fits))
 
     -- 8 comes of a delta alone
-    tested : (k : SnapshotType) → (plainBy k ≡ false → Holds snapshotWords (x .keys) incoming) → (t : Bool) → ltb keyRoom (length (shotThen k held decided lent)) ≡ t
-        → ltb keyRoom (length (foldThen (givenBy k lent) s)) ≡ t
-    tested Plain h t e = le-ltb keyRoom 0 (omega arith) ∙ sym (few-keys (r .index .keys) (r .snapshot) (w .ready .snapshot)) ∙ e
-    tested Complete h t e = le-ltb keyRoom 0 (omega arith) ∙ sym (few-keys (x .keys) incoming (h refl)) ∙ e
-    tested Delta h t e = ap (λ (u : List Change). ltb keyRoom (length u)) delta-is ∙ e
+    tested : (k : SnapshotType) → (plainBy k ≡ false → Holds snapshotWords (x .keys) incoming)
+        → first (foldGuards (shotThen k held decided lent)) ≡ first (foldGuards (foldThen (givenBy k lent) s))
+    unfolding first
+    tested Plain h = rw (few-keys (r .index .keys) (r .snapshot) (w .ready .snapshot))
+    tested Complete h = rw (few-keys (x .keys) incoming (h refl))
+    tested Delta h = ap (λ (u : List Change). first (foldGuards u)) (sym delta-is)
 
-    module _ (a : Folded) (exit : List ℕ) (f : shotOutcome (folded a) exit ≡ shotOver (shotThen kind held decided lent) (r .snapshot)) where
+    module _ (a : Folded) (exit : List ℕ) (f : shotOutcome (folded a) exit ≡ foldWritten (shotThen kind held decided lent) (r .snapshot)) where
       abbrev shot : List Change
       shot = shotThen kind held decided lent
 
-      pub sync-over : (y : Refusal) → a ≡ Refused y → outcome (refused 8 0) (raw (r .index) (r .log) exit) ≡ run c true r
+      verdict : first (foldGuards shot) ≡ first (further c s)
+      verdict = tested kind (w .lent) ∙ sym (first-right gs last-guard pass) ∙ sym guards-are
+
+      pub sync-over : (y : Refusal) → a ≡ Refused y → outcome (refusedBy y) (raw (r .index) (r .log) exit) ≡ run c true r
       sync-over y e =
-          let q = fold-left shot (r .snapshot) exit (numberOf y) (carriedOf y) (ltb keyRoom (length shot)) (ap (λ (v : Folded). shotOutcome (folded v) exit) (sym e) ∙ f) in
-          ap (λ (ws : List ℕ). outcome (refused 8 0) (raw (r .index) (r .log) ws)) (q .1)
-          ∙ call-refused c r ok fine 8 0
-          (found {gs = last-guard} (stopping (tested kind (w .lent) true (q .0)) refl) ∙ sym (first-right gs last-guard pass) ∙ sym guards-are)
+          let q = wrote-nothing (first (foldGuards shot)) shot (r .snapshot) exit a f y e in
+          ap (λ (ws : List ℕ). outcome (refusedBy y) (raw (r .index) (r .log) ws)) (q .1)
+          ∙ call-refused c r ok fine (numberOf y) (carriedOf y) (sym (q .0) ∙ verdict)
 
       -- ---- the state after it
 
       module _ (keys : ℕ) (e : a ≡ Keys keys) (z : IndexRecord) (words : List ℕ) (m : Taken x n keys (marked b d (r .index)) (r .log) suffix z words) where
-        wrote : (ltb keyRoom (length shot) ≡ false) × (keys ≡ length shot) × (exit ≡ stored snapshotWords shot)
-        wrote = fold-wrote shot (r .snapshot) exit keys (ltb keyRoom (length shot)) (ap (λ (v : Folded). shotOutcome (folded v) exit) (sym e) ∙ f)
-
-        pass-all : passes ≡ first (further c s)
-        pass-all = found {gs = last-guard} (passing (tested kind (w .lent) false (wrote .0)) clear-all) ∙ sym (first-right gs last-guard pass) ∙ sym guards-are
+        wrote : (first (foldGuards shot) ≡ passes) × (keys ≡ length shot) × (exit ≡ stored snapshotWords shot)
+        wrote = wrote-keys (first (foldGuards shot)) shot (r .snapshot) exit a f keys e
 
         abbrev new : List Change
         new = entriesIn suffix
@@ -247,4 +247,4 @@ module _ (r : Raw) (x : LogSync) (incoming suffix : List ℕ) (w : Syncs r x inc
         pub sync-stands : (y : ℕ) → y ≡ acceptedOf (numbersIn z) → outcome (replied y) (raw z words exit) ≡ run c true r
         unfolding effect replyOf synced
         sync-stands y q =
-            call-stands c r ok fine pass-all y (raw z words exit) (q ∙ ap acceptedOf (sym (numbers-are (partSynced b d (partBy x incoming suffix) s) (raw z words exit) stands))) stands
+            call-stands c r ok fine (sym (wrote .0) ∙ verdict) y (raw z words exit) (q ∙ ap acceptedOf (sym (numbers-are (partSynced b d (partBy x incoming suffix) s) (raw z words exit) stands))) stands

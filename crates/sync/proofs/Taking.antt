@@ -16,7 +16,7 @@ use Rattle.state_cache.specs.declared.IndexRecord.{IndexRecord}
 use Rattle.state_cache.specs.Fields.{withRun, withStop}
 use Rattle.internal_storage.specs.Replies.{asked}
 use Rattle.sync.specs.Requests.{plainBy}
-use Rattle.sync.specs.Records.{keptBy, syncedIndex, Fits, Taken}
+use Rattle.sync.specs.Inner.{keptBy, syncedIndex, Fits, Taken}
 use Rattle.sync.specs.declared.LogSync.{LogSync}
 
 -- a fresh record's stop-sign stands for none

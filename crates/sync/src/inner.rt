@@ -19,9 +19,8 @@ ghost use Rattle.words.specs.If.{if_then_else_};
 ghost use Rattle.entry.specs.Guards.{first};
 ghost use Rattle.entry.specs.Limits.{snapshotWords, lastIndex};
 ghost use Rattle.entry.specs.Change.{entriesOf};
-ghost use Rattle.snapshot.specs.Folds.{foldOnto};
 ghost use Rattle.snapshot.specs.Calls.{outcome as shotOutcome, folded};
-ghost use Rattle.snapshot.specs.Inner.{Holds, Shows, Aside};
+ghost use Rattle.snapshot.specs.Inner.{Holds, foldWritten};
 ghost use Rattle.model.specs.Numbers.{acceptedOf, logDecided};
 ghost use Rattle.model.specs.Sync.{partNumberGuards, roundGuards};
 ghost use Rattle.model.specs.Calls.{sync as syncCall};
@@ -30,8 +29,7 @@ ghost use Rattle.state_cache.specs.State.{raw, numbersIn, signOr, Ready};
 ghost use Rattle.state_cache.specs.Run.{outcome, run, accepted};
 ghost use Rattle.internal_storage.specs.Replies.{verdictOf, indexed, byNumbers, asked};
 ghost use Rattle.sync.specs.Requests.{plainBy, partBy, numbersBy, requestFormed};
-ghost use Rattle.sync.specs.Records.{marked, Fits, Taken, Syncs};
-ghost use Rattle.sync.specs.Shots.{shotThen, shotOver};
+ghost use Rattle.sync.specs.Inner.{shotThen, marked, Fits, Taken, Syncs};
 
 fn is_plain(kind: SnapshotType) -> bool
     ensures { λ r. ⌜ r ≡ plainBy kind ⌝ }
@@ -158,28 +156,6 @@ pub fn round_at(index: IndexRecord, accepted_round: Ballot, decided_idx: LogInde
     }
 }
 
-// Folds the first n entries, and then m more, onto a snapshot in its place. The fold is made aside, so that one with too many keys
-// writes nothing; where the first part has too many so has the whole, since keys are only added.
-fn fold_twice(
-    shot: &mut [u64],
-    kept: usize,
-    entries: &[u64],
-    n: usize,
-    more: &[u64],
-    m: usize,
-) -> Folded
-    requires { ⌜ Aside kept (now shot) n (now entries) (now shot) × Shows m (now more) ⌝ }
-    ensures { λ r. ⌜ shotOutcome (folded r) (now (shot .exit)) ≡ shotOver (foldOnto (foldOnto (entriesOf kept (now (shot .entry))) (entriesOf n (now (entries .entry)))) (entriesOf m (now (more .entry)))) (now (shot .entry)) ⌝ }
-{
-    let mut scratch = [0u64; entry::SNAPSHOT_WORDS];
-    words::copy_words(shot, &mut scratch);
-    let r = snapshot::inner::fold_onto(&mut scratch, kept, entries, n);
-    let Folded::Keys(keys) = r else {
-        return Folded::Refused(Refusal::TooManyKeys);
-    };
-    snapshot::inner::fold_out(&mut scratch, keys, more, m, shot)
-}
-
 // Puts the snapshot that is then held in the place of the one held before. A delta goes onto all that was decided before the call.
 fn hold(
     index: IndexRecord,
@@ -190,7 +166,13 @@ fn hold(
     keys: usize,
 ) -> Folded
     requires { ⌜ Ready (raw index (now log) (now shot)) × (plainBy kind ≡ false → Holds snapshotWords keys (now incoming)) ⌝ }
-    ensures { λ r. ⌜ shotOutcome (folded r) (now (shot .exit)) ≡ shotOver (shotThen kind (entriesOf (index .keys) (now (shot .entry))) (entriesOf (logDecided (numbersIn index) - index .compacted .0) (now (log .entry))) (entriesOf keys (now (incoming .entry)))) (now (shot .entry)) ⌝ }
+    ensures { λ r. ⌜ shotOutcome (folded r) (now (shot .exit))
+        ≡ foldWritten
+        (shotThen kind
+        (entriesOf (index .keys) (now (shot .entry)))
+        (entriesOf (logDecided (numbersIn index) - index .compacted .0) (now (log .entry)))
+        (entriesOf keys (now (incoming .entry))))
+        (now (shot .entry)) ⌝ }
 {
     match kind {
         SnapshotType::Plain => Folded::Keys(index.keys),
@@ -201,7 +183,7 @@ fn hold(
         SnapshotType::Delta => {
             let decided = state_cache::inner::log_decided(index);
             let n = (decided - index.compacted.0) as usize;
-            fold_twice(shot, index.keys, log, n, incoming, keys)
+            snapshot::inner::fold_over(shot, index.keys, log, n, incoming, keys)
         }
     }
 }
@@ -289,16 +271,18 @@ pub fn sync_at(
     let marked = mark(index, accepted_round, decided_idx);
     let kind = log_sync.decided_snapshot;
     let r = hold(index, log, shot, kind, incoming, log_sync.keys);
-    let Folded::Keys(keys) = r else {
-        return AcceptedAt {
-            answer: Accepted::Refused(Refusal::TooManyKeys),
+    match r {
+        Folded::Refused(refusal) => AcceptedAt {
+            answer: Accepted::Refused(refusal),
             index,
-        };
-    };
-    let next = take_suffix(marked, log, log_sync, suffix, n, keys);
-    let accepted = state_cache::inner::accepted(next);
-    AcceptedAt {
-        answer: Accepted::At(LogIndex(accepted)),
-        index: next,
+        },
+        Folded::Keys(keys) => {
+            let next = take_suffix(marked, log, log_sync, suffix, n, keys);
+            let accepted = state_cache::inner::accepted(next);
+            AcceptedAt {
+                answer: Accepted::At(LogIndex(accepted)),
+                index: next,
+            }
+        }
     }
 }

@@ -1,6 +1,7 @@
 -- `compaction::inner::create_at` meets its contract: refusals 3 and 2, then what the fold comes to.
 use Prim.Native.Nat.{_+_, _≤_}
-use mathlib.Core.Path.{_∙_}
+use mathlib.Core.Path.{sym, _∙_}
+use mathlib.Core.Option.{some}
 use native.Mathlib.Omega.{arith}
 use denote.Ref.{now}
 use Rattle.state_cache.specs.State.{Raw, raw, numbersIn}
@@ -19,12 +20,12 @@ abbrev startOf : tie.Else1 → tie.Start
 startOf e = e .before .before .before .before .before .before .before
 
 abbrev passedOf : tie.After-target → tie.Else1
-passedOf k = k .before .before .before .before .before
+passedOf k = k .before .before .before .before
 
 within : (k : tie.After-target) → k .target .result ≤ startOf (passedOf k) .args .index .compacted .0 + startOf (passedOf k) .args .index .retained
 within k =
     let st = startOf (passedOf k) in
-    omega (arith, k .target .ensures, target-in (st .args .idx .0) (numbersIn (st .args .index)) (st .pre .0 .numbers))
+    omega (arith, k .target .ensures, target-in (stateAt st) (st .pre .0 .okay) (some (st .args .idx .0)))
 
 returns : tie.Need-returns
 returns c =
@@ -33,12 +34,12 @@ returns c =
 
 returns-2 : tie.Need-returns-2
 returns-2 c =
-    let e = c .before .before .before .before in
+    let e = c .before .before .before in
     let st = startOf e in
-    create-above (stateAt st) (st .args .idx .0) (now (st .args .out)) (st .pre .0 .okay) (e .if1 .left) (c .if2 .taken)
+    create-above (stateAt st) (st .args .idx .0) (now (st .args .out)) (st .pre .0 .okay) (e .if1 .left) (sym (c .before .past-decided .ensures) ∙ c .if2 .taken)
 
 target-requires : tie.Need-target-requires
-target-requires c κs = sound-small _ (startOf (c .before .before .before .before) .pre .0 .numbers)
+target-requires c κs = sound-small _ (startOf (c .before .before .before) .pre .0 .numbers)
 
 sub-n : tie.Need-sub-n
 sub-n c =
@@ -53,18 +54,15 @@ fold-aside-requires c κs =
     let st = startOf (passedOf k) in
     fold-needs (stateAt st) (st .pre .0 .okay) (k .target .result) (within k) (now (st .args .out)) (st .pre .1)
 
-same-length : tie.Need-same-length
-same-length c = search needs
-
 returns-3 : tie.Need-returns-3
 returns-3 c =
     let k = c .before .before .before .before .before in
     let e = passedOf k in
     let st = startOf e in
     c .before .before .fold-aside .ensures
-    ∙ create-folds (stateAt st) (st .args .idx .0) (now (st .args .out)) (st .pre .0 .okay) (e .if1 .left) (k .before .if2 .left) (k .target .result) (k .target .ensures) (within k)
+    ∙ create-folds (stateAt st) (st .args .idx .0) (now (st .args .out)) (st .pre .0 .okay) (e .if1 .left) (sym (k .before .before .past-decided .ensures) ∙ k .before .if2 .left) (k .target .result) (k .target .ensures) (within k)
 
 pub create-at-spec : {M : Type 1} → statement M
 create-at-spec =
     tie.close
-    (tie.spec returns returns-2 target-requires sub-n fold-aside-requires same-length returns-3)
+    (tie.spec returns (λ c κs. search needs) returns-2 target-requires sub-n fold-aside-requires (λ c. search needs) returns-3)

@@ -11,8 +11,8 @@ use Rattle.compaction.proofs.inner.past_decided.Tie as tie
 enum-told : tie.Need-enum-told
 enum-told c = search needs
 
-enum-known-idx : tie.Need-enum-known-idx
-enum-known-idx c = search needs
+enum-known-upto : tie.Need-enum-known-upto
+enum-known-upto c = search needs
 
 returns : tie.Need-returns
 returns c = ap (λ (u : Upto). pastDecided (uptoOf u) (numbersIn (c .before .before .args .index))) (sym (c .enum-told .given .1))
@@ -20,7 +20,7 @@ returns c = ap (λ (u : Upto). pastDecided (uptoOf u) (numbersIn (c .before .bef
 returns-2 : tie.Need-returns-2
 returns-2 c =
     let st = c .before .before .before .before .before in
-    ap (λ (u : Upto). pastDecided (uptoOf u) (numbersIn (st .args .index))) (sym (c .before .before .before .idx .given .1))
+    ap (λ (u : Upto). pastDecided (uptoOf u) (numbersIn (st .args .index))) (sym (c .before .before .before .upto .given .1))
 
 pub past-decided-spec : {M : Type 1} → statement M
-past-decided-spec = tie.close (tie.spec enum-told enum-known-idx returns returns-2)
+past-decided-spec = tie.close (tie.spec enum-told enum-known-upto returns returns-2)

@@ -1,15 +1,17 @@
-use Prim.Native.Nat.{_+_, _≤_, _<_}
-use mathlib.Core.Path.{_≡_, sym, _∙_}
-use mathlib.Core.Bool.{false}
-use native.Mathlib.Omega.{arith}
-use borrow.Author.Tests.{ltb-true, ltb-false, not-true, not-false}
+-- `compaction::inner::snapshot_at` meets its contract: by what becomes of the run's start, and by what the fold came to.
+use Prim.Native.Nat.{_≤_}
+use mathlib.Core.Path.{refl}
 use denote.Ref.{now}
-use Rattle.model.specs.Compact.{pastDecided}
-use Rattle.state_cache.specs.State.{Raw, raw, numbersIn}
+use native.Mathlib.Omega.{arith}
+use Rattle.words.specs.Coded.{entriesAt}
+use Rattle.words.specs.All.{allOf}
+use Rattle.state_cache.specs.State.{Raw, raw}
 use Rattle.state_cache.proofs.Small.{sound-small}
 use Rattle.compaction.specs.Moves.{uptoOf}
+use Rattle.compaction.specs.Inner.{Up}
+use Rattle.compaction.proofs.Moving.{in-run, movable}
 use Rattle.compaction.proofs.Folding.{fold-needs}
-use Rattle.compaction.proofs.Shots.{upto-in, shot-refused, shot-idle, shot-over, shot-moves}
+use Rattle.compaction.proofs.Shots.{shot-stays, shot-over, shot-moves}
 use borrow.Author.Needs.{needs}
 use Rattle.compaction.proofs.inner.snapshot_at.Statement.{statement}
 use Rattle.compaction.proofs.inner.snapshot_at.Tie as tie
@@ -17,110 +19,75 @@ use Rattle.compaction.proofs.inner.snapshot_at.Tie as tie
 abbrev stateAt : tie.Start → Raw
 stateAt c = raw (c .args .index) (now (c .args .log)) (now (c .args .shot))
 
-abbrev startOf : tie.After-target-of → tie.Start
+abbrev startOf : tie.After-known-told2 → tie.Start
 startOf k = k .before .before .before .before .before .before
 
-not-past : (k : tie.After-target-of) → pastDecided (uptoOf (startOf k .args .idx)) (numbersIn (startOf k .args .index)) ≡ false
-not-past k = sym (k .before .before .past-decided .ensures) ∙ k .before .if1 .left
+abbrev told : tie.After-fold-over → tie.After-known-told2
+told f = f .before .before .before .before .before
 
-within : (k : tie.After-target-of) → k .target-of .result ≤ startOf k .args .index .compacted .0 + startOf k .args .index .retained
-within k =
-    let st = startOf k in
-    omega (arith, k .target-of .ensures, upto-in (uptoOf (st .args .idx)) (numbersIn (st .args .index)) (st .pre .numbers))
+up : (k : tie.After-known-told2) → Up (uptoOf (startOf k .args .upto)) (startOf k .args .index) (k .before .way2 .given .0 .0)
+up k = rw (k .before .way2 .given .1) at (k .before .before .before .reach-of .ensures)
 
-moves : (e : tie.Else2) → startOf (e .before .before) .args .index .compacted .0 < e .before .before .target-of .result
-moves e = ltb-true _ _ (sym (e .before .passes .ensures) ∙ not-false _ (e .if2 .left))
-
-past-decided-requires : tie.Need-past-decided-requires
-past-decided-requires c κs = search needs
-
-returns : tie.Need-returns
-returns c =
-    let p = c .before in
-    let st = p .before .before .before .before in
-    shot-refused (stateAt st) (st .pre .okay) (uptoOf (st .args .idx)) (sym (p .past-decided .ensures) ∙ c .if1 .taken)
-
-target-of-requires : tie.Need-target-of-requires
-target-of-requires c κs = sound-small _ (c .before .before .before .before .before .pre .numbers)
-
-passes-requires : tie.Need-passes-requires
-passes-requires c κs = search needs
-
-returns-2 : tie.Need-returns-2
-returns-2 c =
-    let k = c .before .before in
-    let st = startOf k in
-    shot-idle (stateAt st) (st .pre .okay) (uptoOf (st .args .idx)) (k .target-of .result) (not-past k) (k .target-of .ensures) (ltb-false _ _ (sym (c .before .passes .ensures) ∙ not-true _ (c .if2 .taken)))
+reach-of-requires : tie.Need-reach-of-requires
+reach-of-requires c κs = sound-small _ (c .before .before .pre .numbers)
 
 sub-gone : tie.Need-sub-gone
-sub-gone c = omega (arith, moves (c .before))
+sub-gone c = omega (arith, up (c .before) .up)
 
 fold-over-requires : tie.Need-fold-over-requires
+unfolding entriesAt allOf
 fold-over-requires c κs =
-    let k = c .before .before .before .before .before in
-    let st = startOf k in
-    fold-needs (stateAt st) (st .pre .okay) (k .target-of .result) (within k) (now (st .args .shot)) (st .pre .snapshot .laid .long)
-
-enum-known-r : tie.Need-enum-known-r
-enum-known-r c = search needs
-
-enum-told : tie.Need-enum-told
-enum-told c = search needs
-
-same-length : tie.Need-same-length
-same-length c = search needs
-
-same-length-2 : tie.Need-same-length-2
-same-length-2 c = search needs
-
-returns-3 : tie.Need-returns-3
-returns-3 c =
-    let f = c .before .before .before .before in
-    let e = f .before .before .before .before in
-    let k = e .before .before in
-    let st = startOf k in
-    shot-over (stateAt st) (st .pre .okay) (uptoOf (st .args .idx)) (k .target-of .result) (not-past k) (k .target-of .ensures) (moves e) (within k) (f .fold-over .result) (f .fold-over .last .0) (f .fold-over .ensures) _ (c .enum-told .given .1)
+    let k = c .before .before .before .before in
+    let st = startOf k in (
+      fold-needs (stateAt st) (st .pre .okay) _ (in-run (stateAt st) (st .pre .okay) (uptoOf (st .args .upto)) _ (up k)) (now (st .args .shot)) (st .pre .snapshot .laid .long),
+      record { inside = omega arith; sound = refl },
+    )
 
 move-to-requires : tie.Need-move-to-requires
 move-to-requires c κs =
-    let e = c .before .before .before .before .before .before .before .before .before .before in
-    let k = e .before .before in
+    let k = told (c .before .before .before .before .before .before) in
     let st = startOf k in
-    record { up = omega (arith, moves e); within = within k; laid-out = st .pre .log }
+    movable (stateAt st) (st .pre .okay) (uptoOf (st .args .upto)) _ (up k)
 
-same-length-3 : tie.Need-same-length-3
-same-length-3 c = search needs
+returns : tie.Need-returns
+returns c =
+    let w = c .before .before .before in
+    let st = w .before .before .before in
+    shot-stays (stateAt st) (st .pre .okay) (uptoOf (st .args .upto)) _ (rw (c .before .way .given .1) at (w .reach-of .ensures))
 
-same-length-4 : tie.Need-same-length-4
-same-length-4 c = search needs
+returns-2 : tie.Need-returns-2
+returns-2 c =
+    let f = c .before .before .before .before .before in
+    let k = told f in
+    let st = startOf k in
+    shot-over (stateAt st) (st .pre .okay) (uptoOf (st .args .upto)) _ (up k) (f .fold-over .result) (f .fold-over .last .0) (f .fold-over .ensures) _ (c .before .folded .given .1)
 
-returns-4 : tie.Need-returns-4
-returns-4 c =
+returns-3 : tie.Need-returns-3
+returns-3 c =
     let m = c .before .before in
     let g = m .before .before .before in
     let f = g .before .before .before .before in
-    let e = f .before .before .before .before in
-    let k = e .before .before in
+    let k = told f in
     let st = startOf k in
-    shot-moves (stateAt st) (st .pre .okay) (uptoOf (st .args .idx)) (k .target-of .result) (not-past k) (k .target-of .ensures) (moves e) (within k) (f .fold-over .result) (f .fold-over .last .0) (f .fold-over .ensures) _ (g .r .given .1) (m .move-to .result) (m .move-to .last .1 .0) (m .move-to .ensures)
+    shot-moves (stateAt st) (st .pre .okay) (uptoOf (st .args .upto)) _ (up k) (f .fold-over .result) (f .fold-over .last .0) (f .fold-over .ensures) _ (g .folded2 .given .1) (m .move-to .result) (m .move-to .last .1 .0) (m .move-to .ensures)
 
 pub snapshot-at-spec : {M : Type 1} → statement M
 snapshot-at-spec =
     tie.close
     (tie.spec
-    past-decided-requires
-    returns
-    target-of-requires
-    passes-requires
-    returns-2
+    reach-of-requires
+    (λ c. search needs)
+    (λ c. search needs)
     sub-gone
+    (λ c. search needs)
     fold-over-requires
-    enum-known-r
-    enum-told
-    same-length
-    same-length-2
-    returns-3
+    (λ c. search needs)
+    (λ c. search needs)
     move-to-requires
-    same-length-3
-    same-length-4
-    returns-4)
+    returns
+    (λ c. search needs)
+    (λ c. search needs)
+    returns-2
+    (λ c. search needs)
+    (λ c. search needs)
+    returns-3)

@@ -1,20 +1,27 @@
--- `compaction::inner::target` meets its contract: by whether the index is below decided.
-use borrow.Author.Tests.{lt-ltb, le-ltb}
+-- `compaction::inner::target` meets its contract: by how far is asked for.
+use mathlib.Core.Path.{sym, ap, _∙_}
 use Rattle.model.specs.Compact.{target}
+use Rattle.model.proofs.Keeps.{target-least}
+use Rattle.state_cache.specs.State.{numbersIn}
+use Rattle.compaction.specs.Moves.{uptoOf}
+use Rattle.compaction.specs.declared.Upto.{Upto}
 use borrow.Author.Needs.{needs}
 use Rattle.compaction.proofs.inner.target.Statement.{statement}
 use Rattle.compaction.proofs.inner.target.Tie as tie
 
 returns : tie.Need-returns
 unfolding target
-returns c = rw (lt-ltb _ _ (c .if1 .taken))
-
-log-decided-requires : tie.Need-log-decided-requires
-log-decided-requires c κs = search needs
+returns c =
+    let d = c .before .before in
+    d .log-decided .ensures ∙ ap (λ (u : Upto). target (uptoOf u) (numbersIn (d .before .args .index))) (sym (c .enum-told .given .1))
 
 returns-2 : tie.Need-returns-2
-unfolding target
-returns-2 c = rw (le-ltb _ _ (c .before .if1 .left)) (c .log-decided .ensures)
+returns-2 c =
+    let d = c .before .before .before .before in
+    let n = numbersIn (d .before .args .index) in
+    rw (d .log-decided .ensures) at (c .least .ensures) ∙ sym (target-least _ n) ∙ ap (λ (u : Upto). target (uptoOf u) n) (sym (c .before .before .upto .given .1))
 
 pub target-spec : {M : Type 1} → statement M
-target-spec = tie.close (tie.spec returns log-decided-requires returns-2)
+target-spec =
+    tie.close
+    (tie.spec (λ c κs. search needs) (λ c. search needs) (λ c. search needs) (λ c κs. search needs) returns returns-2)

@@ -1,10 +1,10 @@
--- `compaction::inner::trim_at` meets its contract: refusal 2, then by whether the target passes compacted.
-use Prim.Native.Nat.{_+_, _≤_}
-use native.Mathlib.Omega.{arith}
+-- `compaction::inner::trim_at` meets its contract: by what becomes of the run's start.
 use denote.Ref.{now}
-use Rattle.state_cache.specs.State.{Raw, raw, numbersIn}
+use mathlib.Core.Option.{some}
+use Rattle.state_cache.specs.State.{Raw, raw}
 use Rattle.state_cache.proofs.Small.{sound-small}
-use Rattle.compaction.proofs.Moving.{target-in, trim-refused, trim-idle, trim-moves}
+use Rattle.compaction.specs.Inner.{Up}
+use Rattle.compaction.proofs.Moving.{movable, trim-stays, trim-moves}
 use borrow.Author.Needs.{needs}
 use Rattle.compaction.proofs.inner.trim_at.Statement.{statement}
 use Rattle.compaction.proofs.inner.trim_at.Tie as tie
@@ -12,46 +12,35 @@ use Rattle.compaction.proofs.inner.trim_at.Tie as tie
 abbrev stateAt : tie.Start → Raw
 stateAt c = raw (c .args .index) (now (c .args .log)) (now (c .args .snapshot))
 
-abbrev startOf : tie.After-target → tie.Start
-startOf k = k .before .before .before .before .before .before .before
+abbrev startOf : tie.After-known-told2 → tie.Start
+startOf k = k .before .before .before .before .before .before
 
-within : (k : tie.After-target) → k .target .result ≤ startOf k .args .index .compacted .0 + startOf k .args .index .retained
-within k =
-    let st = startOf k in
-    omega (arith, k .target .ensures, target-in (st .args .idx .0) (numbersIn (st .args .index)) (st .pre .numbers))
+up : (k : tie.After-known-told2) → Up (some (startOf k .args .idx .0)) (startOf k .args .index) (k .before .way2 .given .0 .0)
+up k = rw (k .before .way2 .given .1) at (k .before .before .before .reach-of .ensures)
 
-returns : tie.Need-returns
-returns c =
-    let st = c .before .before .before .before .before .before in
-    trim-refused (stateAt st) (st .pre .okay) (st .args .idx .0) (c .if1 .taken)
-
-target-requires : tie.Need-target-requires
-target-requires c κs = sound-small _ (c .before .before .before .before .before .before .pre .numbers)
-
-returns-2 : tie.Need-returns-2
-returns-2 c =
-    let k = c .before .before in
-    let st = startOf k in
-    trim-idle (stateAt st) (st .pre .okay) (st .args .idx .0) (k .target .result) (k .before .if1 .left) (k .target .ensures) (c .if2 .taken)
+reach-of-requires : tie.Need-reach-of-requires
+reach-of-requires c κs = sound-small _ (c .before .before .pre .numbers)
 
 move-to-requires : tie.Need-move-to-requires
 move-to-requires c κs =
-    let e = c .before in
-    let k = e .before .before in
+    let k = c .before in
     let st = startOf k in
-    record { up = omega (arith, e .if2 .left); within = within k; laid-out = st .pre .log }
+    movable (stateAt st) (st .pre .okay) (some (st .args .idx .0)) _ (up k)
 
-same-length : tie.Need-same-length
-same-length c = search needs
+returns : tie.Need-returns
+returns c =
+    let w = c .before .before .before in
+    let st = w .before .before .before in
+    trim-stays (stateAt st) (st .pre .okay) (st .args .idx .0) _ (rw (c .before .way .given .1) at (w .reach-of .ensures))
 
-returns-3 : tie.Need-returns-3
-returns-3 c =
+returns-2 : tie.Need-returns-2
+returns-2 c =
     let m = c .before .before in
-    let e = m .before .before in
-    let k = e .before .before in
+    let k = m .before .before in
     let st = startOf k in
-    trim-moves (stateAt st) (st .pre .okay) (st .args .idx .0) (k .target .result) (k .before .if1 .left) (k .target .ensures) (e .if2 .left) (within k) (m .move-to .result) (m .move-to .last .1 .0) (m .move-to .ensures)
+    trim-moves (stateAt st) (st .pre .okay) (st .args .idx .0) _ (up k) (m .move-to .result) (m .move-to .last .1 .0) (m .move-to .ensures)
 
 pub trim-at-spec : {M : Type 1} → statement M
 trim-at-spec =
-    tie.close (tie.spec returns target-requires returns-2 move-to-requires same-length returns-3)
+    tie.close
+    (tie.spec reach-of-requires (λ c. search needs) (λ c. search needs) move-to-requires returns (λ c. search needs) returns-2)

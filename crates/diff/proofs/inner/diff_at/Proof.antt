@@ -6,7 +6,7 @@ use Rattle.state_cache.specs.State.{Raw, raw, numbersIn}
 use Rattle.state_cache.proofs.Small.{sound-small}
 use Rattle.compaction.proofs.Folding.{decided-low, decided-high, fold-needs}
 use Rattle.diff.proofs.Giving.{start-low, part-inside, part-shows}
-use Rattle.diff.proofs.Telling.{diff-nothing, complete-over, complete-wrote, delta-over, delta-wrote}
+use Rattle.diff.proofs.Telling.{diff-nothing, complete-wrote, delta-wrote}
 use borrow.Author.Needs.{needs}
 use Rattle.diff.proofs.inner.diff_at.Statement.{statement}
 use Rattle.diff.proofs.inner.diff_at.Tie as tie
@@ -26,17 +26,11 @@ leftOf g = g .before .before .before .before
 log-decided-requires : tie.Need-log-decided-requires
 log-decided-requires c κs = sound-small _ (c .before .before .before .pre .0 .numbers)
 
-least-requires : tie.Need-least-requires
-least-requires c κs = search needs
-
 sub-fold-part : tie.Need-sub-fold-part
 sub-fold-part c =
     let k = knownOf c in
     let st = startOf k in
     omega (arith, start-low (stateAt k) (st .pre .0 .okay) (st .args .from .0) (k .log-decided .result) (k .log-decided .ensures) (c .before .if1 .taken) (c .least .result) (c .least .ensures), c .least .ensures)
-
-sub-fold-part-2 : tie.Need-sub-fold-part-2
-sub-fold-part-2 c = search needs
 
 fold-part-requires : tie.Need-fold-part-requires
 fold-part-requires c κs =
@@ -50,36 +44,17 @@ fold-part-requires c κs =
       ),
     )
 
-enum-known-r : tie.Need-enum-known-r
-enum-known-r c = search needs
-
-enum-told : tie.Need-enum-told
-enum-told c = search needs
-
-same-length : tie.Need-same-length
-same-length c = search needs
-
 returns : tie.Need-returns
 returns c =
-    let f = c .before .before .before .before in
+    let f = c .before .before .before in
     let m = f .before .before in
     let k = knownOf m in
     let st = startOf k in
-    delta-over (stateAt k) (st .args .from .0) (now (st .args .out)) (st .pre .0 .okay) (k .log-decided .result) (k .log-decided .ensures) (m .before .if1 .taken) (m .least .result) (m .least .ensures) (f .fold-part .result) (f .fold-part .last .1 .1 .1 .0) (f .fold-part .ensures) _ (c .enum-told .given .1)
-
-same-length-2 : tie.Need-same-length-2
-same-length-2 c = search needs
+    rw (c .tell .ensures)
+    (delta-wrote (stateAt k) (st .args .from .0) (now (st .args .out)) (st .pre .0 .okay) (k .log-decided .result) (k .log-decided .ensures) (m .before .if1 .taken) (m .least .result) (m .least .ensures) (f .fold-part .result) (f .fold-part .last .1 .1 .1 .0) (f .fold-part .ensures))
 
 returns-2 : tie.Need-returns-2
 returns-2 c =
-    let f = c .before .before .before .before .before in
-    let m = f .before .before in
-    let k = knownOf m in
-    let st = startOf k in
-    delta-wrote (stateAt k) (st .args .from .0) (now (st .args .out)) (st .pre .0 .okay) (k .log-decided .result) (k .log-decided .ensures) (m .before .if1 .taken) (m .least .result) (m .least .ensures) (f .fold-part .result) (f .fold-part .last .1 .1 .1 .0) (f .fold-part .ensures) _ (c .before .r .given .1)
-
-returns-3 : tie.Need-returns-3
-returns-3 c =
     let e = c .before .before in
     let k = e .before .before in
     let st = startOf k in
@@ -97,55 +72,30 @@ fold-aside-requires c κs =
     let st = startOf k in
     fold-needs (stateAt k) (st .pre .0 .okay) (k .log-decided .result) (decided-high (numbersIn (st .args .index)) (st .pre .0 .numbers) (k .log-decided .result) (k .log-decided .ensures)) (now (st .args .out)) (st .pre .1)
 
-enum-known-r-2 : tie.Need-enum-known-r-2
-enum-known-r-2 c = search needs
-
-enum-told-2 : tie.Need-enum-told-2
-enum-told-2 c = search needs
-
-same-length-3 : tie.Need-same-length-3
-same-length-3 c = search needs
-
-returns-4 : tie.Need-returns-4
-returns-4 c =
-    let f = c .before .before .before .before in
+returns-3 : tie.Need-returns-3
+returns-3 c =
+    let f = c .before .before .before in
     let g = f .before .before in
     let k = leftOf g in
     let st = startOf k in
-    complete-over (stateAt k) (st .args .from .0) (now (st .args .out)) (st .pre .0 .okay) (k .log-decided .result) (k .log-decided .ensures) (g .before .before .if1 .left) (not-false _ (g .if2 .left)) (f .fold-aside .result) (f .fold-aside .last .1 .1 .1 .1 .0) (f .fold-aside .ensures) _ (c .enum-told2 .given .1)
-
-same-length-4 : tie.Need-same-length-4
-same-length-4 c = search needs
-
-returns-5 : tie.Need-returns-5
-returns-5 c =
-    let f = c .before .before .before .before .before in
-    let g = f .before .before in
-    let k = leftOf g in
-    let st = startOf k in
-    complete-wrote (stateAt k) (st .args .from .0) (now (st .args .out)) (st .pre .0 .okay) (k .log-decided .result) (k .log-decided .ensures) (g .before .before .if1 .left) (not-false _ (g .if2 .left)) (f .fold-aside .result) (f .fold-aside .last .1 .1 .1 .1 .0) (f .fold-aside .ensures) _ (c .before .r2 .given .1)
+    rw (c .tell2 .ensures)
+    (complete-wrote (stateAt k) (st .args .from .0) (now (st .args .out)) (st .pre .0 .okay) (k .log-decided .result) (k .log-decided .ensures) (g .before .before .if1 .left) (not-false _ (g .if2 .left)) (f .fold-aside .result) (f .fold-aside .last .1 .1 .1 .1 .0) (f .fold-aside .ensures))
 
 pub diff-at-spec : {M : Type 1} → statement M
 diff-at-spec =
     tie.close
     (tie.spec
     log-decided-requires
-    least-requires
+    (λ c κs. search needs)
     sub-fold-part
-    sub-fold-part-2
+    (λ c. search needs)
     fold-part-requires
-    enum-known-r
-    enum-told
-    same-length
+    (λ c κs. search needs)
+    (λ c. search needs)
     returns
-    same-length-2
     returns-2
-    returns-3
     sub-fold-aside
     fold-aside-requires
-    enum-known-r-2
-    enum-told-2
-    same-length-3
-    returns-4
-    same-length-4
-    returns-5)
+    (λ c κs. search needs)
+    (λ c. search needs)
+    returns-3)

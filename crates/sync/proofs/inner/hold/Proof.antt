@@ -40,8 +40,8 @@ sub-n c =
     let st = startOf k in
     decided-low (numbersIn (st .args .index)) (st .pre .0 .numbers) (k .log-decided .result) (k .log-decided .ensures)
 
-fold-twice-requires : tie.Need-fold-twice-requires
-fold-twice-requires c κs =
+fold-over-requires : tie.Need-fold-over-requires
+fold-over-requires c κs =
     let k = c .before .before in
     let st = startOf k in (
       fold-needs (stateAt st) (st .pre .0 .okay) (k .log-decided .result) (decided-high (numbersIn (st .args .index)) (st .pre .0 .numbers) (k .log-decided .result) (k .log-decided .ensures)) (now (st .args .shot)) (st .pre .0 .snapshot .laid .long),
@@ -71,7 +71,7 @@ returns-3 c =
     let f = c .before .before in
     let k = f .before .before .before in
     let st = startOf k in
-    f .fold-twice .ensures
+    f .fold-over .ensures
     ∙ hold-delta (st .args .kind) (stateAt st) (st .pre .0) (st .args .keys) (now (st .args .incoming)) (k .before .enum-told3 .given .1) (k .log-decided .result) (k .log-decided .ensures)
 
 pub hold-spec : {M : Type 1} → statement M
@@ -84,7 +84,7 @@ hold-spec =
     enum-told-3
     log-decided-requires
     sub-n
-    fold-twice-requires
+    fold-over-requires
     returns
     same-length
     returns-2

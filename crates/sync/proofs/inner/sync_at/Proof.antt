@@ -1,4 +1,3 @@
--- `sync::inner::sync_at` meets its contract: the first refusal of numbers, then 8, or the snapshot, the suffix and the record.
 use Prim.Native.Nat.{_/_}
 use mathlib.Core.Path.{_≡_, sym, ap, _∙_}
 use denote.Ref.{now}
@@ -9,11 +8,18 @@ use Rattle.model.specs.Sync.{partNumberGuards}
 use Rattle.state_cache.specs.State.{Raw, raw, numbersIn}
 use Rattle.internal_storage.specs.Replies.{verdictOf}
 use Rattle.sync.specs.Requests.{numbersBy}
-use Rattle.sync.specs.Records.{marked, Taken}
+use Rattle.sync.specs.Inner.{marked, Taken}
 use Rattle.sync.proofs.Syncing.{sync-refused, fits, fits-small, sync-over, sync-stands}
 use borrow.Author.Needs.{needs}
 use Rattle.sync.proofs.inner.sync_at.Statement.{statement}
 use Rattle.sync.proofs.inner.sync_at.Tie as tie
+use Rattle.sync.proofs.inner.sync_at.Reads as reads
+use Rattle.sync.proofs.inner.sync_at.Lts as lts
+use Rattle.state_cache.proofs.inner.accepted.Reads as accepted-reads
+use Rattle.sync.proofs.inner.check_sync.Reads as check-sync-reads
+use Rattle.sync.proofs.inner.hold.Reads as hold-reads
+use Rattle.sync.proofs.inner.mark.Reads as mark-reads
+use Rattle.sync.proofs.inner.take_suffix.Reads as take-suffix-reads
 
 abbrev stateAt : tie.Start → Raw
 stateAt c = raw (c .args .index) (now (c .args .log)) (now (c .args .shot))
@@ -22,6 +28,7 @@ abbrev startOf : tie.After-enum-told → tie.Start
 startOf t = t .before .before .before .before .before .before .before
 
 -- no refusal of numbers applies
+
 pass : (t : tie.After-enum-told)
     → passes ≡ first (partNumberGuards (startOf t .args .decided-idx .0) (numbersBy (startOf t .args .log-sync) (length (now (startOf t .args .suffix)) / width)) (numbersIn (startOf t .args .index)))
 pass t = ap verdictOf (sym (t .enum-told .given .1)) ∙ t .before .before .check-sync .ensures
@@ -36,8 +43,9 @@ abbrev holdOf : tie.After-take-suffix → tie.After-hold
 holdOf m = m .before .before .before .before .before .before .before
 
 -- the record that the suffix is put into is the marked one
+
 took : (m : tie.After-take-suffix) → let st = startOf (toldOf (holdOf m)) in
-    Taken (st .args .log-sync) (length (now (st .args .suffix)) / width) (m .before .before .before .r .given .0 .0) (marked (st .args .accepted-round) (st .args .decided-idx .0) (st .args .index)) (now (st .args .log)) (now (st .args .suffix)) (m .take-suffix .result) (m .take-suffix .last .1 .0)
+    Taken (st .args .log-sync) (length (now (st .args .suffix)) / width) (m .before .before .before .r2 .given .0 .0) (marked (st .args .accepted-round) (st .args .decided-idx .0) (st .args .index)) (now (st .args .log)) (now (st .args .suffix)) (m .take-suffix .result) (m .take-suffix .last .1 .0)
 took m = rw (markOf (holdOf m) .mark .ensures) at (m .take-suffix .ensures)
 
 check-sync-requires : tie.Need-check-sync-requires
@@ -64,21 +72,8 @@ hold-requires c κs = search needs
 enum-known-r : tie.Need-enum-known-r
 enum-known-r c = search needs
 
-enum-told-2 : tie.Need-enum-told-2
-enum-told-2 c = search needs
-
-same-length : tie.Need-same-length
-same-length c = search needs
-
-same-length-2 : tie.Need-same-length-2
-same-length-2 c = search needs
-
-returns-2 : tie.Need-returns-2
-returns-2 c =
-    let h = c .before .before .before .before in
-    let t = toldOf h in
-    let st = startOf t in
-    sync-over (stateAt st) (st .args .log-sync) (now (st .args .incoming)) (now (st .args .suffix)) (st .pre) (st .args .accepted-round) (st .args .decided-idx .0) (pass t) (h .hold .result) (h .hold .last .1 .1 .0) (h .hold .ensures) _ (c .enum-told2 .given .1)
+enum-known-r-2 : tie.Need-enum-known-r-2
+enum-known-r-2 c = search needs
 
 take-suffix-requires : tie.Need-take-suffix-requires
 take-suffix-requires c κs =
@@ -94,6 +89,19 @@ accepted-requires c κs =
     let st = startOf t in
     fits-small (stateAt st) (st .args .log-sync) (now (st .args .incoming)) (now (st .args .suffix)) (st .pre) (st .args .accepted-round) (st .args .decided-idx .0) (pass t) _ (m .take-suffix .result) (took m .index)
 
+same-length : tie.Need-same-length
+same-length c = search needs
+
+same-length-2 : tie.Need-same-length-2
+same-length-2 c = search needs
+
+returns-2 : tie.Need-returns-2
+returns-2 c =
+    let h = c .before .before .before .before .before in
+    let t = toldOf h in
+    let st = startOf t in
+    sync-over (stateAt st) (st .args .log-sync) (now (st .args .incoming)) (now (st .args .suffix)) (st .pre) (st .args .accepted-round) (st .args .decided-idx .0) (pass t) (h .hold .result) (h .hold .last .1 .1 .0) (h .hold .ensures) _ (c .before .r .given .1)
+
 same-length-3 : tie.Need-same-length-3
 same-length-3 c = search needs
 
@@ -106,7 +114,7 @@ returns-3 c =
     let h = holdOf m in
     let t = toldOf h in
     let st = startOf t in
-    sync-stands (stateAt st) (st .args .log-sync) (now (st .args .incoming)) (now (st .args .suffix)) (st .pre) (st .args .accepted-round) (st .args .decided-idx .0) (pass t) (h .hold .result) (h .hold .last .1 .1 .0) (h .hold .ensures) _ (m .before .before .before .r .given .1) (m .take-suffix .result) (m .take-suffix .last .1 .0) (took m) (c .accepted .result) (c .accepted .ensures)
+    sync-stands (stateAt st) (st .args .log-sync) (now (st .args .incoming)) (now (st .args .suffix)) (st .pre) (st .args .accepted-round) (st .args .decided-idx .0) (pass t) (h .hold .result) (h .hold .last .1 .1 .0) (h .hold .ensures) _ (m .before .before .before .r2 .given .1) (m .take-suffix .result) (m .take-suffix .last .1 .0) (took m) (c .accepted .result) (c .accepted .ensures)
 
 pub sync-at-spec : {M : Type 1} → statement M
 sync-at-spec =
@@ -119,12 +127,12 @@ sync-at-spec =
     mark-requires
     hold-requires
     enum-known-r
-    enum-told-2
+    enum-known-r-2
+    take-suffix-requires
+    accepted-requires
     same-length
     same-length-2
     returns-2
-    take-suffix-requires
-    accepted-requires
     same-length-3
     same-length-4
     returns-3)

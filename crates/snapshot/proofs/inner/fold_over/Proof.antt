@@ -1,15 +1,15 @@
--- `sync::inner::fold_twice` meets its contract: by what the first fold came to.
+-- `snapshot::inner::fold_over` meets its contract: by what the first fold came to.
 use mathlib.Core.Path.{_∙_}
 use denote.Ref.{now}
 use Rattle.entry.specs.Change.{entriesOf}
 use Rattle.snapshot.specs.Folds.{foldOnto}
 use Rattle.snapshot.specs.Inner.{FoldIs}
 use Rattle.snapshot.proofs.Calling.{aside-needs}
-use Rattle.sync.proofs.Holding.{twice-refused, twice-next, twice-folds}
+use Rattle.snapshot.proofs.Over.{twice-refused, twice-next, twice-folds}
 use borrow.Author.Needs.{needs}
 use lib.ListN.{length}
-use Rattle.sync.proofs.inner.fold_twice.Statement.{statement}
-use Rattle.sync.proofs.inner.fold_twice.Tie as tie
+use Rattle.snapshot.proofs.inner.fold_over.Statement.{statement}
+use Rattle.snapshot.proofs.inner.fold_over.Tie as tie
 
 abbrev startOf : tie.After-fold-onto → tie.Start
 startOf f = f .before .before .before .before .before .before .before .before .before
@@ -70,8 +70,8 @@ returns-2 c =
     o .fold-out .ensures
     ∙ twice-folds (st .args .kept) (now (st .args .shot)) (st .args .n) (now (st .args .entries)) (st .args .m) (now (st .args .more)) (st .pre .0) (st .pre .1) (f .fold-onto .result) (f .fold-onto .last .0) (folded-is f) _ (g .r .given .1)
 
-pub fold-twice-spec : {M : Type 1} → statement M
-fold-twice-spec =
+pub fold-over-spec : {M : Type 1} → statement M
+fold-over-spec =
     tie.close
     (tie.spec
     slice-aggregate-copy-words

@@ -1,21 +1,23 @@
 -- An entry and its two words.
-use Prim.Native.Nat.{ℕ, suc, _+_, _*_, _<_}
+use Prim.Native.Nat.{ℕ, suc, _+_, _*_, _≤_, _<_}
 use mathlib.Core.Path.{_≡_, refl, sym, ap, ap₂, _∙_}
-use mathlib.Core.Bool.{Bool, true, false, _||_}
+use mathlib.Core.Bool.{Bool, true, false, _||_, true≢false}
 use mathlib.Core.List.{List, [], _∷_}
 use native.Mathlib.Omega.{arith}
-use borrow.Author.Tests.{eqb-true, ltb-true, ne-eqb}
+use borrow.Author.Tests.{eqb-true, ltb-true, lt-ltb, le-ltb, ne-eqb}
 use lib.Dec.{ltb, eqb}
 use lib.ListN.{length, getD, take, drop}
 use lib.Seq.{getD-take, getD-drop}
 use Rattle.words.specs.If.{if_then_else_}
-use Rattle.words.specs.Coded.{Lawful}
+use Rattle.words.specs.All.{allOf}
+use Rattle.words.specs.Coded.{Lawful, entriesAt}
 use Rattle.words.proofs.CodedLaws.{entries-cons}
 use Rattle.entry.specs.Limits.{width, places, lastWord}
-use Rattle.entry.specs.Change.{Said, place, removed, Change, saidFormed, saidOf, wordOf, change, changeCode, entriesOf}
+use Rattle.entry.specs.Change.{Said, place, removed, Change, saidFormed, saidOf, wordOf, wordFormed, change, changeCode, entriesOf}
+use Rattle.entry.specs.Inner.{changeAt, LentAs}
 
 -- the form of what a word says
-pub said-formed : (w : ℕ) → (eqb w lastWord || ltb w places) ≡ saidFormed (saidOf w)
+pub said-formed : (w : ℕ) → (eqb w lastWord || ltb w places) ≡ wordFormed w
 said-formed w = go (eqb w lastWord)
   where
     go : (t : Bool) → (t || ltb w places) ≡ saidFormed (if t then removed else place w)
@@ -23,7 +25,7 @@ said-formed w = go (eqb w lastWord)
     go false = refl
 
 -- every word says something, and what is said in form is known by its word
-pub word-said : (w : ℕ) → wordOf (saidOf w) ≡ w
+word-said : (w : ℕ) → wordOf (saidOf w) ≡ w
 word-said w = go (eqb w lastWord) refl
   where
     go : (t : Bool) → eqb w lastWord ≡ t → wordOf (if t then removed else place w) ≡ w
@@ -49,16 +51,32 @@ changeOk = record {
   forth = two;
 }
 
--- the entry at i, as the code reads it
-abbrev pub changeAt : List ℕ → ℕ → Change
-changeAt ws i = change (getD ws (i * width) 0) (getD ws (i * width + 1) 0)
-
-pub entry-cons : (i n : ℕ) (ws : List ℕ) → i < n → drop i (entriesOf n ws) ≡ changeAt ws i ∷ drop (suc i) (entriesOf n ws)
-entry-cons i n ws h =
+-- the words of the entry at i are that entry's
+pub entry-words : (i : ℕ) (ws : List ℕ) → changeCode .dec (take width (drop (i * width) ws)) ≡ changeAt ws i
+entry-words i ws =
     let z : i * width + 0 ≡ i * width = omega arith in
     let k : getD (take width (drop (i * width) ws)) 0 0 ≡ getD ws (i * width) 0 =
     getD-take width (drop (i * width) ws) 0 0 (omega arith) ∙ getD-drop (i * width) ws 0 0 ∙ ap (λ (j : ℕ). getD ws j 0) z in
     let w : getD (take width (drop (i * width) ws)) 1 0 ≡ getD ws (i * width + 1) 0 =
     getD-take width (drop (i * width) ws) 1 0 (omega arith) ∙ getD-drop (i * width) ws 1 0 in
+    ap₂ change k w
+
+pub entry-cons : (i n : ℕ) (ws : List ℕ) → i < n → drop i (entriesOf n ws) ≡ changeAt ws i ∷ drop (suc i) (entriesOf n ws)
+entry-cons i n ws h =
     entries-cons changeCode i n ws h
-    ∙ ap₂ (λ (x y : ℕ). change x y ∷ drop (suc i) (entriesOf n ws)) k w
+    ∙ ap (λ (c : Change). c ∷ drop (suc i) (entriesOf n ws)) (entry-words i ws)
+
+-- an entry's words as it is lent: removed, at a place, and at a place that is none
+module _ (k : ℕ) where
+  pub lent-removed : LentAs (record { key = k; said = removed }) (k ∷ (lastWord ∷ []))
+  unfolding entriesAt allOf
+  lent-removed = record { whole = refl; same-form = refl; same-entry = λ e. refl }
+
+  module _ (p : ℕ) where
+    pub lent-place : p < places → LentAs (record { key = k; said = place p }) (k ∷ (p ∷ []))
+    unfolding entriesAt allOf
+    lent-place h = let q = ne-eqb p lastWord (omega arith) in record { whole = refl; same-form = rw (q, lt-ltb p places h); same-entry = λ e. rw q }
+
+    pub lent-none : places ≤ p → LentAs (record { key = k; said = place p }) (k ∷ (places ∷ []))
+    unfolding entriesAt allOf
+    lent-none h = record { whole = refl; same-form = rw (le-ltb p places h); same-entry = λ e. absurd (true≢false (sym e ∙ le-ltb p places h)) }

@@ -1,5 +1,5 @@
 -- An entry: "a 64-bit key with either a block place below 2^48 or removed". Its form, and the words that it is: nothing but this
--- file says how many there are.
+-- crate says how many there are, and what each of them means.
 use Prim.Native.Nat.{ℕ, _*_, _/_, _%_, _≤_}
 use mathlib.Core.Path.{_≡_}
 use mathlib.Core.Bool.{Bool, true, _&&_}
@@ -11,11 +11,18 @@ use Rattle.words.specs.All.{allOf}
 use Rattle.words.specs.Words.{laid, allZero}
 use Rattle.words.specs.Coded.{Code, entriesAt, laidOut}
 use Rattle.entry.specs.Limits.{width, places, lastWord}
+use Rattle.entry.specs.declared.Said.{Said as CodeSaid}
+use Rattle.entry.specs.declared.Said.the-variants.{Place, Removed}
 
 -- what an entry says of its key: a block place, or that it is removed
 pub data Said : Type 0 where
   place : ℕ → Said
   removed : Said
+
+-- the same as the code has it
+abbrev pub saidIs : CodeSaid → Said
+saidIs (Place p) = place (p .0)
+saidIs Removed = removed
 
 pub record Change : Type 0 where
   pub key : ℕ
@@ -38,6 +45,9 @@ saidOf w = if eqb w lastWord then removed else place w
 abbrev pub wordOf : Said → ℕ
 wordOf (place p) = p
 wordOf removed = lastWord
+
+abbrev pub wordFormed : ℕ → Bool
+wordFormed w = saidFormed (saidOf w)
 
 -- "two an entry": its key, and what it says
 abbrev pub change : ℕ → ℕ → Change

@@ -1,5 +1,6 @@
 pub mod Limits
 pub mod Change
+pub mod Inner
 pub mod Sign
 pub mod Order
 pub mod Refusals

@@ -1,17 +1,47 @@
 // What the crates above need of forms and layouts: not for a user, whose calls are in lib.rt.
+use super::BlockPlace;
+use super::Said;
 use super::StopSign;
 ghost use mathlib.Core.Path.{_≡_};
 ghost use mathlib.Core.Bool.{true};
-ghost use Prim.Native.Nat.{_*_, _≤_, _<_};
+ghost use Prim.Native.Nat.{_+_, _*_, _≤_, _<_};
 ghost use lib.ListN.{length, drop};
 ghost use Rattle.words.specs.Words.{allZero};
-ghost use Rattle.entry.specs.Change.{saidFormed, saidOf, formed, entriesOf, storedIn};
+ghost use Rattle.entry.specs.Change.{saidIs, wordFormed, formed, entriesOf, storedIn};
+ghost use Rattle.entry.specs.Inner.{changeAt, LentAs};
 ghost use Rattle.entry.specs.Limits.{width, places};
 ghost use Rattle.entry.specs.Sign.{signBlank};
 
+// What the entry at i says of its key.
+pub fn said_at(s: &[u64], i: usize) -> Said
+    requires { ⌜ i * width + width ≤ length (now s) ⌝ }
+    ensures { λ r. ⌜ saidIs r ≡ changeAt (now (s .entry)) i .said ⌝ }
+{
+    let at = i * super::WIDTH + 1;
+    let word = s[at];
+    if word == super::REMOVED {
+        return Said::Removed;
+    }
+    let place = BlockPlace(word);
+    Said::Place(place)
+}
+
+// The words of an entry. Those of a place of 2^48 or more break the form too, so that 2^64-1 never means removed.
+pub fn lent(key: u64, said: Said) -> [u64; super::WIDTH]
+    ensures { λ ws. ⌜ LentAs (record { key = key; said = saidIs said }) ws ⌝ }
+{
+    let Said::Place(place) = said else {
+        return [key, super::REMOVED];
+    };
+    if place.0 < super::PLACES {
+        return [key, place.0];
+    }
+    [key, super::PLACES]
+}
+
 // One more than a place's word, and 0 for a removed one: below PLACES only where the place is in form.
 fn next_word(w: u64) -> u64
-    ensures { λ x. ⌜ (x < places → saidFormed (saidOf w) ≡ true) ⌝ }
+    ensures { λ x. ⌜ (x < places → wordFormed w ≡ true) ⌝ }
 {
     if w == super::REMOVED {
         return 0;

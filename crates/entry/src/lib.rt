@@ -1,6 +1,6 @@
 // Entries, ballots, stop-signs and refusals: module 1 of document 01, and its table of refusals.
 ghost use mathlib.Core.Path.{_≡_};
-ghost use Rattle.entry.specs.Change.{saidOf, saidFormed, sliceFormed};
+ghost use Rattle.entry.specs.Change.{wordFormed, sliceFormed};
 ghost use Rattle.entry.specs.Sign.{signFormed};
 ghost use Rattle.entry.specs.Order.{orderOf, thenBy, ballotOrder, sameBallot};
 ghost use Rattle.entry.specs.Refusals.{numberOf, carriedOf};
@@ -35,6 +35,12 @@ pub struct LogIndex(pub u64);
 // The number of a block on disk.
 #[repr(C)]
 pub struct BlockPlace(pub u64);
+
+// What an entry says of its key: a block place, or that it is removed.
+pub enum Said {
+    Place(BlockPlace),
+    Removed,
+}
 
 #[repr(C)]
 pub struct Ballot {
@@ -162,7 +168,7 @@ pub fn carried(r: Refusal) -> u64
 
 // Whether an entry's second word is in form: a place below 2^48, or removed.
 pub fn place_formed(w: u64) -> bool
-    ensures { λ r. ⌜ r ≡ saidFormed (saidOf w) ⌝ }
+    ensures { λ r. ⌜ r ≡ wordFormed w ⌝ }
 {
     (w == REMOVED) | (w < PLACES)
 }

@@ -2,7 +2,7 @@
 // which is decided and looked up.
 use entry::BlockPlace;
 use entry::LogIndex;
-use internal_storage::Said;
+use entry::Said;
 use snapshot::Folded;
 use snapshot::Found;
 

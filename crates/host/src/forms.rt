@@ -2,7 +2,7 @@
 use entry::Ballot;
 use entry::StopSign;
 ghost use mathlib.Core.Path.{_≡_};
-ghost use Rattle.entry.specs.Change.{saidOf, saidFormed, sliceFormed};
+ghost use Rattle.entry.specs.Change.{wordFormed, sliceFormed};
 ghost use Rattle.entry.specs.Order.{ballotOrder, sameBallot};
 ghost use Rattle.entry.specs.Sign.{signFormed};
 ghost use Rattle.snapshot.specs.Calls.{snapshotFormed};
@@ -25,7 +25,7 @@ pub extern "C" fn kotuseraw_ballot_eq(a: Ballot, b: Ballot) -> bool
 
 #[no_mangle]
 pub extern "C" fn kotuseraw_place_formed(w: u64) -> bool
-    ensures { λ r. ⌜ r ≡ saidFormed (saidOf w) ⌝ }
+    ensures { λ r. ⌜ r ≡ wordFormed w ⌝ }
 {
     entry::place_formed(w)
 }

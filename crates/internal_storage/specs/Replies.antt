@@ -4,11 +4,11 @@ use mathlib.Core.Path.{_≡_}
 use mathlib.Core.Bool.{Bool, true}
 use mathlib.Core.List.{List}
 use mathlib.Core.Option.{Option, none, some}
-use lib.Dec.{ltb, leb, eqb}
+use lib.Dec.{leb, eqb}
 use lib.ListN.{length}
 use Rattle.words.specs.If.{if_then_else_}
-use Rattle.entry.specs.Limits.{width, places, lastWord}
-use Rattle.entry.specs.Change.{Said, place, removed, formed, entriesOf}
+use Rattle.entry.specs.Limits.{width}
+use Rattle.entry.specs.Change.{formed, entriesOf}
 use Rattle.entry.specs.Guards.{Verdict, passes, refuses, Answer, refused, replied, refusedBy}
 use Rattle.entry.specs.Refusals.{numberOf, carriedOf}
 use Rattle.entry.specs.declared.StopSign.{StopSign}
@@ -18,8 +18,6 @@ use Rattle.state_cache.specs.State.{Raw, numbersIn, Ready}
 use Rattle.state_cache.specs.declared.IndexRecord.{IndexRecord}
 use Rattle.state_cache.specs.Fields.{withEntries}
 use Rattle.state_cache.specs.Run.{Outcome, outcome}
-use Rattle.internal_storage.specs.declared.Said.{Said as CodeSaid}
-use Rattle.internal_storage.specs.declared.Said.the-variants.{Place, Removed}
 use Rattle.internal_storage.specs.declared.Check.{Check}
 use Rattle.internal_storage.specs.declared.Check.the-variants.{Passed, Refused}
 use Rattle.internal_storage.specs.declared.Appended.{Appended}
@@ -27,15 +25,6 @@ use Rattle.internal_storage.specs.declared.Appended.the-variants.{Held, 
 use Rattle.internal_storage.specs.declared.AppendedAt.{AppendedAt}
 use Rattle.internal_storage.specs.declared.AcceptedIdx.{AcceptedIdx}
 use Rattle.internal_storage.specs.declared.AcceptedIdx.the-variants.{Held as IdxHeld, At, Refused as IdxRefused}
-
--- what is said of a key; and the word lent for it, in form exactly if the place is
-abbrev pub saidIs : CodeSaid → Said
-saidIs (Place p) = place (p .0)
-saidIs Removed = removed
-
-abbrev pub lentWord : Said → ℕ
-lentWord (place p) = if ltb p places then p else places
-lentWord removed = lastWord
 
 abbrev pub verdictOf : Check → Verdict
 verdictOf Passed = passes

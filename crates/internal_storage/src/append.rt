@@ -3,19 +3,19 @@ use super::AcceptedIdx;
 use super::AcceptedIdxAt;
 use super::Appended;
 use super::AppendedAt;
-use super::Said;
 use entry::Refusal;
+use entry::Said;
 use state_cache::Accepted;
 use state_cache::AcceptedAt;
 use state_cache::IndexRecord;
 ghost use mathlib.Core.Path.{_≡_};
 ghost use mathlib.Core.Bool.{true};
 ghost use mathlib.Core.List.{[], _∷_};
-ghost use Rattle.entry.specs.Change.{entriesIn, wholeIn};
+ghost use Rattle.entry.specs.Change.{saidIs, entriesIn, wholeIn};
 ghost use Rattle.model.specs.Calls.{append, appendNow};
 ghost use Rattle.state_cache.specs.State.{raw};
 ghost use Rattle.state_cache.specs.Run.{outcome, run, accepted};
-ghost use Rattle.internal_storage.specs.Replies.{saidIs, appended, acceptedIdx, withIndexOnly};
+ghost use Rattle.internal_storage.specs.Replies.{appended, acceptedIdx, withIndexOnly};
 
 pub fn append_entry_with_batching(
     index: IndexRecord,
@@ -24,7 +24,11 @@ pub fn append_entry_with_batching(
     key: u64,
     said: Said,
 ) -> AppendedAt
-    ensures { λ r. ⌜ outcome (appended (r .answer)) (raw (r .index) (now (log .exit)) (now (snapshot .entry))) ≡ run (append (record { key = key; said = saidIs said } ∷ [])) true (raw index (now (log .entry)) (now (snapshot .entry))) ⌝ }
+    ensures { λ r. ⌜ outcome (appended (r .answer)) (raw (r .index) (now (log .exit)) (now (snapshot .entry)))
+        ≡ run
+        (append (record { key = key; said = saidIs said } ∷ []))
+        true
+        (raw index (now (log .entry)) (now (snapshot .entry))) ⌝ }
 {
     if !state_cache::well_formed(index, log, snapshot) {
         return AppendedAt {

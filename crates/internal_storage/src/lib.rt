@@ -1,6 +1,5 @@
 // The calls of document 01's module 3 on a lent log: appends, the stop-sign, flushes, the promise and the decided index. Each contract
 // is one equation with `run`: the reply, the record and every lent word after the call. Names are the Rust's.
-use entry::BlockPlace;
 use entry::LogIndex;
 use entry::Refusal;
 use state_cache::IndexRecord;
@@ -10,12 +9,6 @@ pub mod decide;
 pub mod flush;
 pub mod inner;
 pub mod stop;
-
-// What an entry says of its key: a block place, or that it is removed.
-pub enum Said {
-    Place(BlockPlace),
-    Removed,
-}
 
 // What an append with batching says: the entries wait in the batch, or the whole batch is flushed. The flushed entries are the last
 // so many of those retained.

@@ -1,4 +1,4 @@
--- A walk back through entries for the newest word of a key, and the whole lookup.
+-- A walk back through entries for the newest one of a key, and the whole lookup.
 use Prim.Native.Nat.{ℕ, suc, _+_, _-_, _*_, _<_, _≤_}
 use native.Mathlib.Omega.{arith}
 use mathlib.Core.Path.{_≡_, refl, sym, ap, _∙_}
@@ -7,19 +7,16 @@ use mathlib.Core.List.{List, [], _∷_, _++_}
 use mathlib.Core.Option.{Option, none, some, orElse}
 use borrow.Author.Tests.{eq-eqb, ne-eqb}
 use lib.Dec.{eqb}
-use lib.ListN.{length, take, drop, getD, drop-of-length-le, take-append-drop}
+use lib.ListN.{length, take, drop, drop-of-length-le, take-append-drop}
 use Rattle.words.specs.If.{if_then_else_}
 use Rattle.words.specs.Coded.{entriesAt}
 use Rattle.words.proofs.CodedLaws.{entries-length, entries-take}
 use Rattle.entry.specs.Limits.{width}
-use Rattle.entry.specs.Change.{Said, Change, change, changeCode, saidOf, entriesOf}
+use Rattle.entry.specs.Change.{Said, Change, changeCode, entriesOf}
 use Rattle.entry.specs.Guards.{replied}
-use Rattle.entry.proofs.ChangeLaws.{changeAt, entry-cons}
+use Rattle.entry.specs.Inner.{changeAt}
+use Rattle.entry.proofs.ChangeLaws.{entry-cons}
 use Rattle.snapshot.specs.Folds.{find, lastOf, placeOf}
-use Rattle.snapshot.specs.Inner.{place, here, spotOf}
-use Rattle.snapshot.specs.declared.inner.Spot.the-variants.{At, Before}
-use Rattle.snapshot.proofs.Searching.{spot-at, spot-before, insert-over}
-use Rattle.snapshot.proofs.Finds.{find-absent, find-found}
 use Rattle.model.specs.Numbers.{endOf, logDecided}
 use Rattle.model.specs.Log.{numbersOf, orEmpty}
 use Rattle.model.specs.Lookup.{lookupReply}
@@ -28,6 +25,9 @@ use Rattle.model.proofs.Forms.{log-min}
 use Rattle.state_cache.specs.State.{Raw, numbersIn, logOf, Ready}
 use Rattle.state_cache.specs.Run.{run}
 use Rattle.state_cache.proofs.Stands.{stands-of, numbers-are}
+use Rattle.reading.specs.Newest.{NewestIs}
+use Rattle.reading.specs.declared.inner.Newest.{Newest}
+use Rattle.reading.specs.declared.inner.Newest.the-variants.{At, Nowhere}
 use Rattle.reading.proofs.Answers.{answer-is}
 
 -- the last of a run is asked first
@@ -55,43 +55,34 @@ entries-snoc i ws =
     ∙ ap (λ (l : List Change). entriesOf i ws ++ l) (entry-cons i (i + 1) ws (omega arith))
     ∙ ap (λ (l : List Change). entriesOf i ws ++ (changeAt ws i ∷ l)) d
 
--- so many entries are left to look at
-module _ (n : ℕ) (ws : List ℕ) (k i : ℕ) (inv : lastOf k (entriesOf n ws) ≡ lastOf k (entriesOf i ws)) where
-  pub newest-none : i ≡ 0 → none ≡ lastOf k (entriesOf n ws)
+-- i of n entries are left to look at
+pub record Left (n : ℕ) (ws : List ℕ) (k i : ℕ) : Type 0 where
+  pub within : i ≤ n
+  pub newest : lastOf k (entriesOf n ws) ≡ lastOf k (entriesOf i ws)
+
+module _ (n : ℕ) (ws : List ℕ) (k i : ℕ) (l : Left n ws k i) where
+  pub newest-none : i ≡ 0 → NewestIs k n ws Nowhere
   unfolding lastOf entriesAt
-  newest-none e = sym (inv ∙ ap (λ (j : ℕ). lastOf k (entriesOf j ws)) e)
+  newest-none e = record { says = sym (l .newest ∙ ap (λ (j : ℕ). lastOf k (entriesOf j ws)) e); inside = tt }
+
+  pub newest-few : (r : Newest) → NewestIs k i ws r → NewestIs k n ws r
+  newest-few (At j) p = record { says = p .says ∙ sym (l .newest); inside = omega (arith, p .inside) }
+  newest-few Nowhere p = record { says = p .says ∙ sym (l .newest); inside = tt }
 
   -- the one before j + 1 is looked at
   module _ (j : ℕ) (e : i ≡ j + 1) where
-    one-back : lastOf k (entriesOf n ws) ≡ orElse (if eqb (getD ws (j * width) 0) k then some (saidOf (getD ws (j * width + 1) 0)) else none) (lastOf k (entriesOf j ws))
+    one-back : lastOf k (entriesOf n ws) ≡ orElse (if eqb (changeAt ws j .key) k then some (changeAt ws j .said) else none) (lastOf k (entriesOf j ws))
     one-back =
-        inv ∙ ap (λ (m : ℕ). lastOf k (entriesOf m ws)) e
+        l .newest ∙ ap (λ (m : ℕ). lastOf k (entriesOf m ws)) e
         ∙ ap (lastOf k) (entries-snoc j ws) ∙ last-snoc k (entriesOf j ws) (changeAt ws j)
 
-    pub newest-found : getD ws (j * width) 0 ≡ k → some (saidOf (getD ws (j * width + 1) 0)) ≡ lastOf k (entriesOf n ws)
+    pub newest-found : changeAt ws j .key ≡ k → NewestIs k n ws (At j)
     unfolding orElse
-    newest-found q = sym (one-back ∙ rw (eq-eqb (getD ws (j * width) 0) k q))
+    newest-found q = record { says = sym (one-back ∙ rw (eq-eqb (changeAt ws j .key) k q)); inside = omega arith }
 
-    pub newest-back : (getD ws (j * width) 0 ≡ k → ⊥) → lastOf k (entriesOf n ws) ≡ lastOf k (entriesOf j ws)
+    pub newest-back : (changeAt ws j .key ≡ k → ⊥) → Left n ws k j
     unfolding orElse
-    newest-back q = one-back ∙ rw (ne-eqb (getD ws (j * width) 0) k q)
-
--- where the search of a snapshot ended
-module _ (n : ℕ) (ws : List ℕ) (k i : ℕ) where
-  pub spot-none : Before i ≡ spotOf (entriesOf n ws) k → replied none ≡ replied (placeOf (find k (entriesOf n ws)))
-  spot-none e = sym (rw (find-absent k (entriesOf n ws) (spot-before (entriesOf n ws) k i (sym e) .0)))
-
-  module _ (e : At i ≡ spotOf (entriesOf n ws) k) where
-    at : (here (entriesOf n ws) k ≡ true) × (place (entriesOf n ws) k ≡ i)
-    at = spot-at (entriesOf n ws) k i (sym e)
-
-    pub spot-inside : i < n
-    spot-inside = omega (arith, insert-over (change k 0) (entriesOf n ws) (at .0) .inside, at .1, entries-length changeCode n ws)
-
-    pub spot-word : some (saidOf (getD ws (i * width + 1) 0)) ≡ find k (entriesOf n ws)
-    spot-word =
-        let q : drop (place (entriesOf n ws) k) (entriesOf n ws) ≡ changeAt ws i ∷ drop (suc i) (entriesOf n ws) = rw (at .1) (entry-cons i n ws spot-inside) in
-        sym (find-found k (entriesOf n ws) (at .0) (changeAt ws i) (drop (suc i) (entriesOf n ws)) q)
+    newest-back q = record { within = omega arith; newest = one-back ∙ rw (ne-eqb (changeAt ws j .key) k q) }
 
 -- the entries below log-decided are retained ones
 pub decided-low : (r : Raw) → Ready r → r .index .compacted .0 ≤ logDecided (numbersIn (r .index))
@@ -137,9 +128,9 @@ module _ (r : Raw) (g : Ready r) (k : ℕ) where
     pub look-inside : (d - r .index .compacted .0) * width ≤ length (r .log)
     look-inside = omega (arith, q, decided-few r g, g .log .long, g .log .fits)
 
-    pub look-word : (w : ℕ) → some (saidOf w) ≡ lastOf k (entriesOf (d - r .index .compacted .0) (r .log)) → replied (placeOf (some (saidOf w))) ≡ run (query (lookup k)) true r .answer
+    pub look-said : (x : Said) → some x ≡ lastOf k (entriesOf (d - r .index .compacted .0) (r .log)) → replied (placeOf (some x)) ≡ run (query (lookup k)) true r .answer
     unfolding orElse
-    look-word w e = look-answer (placeOf (some (saidOf w))) (ap (λ (o : Option Said). placeOf (orElse o (find k (entriesOf (r .index .keys) (r .snapshot))))) (last-is (some (saidOf w)) e))
+    look-said x e = look-answer (placeOf (some x)) (ap (λ (o : Option Said). placeOf (orElse o (find k (entriesOf (r .index .keys) (r .snapshot))))) (last-is (some x) e))
 
     pub look-shot : none ≡ lastOf k (entriesOf (d - r .index .compacted .0) (r .log)) → replied (placeOf (find k (entriesOf (r .index .keys) (r .snapshot)))) ≡ run (query (lookup k)) true r .answer
     unfolding orElse

@@ -4,44 +4,37 @@ use super::Marker;
 use super::ReadReply;
 use super::ShownRun;
 use super::Span;
-use entry::BlockPlace;
 use entry::LogIndex;
 use entry::Refusal;
 use snapshot::Found;
-use snapshot::inner::Spot;
 use state_cache::IndexRecord;
 ghost use Prim.Native.Nat.{_-_, _*_, _<_, _≤_};
 ghost use mathlib.Core.Path.{_≡_};
 ghost use mathlib.Core.Bool.{true, false};
-ghost use mathlib.Core.Option.{some};
 ghost use lib.ListN.{length};
 ghost use Rattle.entry.specs.Limits.{width};
-ghost use Rattle.entry.specs.Change.{saidOf, entriesOf};
-ghost use Rattle.entry.specs.Guards.{replied};
-ghost use Rattle.snapshot.specs.Folds.{find, lastOf, placeOf};
 ghost use Rattle.snapshot.specs.Calls.{found};
-ghost use Rattle.snapshot.specs.Inner.{Holds};
 ghost use Rattle.model.specs.Numbers.{endOf, acceptedOf};
 ghost use Rattle.model.specs.Read.{startPast, stopPast, startAt, stopAt};
 ghost use Rattle.model.specs.Calls.{query, lookup, getEntries, getSuffix, read, readDecided};
 ghost use Rattle.state_cache.specs.State.{raw, numbersIn, Small, Ready};
 ghost use Rattle.state_cache.specs.Run.{run};
-ghost use Rattle.reading.specs.Newest.{newestSays};
+ghost use Rattle.reading.specs.Newest.{NewestIs};
 ghost use Rattle.reading.specs.Parts.{spanBetween, spanSays, spanReply};
 ghost use Rattle.reading.specs.Replies.{boundOf, readSaid};
 ghost use Rattle.reading.specs.Kinds.{kindIs, entryIs};
 ghost use Rattle.reading.specs.Numbered.{markerIn, markerAt, runOfNone, runOf, replyOf, rangeReply, decidedReply};
 
-// The newest word of a key, or none.
+// Where the newest entry of a key stands, or none.
 pub enum Newest {
-    Word(u64),
+    At(usize),
     Nowhere,
 }
 
 // Among the first n entries, from the last one back.
 fn newest_of_few(log: &[u64], n: usize, key: u64) -> Newest
     requires { ⌜ n * width ≤ length (now log) ⌝ }
-    ensures { λ r. ⌜ newestSays r ≡ lastOf key (entriesOf n (now (log .entry))) ⌝ }
+    ensures { λ r. ⌜ NewestIs key n (now (log .entry)) r ⌝ }
 {
     let mut i = n;
     loop {
@@ -49,19 +42,17 @@ fn newest_of_few(log: &[u64], n: usize, key: u64) -> Newest
             break Newest::Nowhere;
         }
         i -= 1;
-        let at = i * entry::WIDTH;
-        let k = log[at];
+        let k = log[i * entry::WIDTH];
         if k == key {
-            let word = log[at + 1];
-            break Newest::Word(word);
+            break Newest::At(i);
         }
     }
 }
 
 // The same, four entries a turn: to count them one by one would cost as much as to look at them.
-pub fn newest_word(log: &[u64], n: usize, key: u64) -> Newest
+pub fn newest_at(log: &[u64], n: usize, key: u64) -> Newest
     requires { ⌜ n * width ≤ length (now log) ⌝ }
-    ensures { λ r. ⌜ newestSays r ≡ lastOf key (entriesOf n (now (log .entry))) ⌝ }
+    ensures { λ r. ⌜ NewestIs key n (now (log .entry)) r ⌝ }
 {
     let mut i = n;
     loop {
@@ -69,54 +60,27 @@ pub fn newest_word(log: &[u64], n: usize, key: u64) -> Newest
             let few = newest_of_few(log, i, key);
             break few;
         }
-        let a = (i - 1) * entry::WIDTH;
-        let ka = log[a];
+        let a = i - 1;
+        let ka = log[a * entry::WIDTH];
         if ka == key {
-            let word = log[a + 1];
-            break Newest::Word(word);
+            break Newest::At(a);
         }
-        let b = (i - 2) * entry::WIDTH;
-        let kb = log[b];
+        let b = i - 2;
+        let kb = log[b * entry::WIDTH];
         if kb == key {
-            let word = log[b + 1];
-            break Newest::Word(word);
+            break Newest::At(b);
         }
-        let c = (i - 3) * entry::WIDTH;
-        let kc = log[c];
+        let c = i - 3;
+        let kc = log[c * entry::WIDTH];
         if kc == key {
-            let word = log[c + 1];
-            break Newest::Word(word);
-        }
-        let d = (i - 4) * entry::WIDTH;
-        let kd = log[d];
-        if kd == key {
-            let word = log[d + 1];
-            break Newest::Word(word);
+            break Newest::At(c);
         }
         i -= 4;
+        let kd = log[i * entry::WIDTH];
+        if kd == key {
+            break Newest::At(i);
+        }
     }
-}
-
-// What a key's word says to its finder: a removed key is absent.
-pub fn told(word: u64) -> Found
-    ensures { λ r. ⌜ found r ≡ replied (placeOf (some (saidOf word))) ⌝ }
-{
-    if word == entry::REMOVED {
-        return Found::Absent;
-    }
-    Found::Place(BlockPlace(word))
-}
-
-// A key's place in a snapshot that is known to be in form.
-pub fn look_up(s: &[u64], keys: usize, key: u64) -> Found
-    requires { ⌜ Holds (length (now s)) keys (now s) ⌝ }
-    ensures { λ r. ⌜ found r ≡ replied (placeOf (find key (entriesOf keys (now (s .entry))))) ⌝ }
-{
-    let spot = snapshot::inner::search(s, keys, key);
-    let Spot::At(i) = spot else {
-        return Found::Absent;
-    };
-    told(s[i * entry::WIDTH + 1])
 }
 
 pub fn look(index: IndexRecord, log: &[u64], snapshot: &[u64], key: u64) -> Found
@@ -125,11 +89,11 @@ pub fn look(index: IndexRecord, log: &[u64], snapshot: &[u64], key: u64) -> Foun
 {
     let decided = state_cache::inner::log_decided(index);
     let n = (decided - index.compacted.0) as usize;
-    let newest = newest_word(log, n, key);
-    let Newest::Word(word) = newest else {
-        return look_up(snapshot, index.keys, key);
+    let newest = newest_at(log, n, key);
+    let Newest::At(i) = newest else {
+        return snapshot::inner::look_up(snapshot, index.keys, key);
     };
-    told(word)
+    snapshot::inner::told(entry::inner::said_at(log, i))
 }
 
 // Where the entries from one index up to another stand among those retained.

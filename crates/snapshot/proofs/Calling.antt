@@ -7,28 +7,28 @@ use mathlib.Core.Option.{none, some}
 use native.Mathlib.Omega.{arith}
 use borrow.Author.Tests.{lt-ltb, le-ltb, eqb-true}
 use lib.Dec.{ltb, eqb}
-use lib.ListN.{length, drop, getD, replicate}
+use lib.ListN.{length, drop, replicate}
 use Rattle.words.specs.All.{allOf}
 use Rattle.words.specs.Words.{laid}
 use Rattle.words.specs.Coded.{wordsOf, entriesAt}
 use Rattle.words.proofs.Tests.{and-left, and-right}
-use Rattle.words.proofs.CodedLaws.{entries-length}
 use Rattle.entry.specs.Limits.{width, keyRoom, snapshotWords}
-use Rattle.entry.specs.Change.{Change, change, changeCode, saidOf, entriesOf, entriesIn, sliceFormed, stored, storedIn, formed}
+use Rattle.entry.specs.Change.{Change, entriesOf, entriesIn, sliceFormed, stored, storedIn, formed}
 use Rattle.entry.specs.Guards.{guard, Verdict, passes, refuses, first, refused, replied, refusedBy}
 use Rattle.entry.specs.Refusals.{numberOf, carriedOf}
 use Rattle.entry.specs.declared.Refusal.{Refusal}
 use Rattle.entry.specs.declared.Refusal.the-variants.{TooManyKeys, Malformed}
-use Rattle.entry.proofs.ChangeLaws.{changeAt, entry-cons}
+use Rattle.entry.specs.Inner.{changeAt}
+use Rattle.entry.proofs.ChangeLaws.{entry-cons}
 use Rattle.entry.proofs.GuardLaws.{first-refuses, first-goes-on}
 use Rattle.entry.proofs.SliceLaws.{laid-of, slice-fine, stored-entries, stored-laid}
 use Rattle.snapshot.specs.Folds.{rising, foldOnto, fold, merge, find, placeOf}
 use Rattle.snapshot.specs.Calls.{snapshotFormed, Outcome, outcome, written, foldGuards, folded, foldCall, mergeCall, findCall}
-use Rattle.snapshot.specs.Inner.{place, here, spotOf, Holds, Shows, FoldIs, Aside, foldedOut}
+use Rattle.snapshot.specs.Inner.{place, spotOf, Holds, Shows, FoldIs, Aside, foldedOut}
 use Rattle.snapshot.specs.declared.Folded.{Folded}
 use Rattle.snapshot.specs.declared.Folded.the-variants.{Keys, Refused}
 use Rattle.snapshot.specs.declared.inner.Spot.the-variants.{At, Before}
-use Rattle.snapshot.proofs.Searching.{spot-at, spot-before, insert-over}
+use Rattle.snapshot.proofs.Searching.{spot-at, spot-before, spot-inside}
 use Rattle.snapshot.proofs.Finds.{find-absent, find-found}
 use Rattle.snapshot.proofs.Putting.{folded-keys, folded-refused}
 
@@ -159,23 +159,17 @@ pub find-malformed : (n : ℕ) (ws : List ℕ) (k : ℕ) → snapshotFormed n ws
 unfolding findCall
 find-malformed n ws k e = rw (first-refuses 11 0 (not (snapshotFormed n ws)) [] (rw e))
 
--- a search's end, as the call tells it
-module _ (n : ℕ) (ws : List ℕ) (k : ℕ) (ok : snapshotFormed n ws ≡ true) where
-  settled : findCall ws n k ≡ replied (placeOf (find k (entriesOf n ws)))
-  unfolding findCall first
-  settled = rw (first-goes-on 11 0 (not (snapshotFormed n ws)) [] (rw ok))
+pub find-stands : (n : ℕ) (ws : List ℕ) (k : ℕ) → snapshotFormed n ws ≡ true → replied (placeOf (find k (entriesOf n ws))) ≡ findCall ws n k
+unfolding findCall first
+find-stands n ws k ok = sym (rw (first-goes-on 11 0 (not (snapshotFormed n ws)) [] (rw ok)))
 
-  pub find-none : (i : ℕ) → Before i ≡ spotOf (entriesOf n ws) k → replied none ≡ findCall ws n k
-  find-none i e = sym (settled ∙ rw (find-absent k (entriesOf n ws) (spot-before (entriesOf n ws) k i (sym e) .0)))
+-- a search's end, as it is told
+module _ (n : ℕ) (ws : List ℕ) (k i : ℕ) where
+  pub look-none : Before i ≡ spotOf (entriesOf n ws) k → replied none ≡ replied (placeOf (find k (entriesOf n ws)))
+  look-none e = sym (rw (find-absent k (entriesOf n ws) (spot-before (entriesOf n ws) k i (sym e) .0)))
 
-  module _ (i : ℕ) (e : At i ≡ spotOf (entriesOf n ws) k) where
-    at : (here (entriesOf n ws) k ≡ true) × (place (entriesOf n ws) k ≡ i)
-    at = spot-at (entriesOf n ws) k i (sym e)
-
-    pub find-inside : i < n
-    find-inside = omega (arith, insert-over (change k 0) (entriesOf n ws) (at .0) .inside, at .1, entries-length changeCode n ws)
-
-    pub find-word : findCall ws n k ≡ replied (placeOf (some (saidOf (getD ws (i * width + 1) 0))))
-    find-word =
-        let q : drop (place (entriesOf n ws) k) (entriesOf n ws) ≡ changeAt ws i ∷ drop (suc i) (entriesOf n ws) = rw (at .1) (entry-cons i n ws find-inside) in
-        settled ∙ rw (find-found k (entriesOf n ws) (at .0) (changeAt ws i) (drop (suc i) (entriesOf n ws)) q)
+  pub look-at : At i ≡ spotOf (entriesOf n ws) k → some (changeAt ws i .said) ≡ find k (entriesOf n ws)
+  look-at e =
+      let at = spot-at (entriesOf n ws) k i (sym e) in
+      let q : drop (place (entriesOf n ws) k) (entriesOf n ws) ≡ changeAt ws i ∷ drop (suc i) (entriesOf n ws) = rw (at .1) (entry-cons i n ws (spot-inside n ws k i e)) in
+      sym (find-found k (entriesOf n ws) (at .0) (changeAt ws i) (drop (suc i) (entriesOf n ws)) q)

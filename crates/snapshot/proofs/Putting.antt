@@ -2,7 +2,7 @@
 use Prim.Native.Nat.{ℕ, suc, _+_, _-_, _*_, _<_, _≤_}
 use mathlib.Core.Path.{_≡_, refl, sym, ap, _∙_}
 use mathlib.Core.Bool.{true}
-use mathlib.Core.List.{List, [], _∷_, _++_}
+use mathlib.Core.List.{List, [], _∷_, _++_, append-nil}
 use native.Mathlib.Omega.{arith}
 use native.Mathlib.Decide.{decLe}
 use borrow.Author.Tests.{le-leb, lt-leb}
@@ -15,8 +15,9 @@ use Rattle.words.proofs.CodedLaws.{entries-length, spliced-laid}
 use Rattle.entry.specs.Limits.{width}
 use Rattle.entry.specs.declared.Refusal.{Refusal}
 use Rattle.entry.specs.declared.Refusal.the-variants.{TooManyKeys}
-use Rattle.entry.specs.Change.{Change, change, changeCode, changeFormed, formed, entriesOf, stored, storedIn}
-use Rattle.entry.proofs.ChangeLaws.{changeOk, word-said, changeAt, entry-cons}
+use Rattle.entry.specs.Change.{Change, changeCode, changeFormed, formed, entriesOf, stored, storedIn}
+use Rattle.entry.specs.Inner.{changeAt}
+use Rattle.entry.proofs.ChangeLaws.{changeOk, entry-words, entry-cons}
 use Rattle.entry.proofs.SliceLaws.{laid-of, laid-stored, stored-length, stored-entries, stored-laid}
 use Rattle.snapshot.specs.Folds.{insert, foldOnto, rising}
 use Rattle.snapshot.specs.Inner.{place, spotOf, foldedIn, Holds, Shows, FoldIs}
@@ -50,58 +51,59 @@ folded-refused words es x e = go (decLe (length es * width) words)
     go (yes h) = let b = folded-fits words es h in let z : _≡_ {A = ℕ} 0 1 = cc in absurd (omega arith)
     go (no h) = omega arith
 
-module _ (s : List ℕ) (n key word : ℕ) (h : Holds (length s) n s) where
-  pair-words : key ∷ (word ∷ []) ≡ wordsOf changeCode (change key word ∷ [])
+-- the entry that the words `item` are, put among the n entries of s
+module _ (s : List ℕ) (n : ℕ) (item : List ℕ) (h : Holds (length s) n s) (whole : length item ≡ width) where
+  abbrev c : Change
+  c = changeCode .dec item
+
+  one-entry : item ≡ wordsOf changeCode (c ∷ [])
   unfolding wordsOf
-  pair-words = ap (λ (w : ℕ). key ∷ (w ∷ [])) (sym (word-said word))
+  one-entry = sym (append-nil (changeCode .enc c) ∙ changeOk .forth item whole)
 
   long : length (entriesOf n s) ≡ n
   long = entries-length changeCode n s
 
   -- a splice of one entry, over `cut` others
-  put-words : (i cut : ℕ) → Put (change key word) (entriesOf n s) cut → place (entriesOf n s) key ≡ i
-      → laid (length s) (spliced (i * width) (cut * width) (key ∷ (word ∷ [])) (take (n * width) s)) ≡ stored (length s) (insert (change key word) (entriesOf n s))
+  put-words : (i cut : ℕ) → Put c (entriesOf n s) cut → place (entriesOf n s) (c .key) ≡ i
+      → laid (length s) (spliced (i * width) (cut * width) item (take (n * width) s)) ≡ stored (length s) (insert c (entriesOf n s))
   put-words i cut p e =
-      spliced-laid changeCode changeOk n i cut s (key ∷ (word ∷ [])) (change key word ∷ []) (h .laid .fits) pair-words
-      ∙ ap (λ (j : ℕ). stored (length s) (spliced j cut (change key word ∷ []) (entriesOf n s))) (sym e)
+      spliced-laid changeCode changeOk n i cut s item (c ∷ []) (h .laid .fits) one-entry
+      ∙ ap (λ (j : ℕ). stored (length s) (spliced j cut (c ∷ []) (entriesOf n s))) (sym e)
       ∙ ap (stored (length s)) (sym (p .spliced-is))
 
-  module _ (i : ℕ) (e : At i ≡ spotOf (entriesOf n s) key) where
-    over : Put (change key word) (entriesOf n s) 1
-    over = insert-over (change key word) (entriesOf n s) (spot-at (entriesOf n s) key i (sym e) .0)
+  module _ (i : ℕ) (e : At i ≡ spotOf (entriesOf n s) (c .key)) where
+    over : Put c (entriesOf n s) 1
+    over = insert-over c (entriesOf n s) (spot-at (entriesOf n s) (c .key) i (sym e) .0)
 
-    pub at-inside : i + 1 ≤ n
-    at-inside = omega (arith, over .inside, spot-at (entriesOf n s) key i (sym e) .1, long)
-
-    pub put-at : FoldIs (length s) (insert (change key word) (entriesOf n s)) (Keys n) (laid (length s) (spliced (i * width) width (key ∷ (word ∷ [])) (take (n * width) s)))
+    pub put-at : FoldIs (length s) (insert c (entriesOf n s)) (Keys n) (laid (length s) (spliced (i * width) width item (take (n * width) s)))
     put-at =
-        let k : n ≡ length (insert (change key word) (entriesOf n s)) = omega (arith, over .length-is, long) in
+        let k : n ≡ length (insert c (entriesOf n s)) = omega (arith, over .length-is, long) in
         record {
-          reply = ap Keys k ∙ sym (folded-fits (length s) (insert (change key word) (entriesOf n s)) (omega (arith, h .laid .fits)));
-          words-are = λ _. put-words i 1 over (spot-at (entriesOf n s) key i (sym e) .1);
+          reply = ap Keys k ∙ sym (folded-fits (length s) (insert c (entriesOf n s)) (omega (arith, h .laid .fits)));
+          words-are = λ _. put-words i 1 over (spot-at (entriesOf n s) (c .key) i (sym e) .1);
         }
 
-  module _ (i : ℕ) (e : Before i ≡ spotOf (entriesOf n s) key) where
-    into : Put (change key word) (entriesOf n s) 0
-    into = insert-into (change key word) (entriesOf n s) (spot-before (entriesOf n s) key i (sym e) .0)
+  module _ (i : ℕ) (e : Before i ≡ spotOf (entriesOf n s) (c .key)) where
+    into : Put c (entriesOf n s) 0
+    into = insert-into c (entriesOf n s) (spot-before (entriesOf n s) (c .key) i (sym e) .0)
 
     pub before-inside : i ≤ n
-    before-inside = omega (arith, into .inside, spot-before (entriesOf n s) key i (sym e) .1, long)
+    before-inside = omega (arith, into .inside, spot-before (entriesOf n s) (c .key) i (sym e) .1, long)
 
     pub put-before : width ≤ length s - n * width
-        → FoldIs (length s) (insert (change key word) (entriesOf n s)) (Keys (n + 1)) (laid (length s) (spliced (i * width) 0 (key ∷ (word ∷ [])) (take (n * width) s)))
+        → FoldIs (length s) (insert c (entriesOf n s)) (Keys (n + 1)) (laid (length s) (spliced (i * width) 0 item (take (n * width) s)))
     put-before room =
-        let k : n + 1 ≡ length (insert (change key word) (entriesOf n s)) = omega (arith, into .length-is, long) in
+        let k : n + 1 ≡ length (insert c (entriesOf n s)) = omega (arith, into .length-is, long) in
         record {
-          reply = ap Keys k ∙ sym (folded-fits (length s) (insert (change key word) (entriesOf n s)) (omega (arith, h .laid .fits)));
-          words-are = λ _. put-words i 0 into (spot-before (entriesOf n s) key i (sym e) .1);
+          reply = ap Keys k ∙ sym (folded-fits (length s) (insert c (entriesOf n s)) (omega (arith, h .laid .fits)));
+          words-are = λ _. put-words i 0 into (spot-before (entriesOf n s) (c .key) i (sym e) .1);
         }
 
-    pub put-full : (t : List ℕ) → length s - n * width < width → FoldIs (length s) (insert (change key word) (entriesOf n s)) (Refused TooManyKeys) t
+    pub put-full : (t : List ℕ) → length s - n * width < width → FoldIs (length s) (insert c (entriesOf n s)) (Refused TooManyKeys) t
     put-full t full =
-        let k : n + 1 ≡ length (insert (change key word) (entriesOf n s)) = omega (arith, into .length-is, long) in
-        let o : length s < length (insert (change key word) (entriesOf n s)) * width = omega (arith, h .laid .fits) in
-        record { reply = sym (folded-full (length s) (insert (change key word) (entriesOf n s)) o); words-are = λ w. absurd (omega arith) }
+        let k : n + 1 ≡ length (insert c (entriesOf n s)) = omega (arith, into .length-is, long) in
+        let o : length s < length (insert c (entriesOf n s)) * width = omega (arith, h .laid .fits) in
+        record { reply = sym (folded-full (length s) (insert c (entriesOf n s)) o); words-are = λ w. absurd (omega arith) }
 
 -- the words s hold the entries m, in form and ascending, and zeros after them
 pub record Sofar (words : ℕ) (m : List Change) (s : List ℕ) (kept : ℕ) : Type 0 where
@@ -185,16 +187,22 @@ module _ (words : ℕ) (base : List Change) (n : ℕ) (ws : List ℕ) (shown : S
       }
 
   module _ (h : i < n) where
-    pub next-formed : changeFormed (changeAt ws i) ≡ true
+    next-formed : changeFormed (changeAt ws i) ≡ true
     next-formed = all-head changeFormed (changeAt ws i) (drop (suc i) (entriesOf n ws)) (rw (entry-cons i n ws h) at (all-drop changeFormed i (entriesOf n ws) (shown .sound)))
 
-    module _ (r : Folded) (t : List ℕ) (p : FoldIs (length s) (insert (changeAt ws i) (entriesOf kept s)) r t) where
+    -- the entry at i is put, as the part of the words that it is
+    module _ (r : Folded) (t : List ℕ) (p : FoldIs (length s) (insert (changeCode .dec (take (i * width + width - i * width) (drop (i * width) ws))) (entriesOf kept s)) r t) where
+      put-next : FoldIs (length s) (insert (changeAt ws i) (entriesOf kept s)) r t
+      put-next =
+          let m : i * width + width - i * width ≡ width = omega arith in
+          rw (m, entry-words i ws) at p
+
       pub fold-turn : (k : ℕ) → r ≡ Keys k → Sofar words (foldOnto base (take (i + 1) (entriesOf n ws))) t k
-      fold-turn k e = rw (onto-next base n i ws h) (sofar-put words (foldOnto base (take i (entriesOf n ws))) s kept f (changeAt ws i) r t p next-formed k e)
+      fold-turn k e = rw (onto-next base n i ws h) (sofar-put words (foldOnto base (take i (entriesOf n ws))) s kept f (changeAt ws i) r t put-next next-formed k e)
 
       pub fold-refused : (x : Refusal) → r ≡ Refused x → FoldIs words (foldOnto base (entriesOf n ws)) (Refused TooManyKeys) t
       fold-refused x e =
-          let a = sofar-full words (foldOnto base (take i (entriesOf n ws))) s kept f (changeAt ws i) r t p x e in
+          let a = sofar-full words (foldOnto base (take i (entriesOf n ws))) s kept f (changeAt ws i) r t put-next x e in
           let b = ap length (onto-next base n i ws h) in
           let o : words < length (foldOnto base (entriesOf n ws)) * width = omega (arith, onto-part base (entriesOf n ws) (i + 1)) in
           record { reply = sym (folded-full words (foldOnto base (entriesOf n ws)) o); words-are = λ w. absurd (omega arith) }

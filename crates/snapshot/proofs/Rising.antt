@@ -13,7 +13,8 @@ use Rattle.words.proofs.Tests.{and-left, and-right}
 use Rattle.words.proofs.CodedLaws.{entries-length}
 use Rattle.entry.specs.Limits.{width}
 use Rattle.entry.specs.Change.{Change, changeCode, entriesOf}
-use Rattle.entry.proofs.ChangeLaws.{changeAt, entry-cons}
+use Rattle.entry.specs.Inner.{changeAt}
+use Rattle.entry.proofs.ChangeLaws.{entry-cons}
 use Rattle.snapshot.specs.Folds.{climbs, rising}
 
 short : (m : List Change) → length m ≤ 1 → rising m ≡ true

@@ -14,8 +14,9 @@ use Rattle.words.specs.Words.{spliced}
 use Rattle.words.proofs.Tests.{Stand, below, same, above, stand}
 use Rattle.words.proofs.CodedLaws.{entries-length}
 use Rattle.entry.specs.Limits.{width}
-use Rattle.entry.specs.Change.{Change, changeCode, entriesOf}
-use Rattle.entry.proofs.ChangeLaws.{changeAt, entry-cons}
+use Rattle.entry.specs.Change.{Change, removed, changeCode, entriesOf}
+use Rattle.entry.specs.Inner.{changeAt}
+use Rattle.entry.proofs.ChangeLaws.{entry-cons}
 use Rattle.snapshot.specs.Folds.{insert, rising}
 use Rattle.snapshot.specs.Inner.{place, here, spotOf, Passed}
 use Rattle.snapshot.specs.declared.inner.Spot.the-variants.{At, Before}
@@ -192,3 +193,9 @@ insert-grows c es = go (here es (c .key)) refl
     go : (t : Bool) → here es (c .key) ≡ t → length es ≤ length (insert c es)
     go true q = omega (arith, insert-over c es q .length-is)
     go false q = omega (arith, insert-into c es q .length-is)
+
+-- a key that is there stands at an entry
+pub spot-inside : (n : ℕ) (ws : List ℕ) (k i : ℕ) → At i ≡ spotOf (entriesOf n ws) k → i < n
+spot-inside n ws k i e =
+    let at = spot-at (entriesOf n ws) k i (sym e) in
+    omega (arith, insert-over (record { key = k; said = removed }) (entriesOf n ws) (at .0) .inside, at .1, entries-length changeCode n ws)

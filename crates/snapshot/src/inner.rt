@@ -1,15 +1,18 @@
 // What the crates above need of snapshots: not for a user, whose calls are in lib.rt. What a function needs of its arguments it
 // requires: its callers have tested it.
 use super::Folded;
+use super::Found;
 use entry::Refusal;
+use entry::Said;
 ghost use mathlib.Core.Path.{_≡_};
-ghost use mathlib.Core.Bool.{true};
+ghost use mathlib.Core.Option.{some};
 ghost use Prim.Native.Nat.{_*_, _≤_};
 ghost use lib.ListN.{length};
 ghost use Rattle.entry.specs.Limits.{width};
-ghost use Rattle.entry.specs.Change.{change, saidOf, saidFormed, entriesOf};
-ghost use Rattle.snapshot.specs.Folds.{rising, insert, foldOnto};
-ghost use Rattle.snapshot.specs.Calls.{outcome, folded};
+ghost use Rattle.entry.specs.Change.{saidIs, changeCode, entriesOf};
+ghost use Rattle.entry.specs.Guards.{replied};
+ghost use Rattle.snapshot.specs.Folds.{rising, insert, foldOnto, find, placeOf};
+ghost use Rattle.snapshot.specs.Calls.{outcome, folded, found};
 ghost use Rattle.snapshot.specs.Inner.{spotOf, Passed, Holds, Shows, FoldIs, Aside, foldWritten, foldedOut};
 
 // Whether the keys of the first n entries ascend strictly.
@@ -74,24 +77,50 @@ pub fn search(s: &[u64], n: usize, key: u64) -> Spot
     }
 }
 
-// Puts one entry at its place; where there is no room the words are of no use.
-fn put(s: &mut [u64], n: usize, key: u64, word: u64) -> Folded
-    requires { ⌜ Holds (length (now s)) n (now s) × (saidFormed (saidOf word) ≡ true) ⌝ }
-    ensures { λ r. ⌜ FoldIs (length (now (s .entry))) (insert (change key word) (entriesOf n (now (s .entry)))) r (now (s .exit)) ⌝ }
+// What is found of a key where an entry says this of it: a removed key is absent.
+pub fn told(said: Said) -> Found
+    ensures { λ r. ⌜ found r ≡ replied (placeOf (some (saidIs said))) ⌝ }
+{
+    match said {
+        Said::Place(place) => Found::Place(place),
+        Said::Removed => Found::Absent,
+    }
+}
+
+// Finds a key's place in a snapshot.
+pub fn look_up(s: &[u64], n: usize, key: u64) -> Found
+    requires { ⌜ Holds (length (now s)) n (now s) ⌝ }
+    ensures { λ r. ⌜ found r ≡ replied (placeOf (find key (entriesOf n (now (s .entry))))) ⌝ }
+{
+    let spot = search(s, n, key);
+    let Spot::At(i) = spot else {
+        return Found::Absent;
+    };
+    told(entry::inner::said_at(s, i))
+}
+
+// Puts one entry, as its words, at its place; where there is no room the words of s are of no use.
+fn put(s: &mut [u64], n: usize, item: &[u64]) -> Folded
+    requires { ⌜ Holds (length (now s)) n (now s) × (length (now item) ≡ width) ⌝ }
+    ensures { λ r. ⌜ FoldIs
+        (length (now (s .entry)))
+        (insert (changeCode .dec (now (item .entry))) (entriesOf n (now (s .entry))))
+        r
+        (now (s .exit)) ⌝ }
 {
     let used = n * entry::WIDTH;
-    let pair = [key, word];
+    let key = item[0];
     let spot = search(s, n, key);
     match spot {
         Spot::At(i) => {
-            words::splice(s, used, i * entry::WIDTH, entry::WIDTH, &pair);
+            words::splice(s, used, i * entry::WIDTH, entry::WIDTH, item);
             Folded::Keys(n)
         }
         Spot::Before(i) => {
             if s.len() - used < entry::WIDTH {
                 return Folded::Refused(Refusal::TooManyKeys);
             }
-            words::splice(s, used, i * entry::WIDTH, 0, &pair);
+            words::splice(s, used, i * entry::WIDTH, 0, item);
             Folded::Keys(n + 1)
         }
     }
@@ -106,7 +135,7 @@ pub fn fold_onto(s: &mut [u64], kept: usize, entries: &[u64], n: usize) -> Folde
     let mut i = 0;
     while i < n {
         let at = i * entry::WIDTH;
-        let r = put(s, keys, entries[at], entries[at + 1]);
+        let r = put(s, keys, &entries[at..at + entry::WIDTH]);
         let Folded::Keys(k) = r else {
             return Folded::Refused(Refusal::TooManyKeys);
         };

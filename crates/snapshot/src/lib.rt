@@ -2,7 +2,6 @@
 // ascending by key, and zeros after them.
 use entry::BlockPlace;
 use entry::Refusal;
-use inner::Spot;
 ghost use mathlib.Core.Path.{_≡_};
 ghost use Rattle.snapshot.specs.Calls.{snapshotFormed, outcome, folded, foldCall, mergeCall, found, findCall};
 
@@ -64,14 +63,5 @@ pub fn find(s: &[u64], keys: usize, key: u64) -> Found
     if !snapshot_formed(s, keys) {
         return Found::Refused(Refusal::Malformed);
     }
-    let spot = inner::search(s, keys, key);
-    let Spot::At(i) = spot else {
-        return Found::Absent;
-    };
-    let at = i * entry::WIDTH + 1;
-    let word = s[at];
-    if word == entry::REMOVED {
-        return Found::Absent;
-    }
-    Found::Place(BlockPlace(word))
+    inner::look_up(s, keys, key)
 }

@@ -13,7 +13,8 @@ use Rattle.io.specs.Digits.{digits, Fewest}
 use Rattle.words.specs.If.{if_then_else_}
 use Rattle.words.proofs.CodedLaws.{entries-length}
 use Rattle.entry.specs.Change.{changeCode, entriesOf}
-use Rattle.entry.proofs.ChangeLaws.{changeAt, entry-cons}
+use Rattle.entry.specs.Inner.{changeAt}
+use Rattle.entry.proofs.ChangeLaws.{entry-cons}
 use Rattle.text.specs.Answers.{digitsUpTo, decimalOf, entryLine, entryLines}
 
 -- below 10 there is one digit

@@ -2,13 +2,14 @@
 // out from index `at` on, for which it asks room, and answers the index after them.
 use super::Line;
 use super::Parsed;
+use entry::Said;
 use libc::STDOUT_FILENO;
 ghost use mathlib.Core.Path.{_≡_};
 ghost use mathlib.Core.List.{_++_};
 ghost use Prim.Native.Nat.{_+_, _*_, _≤_};
 ghost use lib.ListN.{length, take};
 ghost use Rattle.entry.specs.Limits.{width};
-ghost use Rattle.entry.specs.Change.{change, entriesOf};
+ghost use Rattle.entry.specs.Change.{saidIs, entriesOf};
 ghost use Rattle.io.specs.Counts.{Counts};
 ghost use Rattle.text.specs.Bytes.{bytes, gapOf};
 ghost use Rattle.text.specs.Feeding.{come, joined, nextAt};
@@ -151,27 +152,29 @@ pub fn put_line(out: &mut [u8], at: usize, line: Line) -> usize
 }
 
 // label, a key, a space, the key's place or `-`, and a line end.
-fn put_change(out: &mut [u8], at: usize, label: &[u8], k: u64, w: u64) -> usize
+fn put_change(out: &mut [u8], at: usize, label: &[u8], k: u64, said: Said) -> usize
     requires { ⌜ at + length (now label) + 42 ≤ length (now out) ⌝ }
     ensures { λ r. ⌜ r ≤ at + length (now (label .entry)) + 42 ⌝ }
-    ensures { λ r. ⌜ take r (now (out .exit)) ≡ take at (now (out .entry)) ++ (now (label .entry) ++ entryText (change k w)) ⌝ }
+    ensures { λ r. ⌜ take r (now (out .exit))
+        ≡ take at (now (out .entry)) ++ (now (label .entry) ++ entryText (record { key = k; said = saidIs said })) ⌝ }
 {
-    if w == entry::REMOVED {
-        return put_one(out, at, label, k, b" -\n");
+    match said {
+        Said::Place(place) => put_two(out, at, label, k, place.0),
+        Said::Removed => put_one(out, at, label, k, b" -\n"),
     }
-    put_two(out, at, label, k, w)
 }
 
 // An entry's line.
-fn put_entry(out: &mut [u8], at: usize, decided: bool, k: u64, w: u64) -> usize
+fn put_entry(out: &mut [u8], at: usize, decided: bool, k: u64, said: Said) -> usize
     requires { ⌜ at + 64 ≤ length (now out) ⌝ }
     ensures { λ r. ⌜ r ≤ at + 64 ⌝ }
-    ensures { λ r. ⌜ take r (now (out .exit)) ≡ take at (now (out .entry)) ++ entryLine decided (change k w) ⌝ }
+    ensures { λ r. ⌜ take r (now (out .exit))
+        ≡ take at (now (out .entry)) ++ entryLine decided (record { key = k; said = saidIs said }) ⌝ }
 {
     if decided {
-        return put_change(out, at, b"decided ", k, w);
+        return put_change(out, at, b"decided ", k, said);
     }
-    put_change(out, at, b"undecided ", k, w)
+    put_change(out, at, b"undecided ", k, said)
 }
 
 // The lines of the first n entries, the first `decided` of them as decided.
@@ -184,8 +187,8 @@ pub fn put_run(out: &mut [u8], at: usize, entries: &[u64], n: usize, decided: us
     let mut o = at;
     let mut i = 0;
     while i < n {
-        let from = i * entry::WIDTH;
-        o = put_entry(out, o, i < decided, entries[from], entries[from + 1]);
+        let key = entries[i * entry::WIDTH];
+        o = put_entry(out, o, i < decided, key, entry::inner::said_at(entries, i));
         i += 1;
     }
     o

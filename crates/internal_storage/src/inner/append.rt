@@ -3,32 +3,19 @@ use super::super::AcceptedIdx;
 use super::super::AcceptedIdxAt;
 use super::super::Appended;
 use super::super::AppendedAt;
-use super::super::Said;
 use entry::Refusal;
+use entry::Said;
 use state_cache::Accepted;
 use state_cache::AcceptedAt;
 use state_cache::IndexRecord;
 ghost use mathlib.Core.Path.{_≡_};
 ghost use mathlib.Core.Bool.{true};
 ghost use mathlib.Core.List.{[], _∷_};
-ghost use Rattle.entry.specs.Change.{entriesIn, wholeIn};
+ghost use Rattle.entry.specs.Change.{saidIs, entriesIn, wholeIn};
 ghost use Rattle.model.specs.Calls.{append, appendNow};
 ghost use Rattle.state_cache.specs.State.{raw, Ready};
 ghost use Rattle.state_cache.specs.Run.{outcome, run, accepted};
-ghost use Rattle.internal_storage.specs.Replies.{saidIs, lentWord, appended, acceptedIdx, indexOnly, withIndexOnly};
-
-// The word that says it. That of a place of 2^48 or more breaks its form too, and is never the word of a removed key.
-fn word_of(said: Said) -> u64
-    ensures { λ w. ⌜ w ≡ lentWord (saidIs said) ⌝ }
-{
-    let Said::Place(place) = said else {
-        return entry::REMOVED;
-    };
-    if place.0 < entry::PLACES {
-        return place.0;
-    }
-    entry::PLACES
-}
+ghost use Rattle.internal_storage.specs.Replies.{appended, acceptedIdx, indexOnly, withIndexOnly};
 
 pub fn append_entry_with_batching(
     index: IndexRecord,
@@ -38,10 +25,13 @@ pub fn append_entry_with_batching(
     said: Said,
 ) -> AppendedAt
     requires { ⌜ Ready (raw index (now log) (now snapshot)) ⌝ }
-    ensures { λ r. ⌜ outcome (appended (r .answer)) (raw (r .index) (now (log .exit)) (now (snapshot .entry))) ≡ run (append (record { key = key; said = saidIs said } ∷ [])) true (raw index (now (log .entry)) (now (snapshot .entry))) ⌝ }
+    ensures { λ r. ⌜ outcome (appended (r .answer)) (raw (r .index) (now (log .exit)) (now (snapshot .entry)))
+        ≡ run
+        (append (record { key = key; said = saidIs said } ∷ []))
+        true
+        (raw index (now (log .entry)) (now (snapshot .entry))) ⌝ }
 {
-    let word = word_of(said);
-    let words = [key, word];
+    let words = entry::inner::lent(key, said);
     append_entries_with_batching(index, log, snapshot, &words)
 }
 

@@ -14,7 +14,8 @@ use Rattle.words.proofs.Alls.{all-cons}
 use Rattle.words.proofs.CodedLaws.{entries-length}
 use Rattle.entry.specs.Limits.{places}
 use Rattle.entry.specs.Change.{Change, changeCode, changeFormed, formed, entriesOf}
-use Rattle.entry.proofs.ChangeLaws.{changeAt, entry-cons}
+use Rattle.entry.specs.Inner.{changeAt}
+use Rattle.entry.proofs.ChangeLaws.{entry-cons}
 use Rattle.entry.proofs.inner.joined.Statement.{statement}
 use Rattle.entry.proofs.inner.joined.Tie as tie
 

@@ -9,7 +9,8 @@ use denote.Ref.{now}
 use Rattle.words.proofs.Alls.{all-turn, all-end}
 use Rattle.words.proofs.CodedLaws.{entries-length}
 use Rattle.entry.specs.Change.{changeCode, changeFormed, formed, entriesOf}
-use Rattle.entry.proofs.ChangeLaws.{changeAt, entry-cons}
+use Rattle.entry.specs.Inner.{changeAt}
+use Rattle.entry.proofs.ChangeLaws.{entry-cons}
 use Rattle.entry.proofs.inner.one_by_one.Statement.{statement}
 use Rattle.entry.proofs.inner.one_by_one.Tie as tie
 

@@ -4,11 +4,11 @@ use mathlib.Core.List.{[], _∷_}
 use mathlib.Core.Bool.{true}
 use borrow.Author.Tests.{not-true, not-false}
 use denote.Ref.{now}
+use Rattle.entry.specs.Change.{saidIs}
 use Rattle.model.specs.Calls.{append}
 use Rattle.state_cache.specs.State.{raw}
 use Rattle.state_cache.proofs.Stands.{ready-of}
 use Rattle.state_cache.proofs.Runs.{ill-formed}
-use Rattle.internal_storage.specs.Replies.{saidIs}
 use borrow.Author.Needs.{needs}
 use Rattle.internal_storage.proofs.append.append_entry_with_batching.Statement.{statement}
 use Rattle.internal_storage.proofs.append.append_entry_with_batching.Tie as tie

@@ -1,12 +1,12 @@
 -- `snapshot::inner::fold_onto` meets its contract: the words hold the entries put so far.
 use borrow.Author.Needs.{needs}
 use Prim.Native.Nat.{_≤_, _-_}
-use lib.ListN.{length, take}
+use lib.ListN.{length, take, length-take, length-drop}
 use native.Mathlib.Omega.{arith}
 use denote.Ref.{now}
 use Rattle.entry.specs.Change.{entriesOf}
 use Rattle.snapshot.specs.Folds.{foldOnto}
-use Rattle.snapshot.proofs.Putting.{Sofar, sofar-start, sofar-holds, next-formed, fold-turn, fold-refused, fold-done}
+use Rattle.snapshot.proofs.Putting.{Sofar, sofar-start, sofar-holds, fold-turn, fold-refused, fold-done}
 use Rattle.snapshot.proofs.inner.fold_onto.Statement.{statement}
 use Rattle.snapshot.proofs.inner.fold_onto.Tie as tie
 
@@ -25,26 +25,25 @@ loop-holds c =
 mul-at : tie.Need-mul-at Inv-loop μ-loop
 mul-at c = omega arith
 
-mul-put : tie.Need-mul-put Inv-loop μ-loop
-mul-put c = omega arith
-
-shared-slice-read-put : tie.Need-shared-slice-read-put Inv-loop μ-loop
-shared-slice-read-put c = omega arith
-
 add-put : tie.Need-add-put Inv-loop μ-loop
 add-put c = omega arith
 
-mul-put-2 : tie.Need-mul-put-2 Inv-loop μ-loop
-mul-put-2 c = omega arith
+mul-put : tie.Need-mul-put Inv-loop μ-loop
+mul-put c = omega arith
 
-shared-slice-read-put-2 : tie.Need-shared-slice-read-put-2 Inv-loop μ-loop
-shared-slice-read-put-2 c = omega arith
+sub-put : tie.Need-sub-put Inv-loop μ-loop
+sub-put c = search needs
+
+part-put-start : tie.Need-part-put-start Inv-loop μ-loop
+part-put-start c = search needs
+
+part-put-end : tie.Need-part-put-end Inv-loop μ-loop
+part-put-end c = search needs
 
 put-requires : tie.Need-put-requires Inv-loop μ-loop
 put-requires c κs =
-    let l = c .before .before .before .before in
-    let a = l .before .before .before in
-    (sofar-holds _ _ (l .loop .s) (l .loop .keys) (l .loop .inv .1), next-formed (length (now (a .args .s))) _ (a .args .n) (now (a .args .entries)) (a .pre .1) (l .loop .i) (l .loop .s) (l .loop .keys) (l .loop .inv .1) (c .before .before .before .loop-test .taken))
+    let l = c .before .before .before in
+    (sofar-holds _ _ (l .loop .s) (l .loop .keys) (l .loop .inv .1), simp (length-take, length-drop) (omega arith))
 
 enum-known-r : tie.Need-enum-known-r Inv-loop μ-loop
 enum-known-r c = search needs
@@ -58,7 +57,7 @@ same-length c = search needs
 returns : tie.Need-returns Inv-loop μ-loop
 returns c =
     let q = c .before .before .before .before in
-    let t = q .before .before .before .before in
+    let t = q .before .before .before in
     let l = t .before in
     let a = l .before .before .before in
     fold-refused (length (now (a .args .s))) (entriesOf (a .args .kept) (now (a .args .s))) (a .args .n) (now (a .args .entries)) (a .pre .1) (l .loop .i) (l .loop .s) (l .loop .keys) (l .loop .inv .1) (t .loop-test .taken) (q .put .result) (q .put .last .0) (q .put .ensures) _ (c .enum-told .given .1)
@@ -72,7 +71,7 @@ loop-less c = omega arith
 loop-again : tie.Need-loop-again Inv-loop μ-loop
 loop-again c =
     let q = c .before .before .before .before .before in
-    let t = q .before .before .before .before in
+    let t = q .before .before .before in
     let l = t .before in
     let a = l .before .before .before in
     (omega arith, fold-turn (length (now (a .args .s))) (entriesOf (a .args .kept) (now (a .args .s))) (a .args .n) (now (a .args .entries)) (a .pre .1) (l .loop .i) (l .loop .s) (l .loop .keys) (l .loop .inv .1) (t .loop-test .taken) (q .put .result) (q .put .last .0) (q .put .ensures) _ (c .before .r .given .1))
@@ -94,11 +93,11 @@ fold-onto-spec =
     μ-loop
     loop-holds
     mul-at
-    mul-put
-    shared-slice-read-put
     add-put
-    mul-put-2
-    shared-slice-read-put-2
+    mul-put
+    sub-put
+    part-put-start
+    part-put-end
     put-requires
     enum-known-r
     enum-told

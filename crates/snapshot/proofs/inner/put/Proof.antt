@@ -2,13 +2,17 @@
 use mathlib.Core.Path.{sym, _∙_}
 use native.Mathlib.Omega.{arith}
 use denote.Ref.{now}
-use Rattle.snapshot.proofs.Putting.{at-inside, before-inside, put-at, put-before, put-full}
+use Rattle.snapshot.proofs.Searching.{spot-inside}
+use Rattle.snapshot.proofs.Putting.{before-inside, put-at, put-before, put-full}
 use borrow.Author.Needs.{needs}
 use Rattle.snapshot.proofs.inner.put.Statement.{statement}
 use Rattle.snapshot.proofs.inner.put.Tie as tie
 
 mul-used : tie.Need-mul-used
 mul-used c = search needs
+
+shared-slice-read-key : tie.Need-shared-slice-read-key
+shared-slice-read-key c = search needs
 
 search-requires : tie.Need-search-requires
 search-requires c κs = search needs
@@ -19,17 +23,14 @@ enum-known-spot c = search needs
 mul-splice : tie.Need-mul-splice
 mul-splice c =
     let k = c .before .before .before .before in
-    let st = k .before .before .before in
-    omega (arith, at-inside (now (st .args .s)) (st .args .n) (st .args .key) (st .args .word) (st .pre .0) _ (sym (c .before .before .spot .given .1) ∙ k .search .ensures), st .pre .0 .laid .fits)
-
-slice-aggregate-splice : tie.Need-slice-aggregate-splice
-slice-aggregate-splice c = search needs
+    let st = k .before .before .before .before .before in
+    omega (arith, spot-inside (st .args .n) (now (st .args .s)) _ _ (sym (c .before .before .spot .given .1) ∙ k .search .ensures), st .pre .0 .laid .fits)
 
 splice-requires : tie.Need-splice-requires
 splice-requires c κs =
-    let k = c .before .before .before .before .before in
-    let st = k .before .before .before in
-    let i = at-inside (now (st .args .s)) (st .args .n) (st .args .key) (st .args .word) (st .pre .0) _ (sym (c .before .before .before .spot .given .1) ∙ k .search .ensures) in
+    let k = c .before .before .before .before in
+    let st = k .before .before .before .before .before in
+    let i = spot-inside (st .args .n) (now (st .args .s)) _ _ (sym (c .before .before .spot .given .1) ∙ k .search .ensures) in
     (omega arith, (omega arith, (omega arith, st .pre .0 .laid .zeros)))
 
 enum-known-spot-2 : tie.Need-enum-known-spot-2
@@ -44,66 +45,62 @@ same-length c = search needs
 returns : tie.Need-returns
 returns c =
     let k = c .before .before .before .before in
-    let st = k .before .before .before in
-    put-full (now (st .args .s)) (st .args .n) (st .args .key) (st .args .word) (st .pre .0) _ (sym (c .before .before .spot2 .given .1) ∙ k .search .ensures) _ (c .if1 .taken)
+    let st = k .before .before .before .before .before in
+    put-full (now (st .args .s)) (st .args .n) (now (st .args .item)) (st .pre .0) (st .pre .1) _ (sym (c .before .before .spot2 .given .1) ∙ k .search .ensures) _ (c .if1 .taken)
 
 mul-splice-2 : tie.Need-mul-splice-2
 mul-splice-2 c =
     let k = c .before .before .before .before .before in
-    let st = k .before .before .before in
-    omega (arith, before-inside (now (st .args .s)) (st .args .n) (st .args .key) (st .args .word) (st .pre .0) _ (sym (c .before .before .before .spot2 .given .1) ∙ k .search .ensures), st .pre .0 .laid .fits)
-
-slice-aggregate-splice-2 : tie.Need-slice-aggregate-splice-2
-slice-aggregate-splice-2 c = search needs
+    let st = k .before .before .before .before .before in
+    omega (arith, before-inside (now (st .args .s)) (st .args .n) (now (st .args .item)) (st .pre .0) (st .pre .1) _ (sym (c .before .before .before .spot2 .given .1) ∙ k .search .ensures), st .pre .0 .laid .fits)
 
 splice-requires-2 : tie.Need-splice-requires-2
 splice-requires-2 c κs =
-    let k = c .before .before .before .before .before .before in
-    let st = k .before .before .before in
-    let i = before-inside (now (st .args .s)) (st .args .n) (st .args .key) (st .args .word) (st .pre .0) _ (sym (c .before .before .before .before .spot2 .given .1) ∙ k .search .ensures) in
+    let k = c .before .before .before .before .before in
+    let st = k .before .before .before .before .before in
+    let i = before-inside (now (st .args .s)) (st .args .n) (now (st .args .item)) (st .pre .0) (st .pre .1) _ (sym (c .before .before .before .spot2 .given .1) ∙ k .search .ensures) in
     (omega arith, (omega arith, (omega arith, st .pre .0 .laid .zeros)))
 
-add-t20 : tie.Need-add-t20
-add-t20 c = search needs
+add-t19 : tie.Need-add-t19
+add-t19 c = search needs
 
 same-length-2 : tie.Need-same-length-2
 same-length-2 c = search needs
 
 returns-2 : tie.Need-returns-2
 returns-2 c =
-    let k = c .before .before .before .before .before .before .before .before in
-    let st = k .before .before .before in
+    let k = c .before .before .before .before .before .before .before in
+    let st = k .before .before .before .before .before in
     rw (c .before .before .splice .ensures)
-    (put-at (now (st .args .s)) (st .args .n) (st .args .key) (st .args .word) (st .pre .0) _ (sym (c .before .before .before .before .before .before .spot .given .1) ∙ k .search .ensures))
+    (put-at (now (st .args .s)) (st .args .n) (now (st .args .item)) (st .pre .0) (st .pre .1) _ (sym (c .before .before .before .before .before .spot .given .1) ∙ k .search .ensures))
 
 same-length-3 : tie.Need-same-length-3
 same-length-3 c = search needs
 
 returns-3 : tie.Need-returns-3
 returns-3 c =
-    let k = c .before .before .before .before .before .before .before .before .before in
-    let st = k .before .before .before in
+    let k = c .before .before .before .before .before .before .before .before in
+    let st = k .before .before .before .before .before in
     rw (c .before .before .splice2 .ensures)
-    (put-before (now (st .args .s)) (st .args .n) (st .args .key) (st .args .word) (st .pre .0) _ (sym (c .before .before .before .before .before .before .before .spot2 .given .1) ∙ k .search .ensures) (c .before .before .before .before .before .if1 .left))
+    (put-before (now (st .args .s)) (st .args .n) (now (st .args .item)) (st .pre .0) (st .pre .1) _ (sym (c .before .before .before .before .before .before .spot2 .given .1) ∙ k .search .ensures) (c .before .before .before .before .if1 .left))
 
 pub put-spec : {M : Type 1} → statement M
 put-spec =
     tie.close
     (tie.spec
     mul-used
+    shared-slice-read-key
     search-requires
     enum-known-spot
     mul-splice
-    slice-aggregate-splice
     splice-requires
     enum-known-spot-2
     sub-if1
     same-length
     returns
     mul-splice-2
-    slice-aggregate-splice-2
     splice-requires-2
-    add-t20
+    add-t19
     same-length-2
     returns-2
     same-length-3

@@ -1,13 +1,13 @@
 -- `text::inner::put_run` meets its contract: the lines that are put and those of the entries that are left make the whole.
 use Prim.Native.Nat.{ℕ, _≤_, _+_, _-_, _*_}
-use mathlib.Core.Path.{_≡_, refl, ap}
-use mathlib.Core.List.{_++_, append-nil}
+use mathlib.Core.Path.{_≡_, refl, ap, _∙_}
+use mathlib.Core.List.{List, _++_, append-nil}
 use native.Mathlib.Omega.{arith}
 use lib.Dec.{ltb}
 use lib.ListN.{length, take, drop}
 use denote.Ref.{now}
-use Rattle.entry.specs.Change.{entriesOf}
-use Rattle.entry.proofs.ChangeLaws.{changeAt}
+use Rattle.entry.specs.Change.{Said, entriesOf}
+use Rattle.entry.specs.Inner.{changeAt}
 use Rattle.text.specs.Answers.{entryLine, entryLines}
 use Rattle.text.proofs.AnswerLaws.{lines-next, lines-end, turn}
 use Rattle.text.proofs.inner.put_run.Statement.{statement}
@@ -25,23 +25,17 @@ loop-holds c =
     let e : a .decided - 0 ≡ a .decided = omega arith in
     (omega arith, omega arith, refl, ap (λ (k : ℕ). take (a .at) (now (a .out)) ++ entryLines k (entriesOf (a .n) (now (a .entries)))) e)
 
-mul-from : tie.Need-mul-from Inv-loop μ-loop
-mul-from c = omega arith
+mul-key : tie.Need-mul-key Inv-loop μ-loop
+mul-key c = omega arith
 
-mul-put-entry : tie.Need-mul-put-entry Inv-loop μ-loop
-mul-put-entry c = omega arith
+mul-key-2 : tie.Need-mul-key-2 Inv-loop μ-loop
+mul-key-2 c = omega arith
 
-shared-slice-read-put-entry : tie.Need-shared-slice-read-put-entry Inv-loop μ-loop
-shared-slice-read-put-entry c = omega arith
+shared-slice-read-key : tie.Need-shared-slice-read-key Inv-loop μ-loop
+shared-slice-read-key c = omega arith
 
-add-put-entry : tie.Need-add-put-entry Inv-loop μ-loop
-add-put-entry c = omega arith
-
-mul-put-entry-2 : tie.Need-mul-put-entry-2 Inv-loop μ-loop
-mul-put-entry-2 c = omega arith
-
-shared-slice-read-put-entry-2 : tie.Need-shared-slice-read-put-entry-2 Inv-loop μ-loop
-shared-slice-read-put-entry-2 c = omega arith
+said-at-requires : tie.Need-said-at-requires Inv-loop μ-loop
+said-at-requires c κs = omega arith
 
 put-entry-requires : tie.Need-put-entry-requires Inv-loop μ-loop
 put-entry-requires c κs = omega arith
@@ -59,11 +53,12 @@ loop-again c =
     let a = l .before .before .before .args in
     let ws = now (a .entries) in
     let es = entriesOf (a .n) ws in
-    let i = l .loop .i in (
+    let i = l .loop .i in
+    let line : Said → List ℕ = λ (x : Said). entryLine (ltb i (a .decided)) (record { key = changeAt ws i .key; said = x }) in (
       omega arith,
       omega arith,
       omega arith,
-      turn (take (l .loop .o) (l .loop .out)) (entryLine (ltb i (a .decided)) (changeAt ws i)) (entryLines (a .decided - i) (drop i es)) (entryLines (a .decided - (i + 1)) (drop (i + 1) es)) (take (a .at) (now (a .out)) ++ entryLines (a .decided) es) (p .put-entry .ensures .1) (lines-next (a .decided) (a .n) ws i (omega arith)) (l .loop .inv .3),
+      turn (take (l .loop .o) (l .loop .out)) (line (changeAt ws i .said)) (entryLines (a .decided - i) (drop i es)) (entryLines (a .decided - (i + 1)) (drop (i + 1) es)) (take (a .at) (now (a .out)) ++ entryLines (a .decided) es) (p .put-entry .ensures .1 ∙ ap (λ (x : Said). take (l .loop .o) (l .loop .out) ++ line x) (p .before .said-at .ensures)) (lines-next (a .decided) (a .n) ws i (omega arith)) (l .loop .inv .3),
     )
 
 same-length : tie.Need-same-length Inv-loop μ-loop
@@ -82,12 +77,10 @@ put-run-spec =
     Inv-loop
     μ-loop
     loop-holds
-    mul-from
-    mul-put-entry
-    shared-slice-read-put-entry
-    add-put-entry
-    mul-put-entry-2
-    shared-slice-read-put-entry-2
+    mul-key
+    mul-key-2
+    shared-slice-read-key
+    said-at-requires
     put-entry-requires
     add-i
     loop-less

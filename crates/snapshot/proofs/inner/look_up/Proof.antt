@@ -1,0 +1,58 @@
+-- `snapshot::inner::look_up` meets its contract: by where the search ended.
+use native.Mathlib.Omega.{arith}
+use mathlib.Core.Path.{sym, ap, _∙_}
+use mathlib.Core.Option.{Option, some}
+use denote.Ref.{now}
+use Rattle.entry.specs.Change.{Said}
+use Rattle.entry.specs.Guards.{replied}
+use Rattle.snapshot.specs.Folds.{placeOf}
+use Rattle.snapshot.proofs.Searching.{spot-inside}
+use Rattle.snapshot.proofs.Calling.{look-none, look-at}
+use borrow.Author.Needs.{needs}
+use Rattle.snapshot.proofs.inner.look_up.Statement.{statement}
+use Rattle.snapshot.proofs.inner.look_up.Tie as tie
+
+search-requires : tie.Need-search-requires
+search-requires c κs = search needs
+
+enum-known-spot : tie.Need-enum-known-spot
+enum-known-spot c = search needs
+
+enum-told : tie.Need-enum-told
+enum-told c = search needs
+
+returns : tie.Need-returns
+returns c =
+    let f = c .before .before in
+    let st = f .before .before in
+    look-none (st .args .n) (now (st .args .s)) (st .args .key) _ (sym (c .enum-told .given .1) ∙ f .search .ensures)
+
+said-at-requires : tie.Need-said-at-requires
+said-at-requires c κs =
+    let f = c .before .before .before in
+    let st = f .before .before in
+    omega (arith, st .pre .laid .fits, spot-inside (st .args .n) (now (st .args .s)) (st .args .key) _ (sym (c .before .spot .given .1) ∙ f .search .ensures))
+
+told-requires : tie.Need-told-requires
+told-requires c κs = search needs
+
+returns-2 : tie.Need-returns-2
+returns-2 c =
+    let e = c .before .before in
+    let f = e .before .before .before in
+    let st = f .before .before in
+    c .told .ensures
+    ∙ ap (λ (x : Said). replied (placeOf (some x))) (c .before .said-at .ensures)
+    ∙ ap (λ (o : Option Said). replied (placeOf o)) (look-at (st .args .n) (now (st .args .s)) (st .args .key) _ (sym (e .before .spot .given .1) ∙ f .search .ensures))
+
+pub look-up-spec : {M : Type 1} → statement M
+look-up-spec =
+    tie.close
+    (tie.spec
+    search-requires
+    enum-known-spot
+    enum-told
+    returns
+    said-at-requires
+    told-requires
+    returns-2)

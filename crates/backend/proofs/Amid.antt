@@ -21,7 +21,7 @@ use Rattle.model.specs.Numbers.{numbersFormed}
 use Rattle.model.specs.Log.{Log, retaining, withRun}
 use Rattle.state_cache.specs.State.{Raw, raw, numbersIn, signHeld, shotHeld, formed, logOf, Ready}
 use Rattle.state_cache.specs.Fields.{withEntries}
-use Rattle.backend.specs.Midst.{Held}
+use Rattle.backend.specs.Inner.{Held}
 
 -- the words of an entry slice are its entries'
 pub slice-coded : (ws : List ℕ) → sliceFormed ws ≡ true → ws ≡ wordsOf changeCode (entriesIn ws)

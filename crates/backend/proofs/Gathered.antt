@@ -19,7 +19,8 @@ use Rattle.state_cache.proofs.Runs.{ill-formed, not-whole, bad-call}
 use Rattle.backend.specs.declared.Op.{Op as CodeOp}
 use Rattle.backend.specs.declared.OpList.{OpList}
 use Rattle.backend.specs.declared.Lent.{Lent as CodeLent}
-use Rattle.backend.specs.Ops.{opOf, noOp, opsIn, lentOf, wholeLent, wholeList, noOps, putOf, putAll}
+use Rattle.backend.specs.Ops.{opOf, opsIn, lentOf, wholeLent, wholeList}
+use Rattle.backend.specs.Inner.{noOp, noOps, putOf, putAll}
 
 record Holding (l : OpList) (os : List CodeOp) : Type 0 where
   count : l .count ≡ length os

@@ -17,7 +17,7 @@ use Rattle.words.proofs.Tests.{and-right, or-right}
 use Rattle.words.proofs.CodedLaws.{entries-length}
 use Rattle.entry.specs.Limits.{width, entryRoom, snapshotWords}
 use Rattle.entry.specs.Change.{Change, changeCode, entriesOf, entriesIn, sliceFormed}
-use Rattle.entry.specs.Sign.{signFormed, signBlank, blank, noSign}
+use Rattle.entry.specs.Sign.{signFormed, signIf, signBlank, blank, noSign}
 use Rattle.entry.specs.Guards.{Guard, Verdict, passes, refuses, first, Answer, refused, replied, settle}
 use Rattle.entry.specs.Refusals.{numberOf, carriedOf}
 use Rattle.entry.specs.declared.Ballot.{Ballot}
@@ -43,9 +43,9 @@ use Rattle.backend.specs.declared.Op.{Op as CodeOp}
 use Rattle.backend.specs.declared.OpKind.{OpKind}
 use Rattle.backend.specs.declared.OpKind.the-variants.{SetStopsign, SetSnapshot}
 use Rattle.backend.specs.declared.Lent.{Lent as CodeLent}
-use Rattle.backend.specs.declared.inner.Stepped.{Stepped}
-use Rattle.backend.specs.Ops.{ofKind, opOf, lentOf, onlyEntries, incomingFormed, askedSign, askedKeys, askedWords}
-use Rattle.backend.specs.Midst.{midstOf, Held, rejoined, roomGuards, Goes, Lends}
+use Rattle.backend.specs.declared.inner.step.Stepped.{Stepped}
+use Rattle.backend.specs.Ops.{ofKind, opOf, lentOf, incomingFormed}
+use Rattle.backend.specs.Inner.{midstOf, Held, rejoined, roomGuards, Goes, Lends, onlyEntries, askedKeys, askedWords}
 use Rattle.backend.proofs.Amid.{kept-count, batch-count, put-log, put-held, trim-log, trim-held}
 
 abbrev stepped : Settled → ℕ → IndexRecord → Stepped
@@ -247,22 +247,22 @@ module _ (start : ℕ) (r : Raw) (h : Held r) where
     lent = lentOf b entries incoming
 
     sign-goes : (t : Bool) → supplied lent (setSign t) ≡ true
-        → Goes (stepGuards n lent (setSign t) m) (step lent (setSign t) m) (stepped Done start (withStop t (askedSign t (b .stop)) (r .index))) (r .log) (r .snapshot)
+        → Goes (stepGuards n lent (setSign t) m) (step lent (setSign t) m) (stepped Done start (withStop t (signIf t (b .stop)) (r .index))) (r .log) (r .snapshot)
     unfolding stepGuards step first
     sign-goes t e =
-        goes-done [] (step lent (setSign t) m) start (withStop t (askedSign t (b .stop)) (r .index)) (r .log) (r .snapshot) refl
+        goes-done [] (step lent (setSign t) m) start (withStop t (signIf t (b .stop)) (r .index)) (r .log) (r .snapshot) refl
         (unfold logOf in ap (λ (g : Option StopSign). record { start = start; log = record { run = logOf r .run; tail = record { batched = logOf r .tail .batched; size = logOf r .tail .size; sign = g }; marks = logOf r .marks } })
         (set t (b .«stop_lent») e))
         (record { log = h .log; snapshot = h .snapshot; none-held = h .none-held; sign = unfold signHeld in fine t (b .«stop_lent») e (f .sign) })
       where
         set : (t u : Bool) → (not t || given (if u then some (b .stop) else none)) ≡ true
-            → (if t then some (askedSign t (b .stop)) else none) ≡ (if t then (if u then some (b .stop) else none) else none)
+            → (if t then some (signIf t (b .stop)) else none) ≡ (if t then (if u then some (b .stop) else none) else none)
         set true true e = refl
         set true false e = absurd (true≢false (sym e))
         set false u e = refl
 
         fine : (t u : Bool) → (not t || given (if u then some (b .stop) else none)) ≡ true → ifGiven signFormed (if u then some (b .stop) else none) ≡ true
-            → ((t && signFormed (askedSign t (b .stop))) || (not t && signBlank (askedSign t (b .stop)))) ≡ true
+            → ((t && signFormed (signIf t (b .stop))) || (not t && signBlank (signIf t (b .stop)))) ≡ true
         fine true true e q = rw q
         fine true false e q = absurd (true≢false (sym e))
         fine false u e q = blank-none
@@ -297,7 +297,7 @@ module _ (start : ℕ) (r : Raw) (h : Held r) where
       is-supplied : (k : OpKind) → o .kind ≡ k → supplied lent (opOf o) ≡ true → supplied lent (ofKind k o) ≡ true
       is-supplied k e q = ap (λ (j : OpKind). supplied lent (ofKind j o)) (sym e) ∙ q
 
-      pub sign-done : o .kind ≡ SetStopsign → supplied lent (opOf o) ≡ true → (g : StopSign) → g ≡ askedSign (o .given) (b .stop)
+      pub sign-done : o .kind ≡ SetStopsign → supplied lent (opOf o) ≡ true → (g : StopSign) → g ≡ signIf (o .given) (b .stop)
           → Goes (stepGuards n lent (opOf o) m) (step lent (opOf o) m) (stepped Done start (withStop (o .given) g (r .index))) (r .log) (r .snapshot)
       sign-done e q g p =
           goes-of n lent m o SetStopsign (stepped Done start (withStop (o .given) g (r .index))) (r .log) (r .snapshot) e

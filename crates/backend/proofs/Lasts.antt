@@ -20,11 +20,10 @@ use Rattle.snapshot.specs.Calls.{snapshotFormed}
 use Rattle.model.specs.Numbers.{Numbers, endOf, acceptedOf, numbersFormed}
 use Rattle.model.specs.Log.{numbersOf, wellFormed}
 use Rattle.model.specs.Backend.{lastGuards}
-use Rattle.state_cache.specs.State.{Raw, numbersIn, signHeld, shotHeld, formed, logOf, Small}
+use Rattle.state_cache.specs.State.{Raw, numbersIn, oneIf, signHeld, shotHeld, formed, logOf, Small}
 use Rattle.state_cache.specs.declared.IndexRecord.{IndexRecord}
-use Rattle.state_cache.proofs.Small.{accepted-le}
 use Rattle.state_cache.proofs.Stands.{log-formed, given-by}
-use Rattle.backend.specs.Midst.{midstOf, Held}
+use Rattle.backend.specs.Inner.{midstOf, Held}
 
 -- the numbers of the log that a record and words stand for are the record's
 pub numbers-of : (r : Raw) → numbersOf (logOf r) ≡ numbersIn (r .index)
@@ -73,18 +72,13 @@ formed-is r h = go (formed r) (wellFormed (logOf r)) refl refl
     go false true p q = back q ∙ sym q
     go false false p q = p ∙ sym q
 
--- whether the accepted index and the batch pass the largest index
-module _ (x : IndexRecord) (room : x .retained + x .batched ≤ entryRoom) where
-  abbrev pub reached : ℕ
-  reached = acceptedOf (numbersIn x) + x .batched
-
-  pub compacted-past : lastIndex < x .compacted .0 → true ≡ ltb lastIndex reached
-  unfolding acceptedOf endOf
-  compacted-past over = sym (lt-ltb lastIndex reached (omega arith))
-
-  pub last-fits : x .compacted .0 ≤ lastIndex → reached ≤ lastIndex + entryRoom + 1
-  unfolding endOf
-  last-fits low = omega (arith, accepted-le (numbersIn x), room)
+-- the sum as it is judged: compacted, the retained entries, and the stop-sign and the batch after them
+pub past-sum : (x : IndexRecord) (one : ℕ) → one ≡ oneIf (x .«stop_held») → (t : Bool) → t ≡ ltb lastIndex (x .compacted .0 + x .retained + (one + x .batched))
+    → t ≡ ltb lastIndex (acceptedOf (numbersIn x) + x .batched)
+unfolding acceptedOf endOf
+past-sum x one e t q =
+    let same : x .compacted .0 + x .retained + (one + x .batched) ≡ x .compacted .0 + x .retained + oneIf (x .«stop_held») + x .batched = omega (arith, e) in
+    q ∙ ap (ltb lastIndex) same
 
 module _ (n : Numbers) (start : ℕ) (r : Raw) (h : Held r) where
   abbrev gs : List Guard

@@ -34,8 +34,8 @@ use Rattle.backend.specs.declared.OpKind.{OpKind}
 use Rattle.backend.specs.declared.OpKind.the-variants.{SetStopsign, SetSnapshot}
 use Rattle.backend.specs.declared.OpList.{OpList}
 use Rattle.backend.specs.declared.Lent.{Lent as CodeLent}
-use Rattle.backend.specs.Ops.{ofKind, opOf, noOp, opsIn, lentOf, incomingFormed, wholeLent, wholeList}
-use Rattle.backend.specs.Midst.{Lends, Listed}
+use Rattle.backend.specs.Ops.{ofKind, opOf, opsIn, lentOf, incomingFormed, wholeLent, wholeList}
+use Rattle.backend.specs.Inner.{Lends, Listed, noOp}
 
 module _ (b : CodeLent) (o : CodeOp) where
   by-kind : (k : OpKind) → o .kind ≡ k → supplied (lentOf b [] []) (ofKind k o) ≡ supplied (lentOf b [] []) (opOf o)

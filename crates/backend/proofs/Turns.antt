@@ -28,11 +28,11 @@ use Rattle.state_cache.specs.declared.Settled.the-variants.{Done, Refused}
 use Rattle.state_cache.proofs.Stands.{stands-of}
 use Rattle.state_cache.proofs.Runs.{call-refused, call-stands}
 use Rattle.backend.specs.declared.Op.{Op as CodeOp}
-use Rattle.backend.specs.declared.inner.Stepped.{Stepped}
-use Rattle.backend.specs.Ops.{opOf, noOp}
+use Rattle.backend.specs.declared.inner.step.Stepped.{Stepped}
+use Rattle.backend.specs.Ops.{opOf}
 use Rattle.backend.specs.declared.Lent.{Lent as CodeLent}
 use Rattle.backend.specs.declared.OpList.{OpList}
-use Rattle.backend.specs.Midst.{midstOf, Held, Goes, Listed, Wrote}
+use Rattle.backend.specs.Inner.{midstOf, Held, Goes, Listed, Wrote, noOp}
 use Rattle.backend.proofs.Requests.{ops-length, op-cons}
 use Rattle.backend.proofs.Lasts.{numbers-of, last-formed}
 

@@ -1,2 +1,2 @@
 pub mod Ops
-pub mod Midst
+pub mod Inner

@@ -33,10 +33,6 @@ ofKind SetSnapshot o = setSnapshot (o .given)
 abbrev pub opOf : CodeOp → Op
 opOf o = ofKind (o .kind) o
 
--- what stands past the end of a list
-abbrev pub noOp : CodeOp
-noOp = record { kind = AppendEntries; index = record { 0 = 0 }; ballot = noBallot; given = false }
-
 abbrev pub opsIn : OpList → List Op
 opsIn l = map opOf (take (l .count) (l .ops))
 
@@ -48,10 +44,6 @@ lentOf b entries incoming = record {
   sign = if b .«stop_lent» then some (b .stop) else none;
 }
 
--- nothing but entries
-abbrev pub onlyEntries : List ℕ → Lent
-onlyEntries entries = record { entries = entriesIn entries; snapshot = none; sign = none }
-
 -- "any snapshot slice not of 1,024 words"; its form is judged where a snapshot is lent
 unfoldable pub incomingFormed : CodeLent → List ℕ → Bool
 incomingFormed b ws = eqb (length ws) snapshotWords && (not (b .«snapshot_lent») || snapshotFormed (b .keys) ws)
@@ -62,26 +54,3 @@ wholeLent b entries incoming = wholeIn entries && incomingFormed b incoming
 
 abbrev pub wholeList : CodeLent → List ℕ → List ℕ → OpList → Bool
 wholeList b entries incoming l = wholeLent b entries incoming && leb (l .count) 8
-
--- what an operation that may say none sets: the stop-sign, the snapshot's key count and its words
-abbrev pub askedSign : Bool → StopSign → StopSign
-askedSign given g = if given then g else noSign
-
-abbrev pub askedKeys : Bool → ℕ → ℕ
-askedKeys given n = if given then n else 0
-
-abbrev pub askedWords : Bool → List ℕ → List ℕ
-askedWords given ws = if given then ws else replicate snapshotWords 0
-
--- a lent slice of operations as a list by value: each is put in turn, and the ninth is counted and not kept
-abbrev pub noOps : OpList
-noOps = record { count = 0; ops = replicate 8 noOp }
-
-unfoldable pub putOf : OpList → CodeOp → OpList
-putOf l o =
-    if ltb (l .count) 8 then record { count = l .count + 1; ops = set (l .ops) (l .count) o }
-    else record { count = 9; ops = l .ops }
-
-unfoldable pub putAll : OpList → List CodeOp → OpList
-putAll l [] = l
-putAll l (o ∷ os) = putAll (putOf l o) os

@@ -71,13 +71,13 @@ pub fn write_list(
             index,
         };
     }
-    if !inner::request_formed(entries, incoming, lent, list) {
+    if !inner::request::request_formed(entries, incoming, lent, list) {
         return SettledAt {
             answer: Settled::Refused(Refusal::Malformed),
             index,
         };
     }
-    inner::write_at(index, log, snapshot, entries, incoming, lent, list)
+    inner::list::write_at(index, log, snapshot, entries, incoming, lent, list)
 }
 
 // The same with the operations as a lent slice: they are gathered into a list.
@@ -92,6 +92,6 @@ pub fn write_atomically(
 ) -> SettledAt
     ensures { λ r. ⌜ outcome (settled (r .answer)) (raw (r .index) (now (log .exit)) (now (snapshot .exit))) ≡ run (write (lentOf lent (now (entries .entry)) (now (incoming .entry))) (map opOf (now (ops .entry)))) (wholeLent lent (now (entries .entry)) (now (incoming .entry))) (raw index (now (log .entry)) (now (snapshot .entry))) ⌝ }
 {
-    let list = inner::gather(ops);
+    let list = inner::gather::gather(ops);
     write_list(index, log, snapshot, entries, incoming, lent, list)
 }

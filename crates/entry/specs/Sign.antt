@@ -5,6 +5,7 @@ use mathlib.Core.Bool.{Bool, false, _&&_, _||_, not}
 use mathlib.Core.List.{List}
 use lib.Dec.{leb, eqb}
 use lib.ListN.{length, drop, replicate}
+use Rattle.words.specs.If.{if_then_else_}
 use Rattle.words.specs.Words.{allZero}
 use Rattle.entry.specs.Limits.{mostNodes, mostMetadata}
 use Rattle.entry.specs.declared.StopSign.{StopSign}
@@ -28,6 +29,10 @@ noSign = record {
   «metadata_len» = 0;
   metadata = replicate mostMetadata 0;
 }
+
+-- the stop-sign that is kept, by whether one is held
+abbrev pub signIf : Bool → StopSign → StopSign
+signIf held g = if held then g else noSign
 
 -- n zeros
 unfoldable pub blank : ℕ → List ℕ → Bool

@@ -10,7 +10,7 @@ ghost use Rattle.words.specs.Words.{allZero};
 ghost use Rattle.entry.specs.Change.{saidIs, wordFormed, formed, entriesOf, storedIn};
 ghost use Rattle.entry.specs.Inner.{changeAt, LentAs};
 ghost use Rattle.entry.specs.Limits.{width, places};
-ghost use Rattle.entry.specs.Sign.{signBlank};
+ghost use Rattle.entry.specs.Sign.{noSign, signIf, signBlank};
 
 // What the entry at i says of its key.
 pub fn said_at(s: &[u64], i: usize) -> Said
@@ -128,4 +128,28 @@ pub fn sign_blank(s: StopSign) -> bool
     (s.config_id == 0)
         & ((s.node_count == 0)
             & ((s.metadata_len == 0) & (!s.metadata_held & (no_nodes & no_bytes))))
+}
+
+// A stop-sign that stands for none.
+pub fn no_sign() -> StopSign
+    ensures { λ r. ⌜ r ≡ noSign ⌝ }
+{
+    StopSign {
+        config_id: 0,
+        node_count: 0,
+        nodes: [0; 7],
+        metadata_held: false,
+        metadata_len: 0,
+        metadata: [0; 32],
+    }
+}
+
+// The stop-sign that is kept, by whether one is held.
+pub fn sign_if(held: bool, sign: StopSign) -> StopSign
+    ensures { λ r. ⌜ r ≡ signIf held sign ⌝ }
+{
+    if held {
+        return sign;
+    }
+    no_sign()
 }

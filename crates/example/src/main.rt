@@ -68,15 +68,9 @@ fn main() {
     let started = state_cache::fresh(0, &mut log, &mut held);
     let start = started.index;
     let said = Said::Place(BlockPlace(100));
-    let added = internal_storage::append::append_entry_with_batching(
-        start,
-        &mut log,
-        &held,
-        9,
-        said,
-    );
+    let added = internal_storage::append_entry_with_batching(start, &mut log, &held, 9, said);
     let appended = added.index;
-    let known = internal_storage::decide::set_decided_idx(appended, &log, &held, LogIndex(1));
+    let known = internal_storage::set_decided_idx(appended, &log, &held, LogIndex(1));
     let index = known.index;
     print_found(reading::lookup(appended, &log, &held, 9));
     print_found(reading::lookup(index, &log, &held, 9));

@@ -34,7 +34,7 @@ pub extern "C" fn kotuseraw_append_entry_with_batching(
         ≡ plainly maybeFlushed (run (append (record { key = key; said = lentSaid removed (place .0) } ∷ [])) true (raw index (now (log .entry)) (now (snapshot .entry)))) ⌝ }
 {
     let entry = asked::entry_said(removed, place);
-    answers::appended_reply(internal_storage::append::append_entry_with_batching(
+    answers::appended_reply(internal_storage::append_entry_with_batching(
         index,
         log,
         snapshot,
@@ -53,7 +53,7 @@ pub extern "C" fn kotuseraw_append_entries_with_batching(
     ensures { λ r. ⌜ left (r .said) (raw (r .index) (now (log .exit)) (now (snapshot .entry)))
         ≡ plainly maybeFlushed (run (append (entriesIn (now (entries .entry)))) (wholeIn (now (entries .entry))) (raw index (now (log .entry)) (now (snapshot .entry)))) ⌝ }
 {
-    answers::appended_reply(internal_storage::append::append_entries_with_batching(
+    answers::appended_reply(internal_storage::append_entries_with_batching(
         index,
         log,
         snapshot,
@@ -71,7 +71,7 @@ pub extern "C" fn kotuseraw_append_entries_and_get_accepted_idx(
     ensures { λ r. ⌜ left (r .said) (raw (r .index) (now (log .exit)) (now (snapshot .entry)))
         ≡ plainly maybeNumber (withIndexOnly (run (append (entriesIn (now (entries .entry)))) (wholeIn (now (entries .entry))) (raw index (now (log .entry)) (now (snapshot .entry))))) ⌝ }
 {
-    answers::accepted_idx_reply(internal_storage::append::append_entries_and_get_accepted_idx(
+    answers::accepted_idx_reply(internal_storage::append_entries_and_get_accepted_idx(
         index,
         log,
         snapshot,
@@ -89,7 +89,7 @@ pub extern "C" fn kotuseraw_append_entries_without_batching(
     ensures { λ r. ⌜ left (r .said) (raw (r .index) (now (log .exit)) (now (snapshot .entry)))
         ≡ plainly aNumber (run (appendNow (entriesIn (now (entries .entry)))) (wholeIn (now (entries .entry))) (raw index (now (log .entry)) (now (snapshot .entry)))) ⌝ }
 {
-    answers::accepted_reply(internal_storage::append::append_entries_without_batching(
+    answers::accepted_reply(internal_storage::append_entries_without_batching(
         index,
         log,
         snapshot,
@@ -102,7 +102,7 @@ pub extern "C" fn kotuseraw_flush_batch(index: IndexRecord, log: &[u64], snapsho
     ensures { λ r. ⌜ left (r .said) (raw (r .index) (now (log .entry)) (now (snapshot .entry)))
         ≡ plainly aNumber (run flush true (raw index (now (log .entry)) (now (snapshot .entry)))) ⌝ }
 {
-    answers::accepted_reply(internal_storage::flush::flush_batch(index, log, snapshot))
+    answers::accepted_reply(internal_storage::flush_batch(index, log, snapshot))
 }
 
 #[no_mangle]
@@ -114,11 +114,7 @@ pub extern "C" fn kotuseraw_flush_batch_and_get_entries(
     ensures { λ r. ⌜ left (r .said) (raw (r .index) (now (log .entry)) (now (snapshot .entry)))
         ≡ plainly maybeFlushed (run flushEntries true (raw index (now (log .entry)) (now (snapshot .entry)))) ⌝ }
 {
-    answers::appended_reply(internal_storage::flush::flush_batch_and_get_entries(
-        index,
-        log,
-        snapshot,
-    ))
+    answers::appended_reply(internal_storage::flush_batch_and_get_entries(index, log, snapshot))
 }
 
 #[no_mangle]
@@ -131,7 +127,7 @@ pub extern "C" fn kotuseraw_append_stopsign(
     ensures { λ r. ⌜ left (r .said) (raw (r .index) (now (log .entry)) (now (snapshot .entry)))
         ≡ plainly maybeFlushed (run (appendStop ss) true (raw index (now (log .entry)) (now (snapshot .entry)))) ⌝ }
 {
-    answers::appended_reply(internal_storage::stop::append_stopsign(index, log, snapshot, ss))
+    answers::appended_reply(internal_storage::append_stopsign(index, log, snapshot, ss))
 }
 
 // Where `held` is not set the stop-sign is taken away, and `ss` is not looked at.
@@ -146,7 +142,7 @@ pub extern "C" fn kotuseraw_set_stopsign(
     ensures { λ r. ⌜ left (r .said) (raw (r .index) (now (log .entry)) (now (snapshot .entry)))
         ≡ plainly aNumber (run (setStop (askedSign held ss)) true (raw index (now (log .entry)) (now (snapshot .entry)))) ⌝ }
 {
-    answers::accepted_reply(internal_storage::stop::set_stopsign(index, log, snapshot, held, ss))
+    answers::accepted_reply(internal_storage::set_stopsign(index, log, snapshot, held, ss))
 }
 
 #[no_mangle]
@@ -159,7 +155,7 @@ pub extern "C" fn kotuseraw_set_promise(
     ensures { λ r. ⌜ left (r .said) (raw (r .index) (now (log .entry)) (now (snapshot .entry)))
         ≡ plainly nothing (run (setPromise «n_prom») true (raw index (now (log .entry)) (now (snapshot .entry)))) ⌝ }
 {
-    answers::settled_reply(internal_storage::decide::set_promise(index, log, snapshot, n_prom))
+    answers::settled_reply(internal_storage::set_promise(index, log, snapshot, n_prom))
 }
 
 #[no_mangle]
@@ -172,7 +168,7 @@ pub extern "C" fn kotuseraw_set_decided_idx(
     ensures { λ r. ⌜ left (r .said) (raw (r .index) (now (log .entry)) (now (snapshot .entry)))
         ≡ plainly nothing (run (decide (idx .0)) true (raw index (now (log .entry)) (now (snapshot .entry)))) ⌝ }
 {
-    answers::settled_reply(internal_storage::decide::set_decided_idx(index, log, snapshot, idx))
+    answers::settled_reply(internal_storage::set_decided_idx(index, log, snapshot, idx))
 }
 
 #[no_mangle]

@@ -17,7 +17,7 @@ pub fn set_decided_idx(
 ) -> Settled
     ensures { λ r. ⌜ outcome (settled r) (raw (now (held .exit)) (now (log .entry)) (now (snapshot .entry))) ≡ run (decide (idx .0)) true (raw (now (held .entry)) (now (log .entry)) (now (snapshot .entry))) ⌝ }
 {
-    let decided = internal_storage::decide::set_decided_idx(*held, log, snapshot, idx);
+    let decided = internal_storage::set_decided_idx(*held, log, snapshot, idx);
     *held = decided.index;
     decided.answer
 }

@@ -1,7 +1,7 @@
 -- What each call of the model does to a lent state that stands for its log: the record and the words after it.
 use Prim.Native.Nat.{ℕ, _+_, _*_, _≤_}
 use mathlib.Core.Path.{_≡_, refl, sym, ap, ap₂, _∙_}
-use mathlib.Core.Bool.{Bool, true, false}
+use mathlib.Core.Bool.{Bool, true, false, _&&_, not}
 use mathlib.Core.List.{List, [], _++_, append-assoc, append-nil}
 use mathlib.Core.Option.{Option, none, some}
 use native.Mathlib.Omega.{arith}
@@ -15,30 +15,26 @@ use Rattle.words.specs.Coded.{wordsOf}
 use Rattle.words.proofs.CodedLaws.{spliced-append, spliced-before, words-entries, entries-length}
 use Rattle.entry.specs.Limits.{width, entryRoom, logWords}
 use Rattle.entry.specs.Change.{Change, changeCode, formed as entriesFormed, entriesOf, stored}
-use Rattle.entry.specs.Sign.{noSign, signFormed}
+use Rattle.entry.specs.Sign.{signIf, signFormed}
 use Rattle.entry.specs.Guards.{Guard, Verdict, passes, refuses, first, Answer, refused, replied}
 use Rattle.entry.specs.declared.Ballot.{Ballot}
 use Rattle.entry.specs.declared.StopSign.{StopSign}
 use Rattle.entry.proofs.ChangeLaws.{changeOk}
 use Rattle.entry.proofs.GuardLaws.{passed}
 use Rattle.model.specs.Numbers.{Numbers, acceptedOf}
-use Rattle.model.specs.Log.{Log, numbersOf, waiting, withTail}
+use Rattle.model.specs.Log.{Log, ifGiven, numbersOf, waiting, withTail}
 use Rattle.model.specs.Append.{Flushed, appendGuards, appendStopGuards, setStopGuards, joined, batchWith, fills, appended, appendedNow, flushed, stopAppended, stopSet, appendReply, flushReply}
 use Rattle.model.specs.Calls.{Call, Reply, append, appendNow, flush, flushEntries, appendStop, setStop, setPromise, decide, malformed, further, effect, replyOf}
 use Rattle.model.proofs.Forms.{Sound}
-use Rattle.state_cache.specs.State.{Raw, raw, numbersIn, formed, logOf, signOr, Small}
+use Rattle.state_cache.specs.State.{Raw, raw, numbersIn, formed, logOf, Small}
 use Rattle.state_cache.proofs.Small.{sound-small}
 use Rattle.state_cache.specs.Run.{Outcome, outcome, run}
 use Rattle.state_cache.specs.declared.IndexRecord.{IndexRecord}
 use Rattle.state_cache.specs.Fields.{withEntries, withStop, withDecided, withPromise}
-use Rattle.state_cache.proofs.Stands.{Stands, stands-of, numbers-are, log-formed, given-by}
-use Rattle.state_cache.proofs.Runs.{call-refused, call-stands}
+use Rattle.state_cache.proofs.Stands.{Stands, stands-of, numbers-are, log-formed, given-by, sign-by}
+use Rattle.state_cache.proofs.Runs.{bad-call, call-refused, call-stands}
 use Rattle.state_cache.proofs.Changes.{held-length, log-spliced}
 use Rattle.internal_storage.specs.Replies.{appended as appendedIs, Indexed, indexed, byNumbers, flushedAt, heldAt, batchedWith, allFlushed, flushSays, asked, indexOnly, withIndexOnly}
-
-sign-by : (b : Bool) (g : StopSign) → (b ≡ false → g ≡ noSign) → signOr (if b then some g else none) ≡ g
-sign-by true g e = refl
-sign-by false g e = sym (e refl)
 
 module _ (r : Raw) (ok : formed r ≡ true) where
   abbrev s : Log
@@ -125,12 +121,11 @@ module _ (r : Raw) (ok : formed r ≡ true) where
         snapshot = f .snapshot;
       }
 
-  pub stop-set-stands : (held : Bool) (g : StopSign) → (held ≡ false → g ≡ noSign)
-      → Stands (stopSet (if held then some g else none) s) (raw (withStop held g (r .index)) (r .log) (r .snapshot))
+  pub stop-set-stands : (held : Bool) (g : StopSign) → Stands (stopSet (asked held g) s) (raw (withStop held (signIf held g) (r .index)) (r .log) (r .snapshot))
   unfolding stopSet
-  stop-set-stands held g e = record {
+  stop-set-stands held g = record {
     run = st .run;
-    tail = record { count = st .tail .count; sized = st .tail .sized; stopped = given-by held g; sign = sign-by held g e };
+    tail = record { count = st .tail .count; sized = st .tail .sized; stopped = given-by held g; sign = sign-by held g };
     marks = st .marks;
     log = st .log;
     snapshot = st .snapshot;
@@ -164,15 +159,27 @@ module _ (r : Raw) (ok : formed r ≡ true) where
   append-stop-run g fine a x e =
       numbers-run (appendStop g) appendStopGuards refl (rw fine) (flushSays (r .index)) (withStop true g (allFlushed (r .index))) (λ q. (flush-says, stop-stands g)) a x e
 
-  pub set-stop-run : (held : Bool) (g : StopSign) → (held ≡ false → g ≡ noSign) → malformed (setStop (asked held g)) ≡ false → (a : Answer ℕ) (x : IndexRecord)
-      → indexed a x ≡ byNumbers (first (setStopGuards held (numbersIn (r .index)))) (acceptedOf (numbersIn (withStop held g (r .index)))) (withStop held g (r .index)) (r .index)
-      → outcome a (raw x (r .log) (r .snapshot)) ≡ run (setStop (asked held g)) true r
-  unfolding further effect replyOf
-  set-stop-run held g blank m a x e =
-      let set = stop-set-stands held g blank in
-      numbers-run (setStop (asked held g)) (setStopGuards held) (ap (λ (t : Bool). setStopGuards t (numbersOf s)) (given-by held g)) m
-      (acceptedOf (numbersIn (withStop held g (r .index)))) (withStop held g (r .index))
-      (λ q. (ap acceptedOf (sym (numbers-are (stopSet (asked held g) s) (raw (withStop held g (r .index)) (r .log) (r .snapshot)) set)), set)) a x e
+  module _ (held : Bool) (g : StopSign) where
+    set-malformed : malformed (setStop (asked held g)) ≡ (held && not (signFormed g))
+    unfolding malformed
+    set-malformed = go held
+      where
+        go : (t : Bool) → not (ifGiven signFormed (asked t g)) ≡ (t && not (signFormed g))
+        go true = refl
+        go false = refl
+
+    pub set-stop-bad : (held && not (signFormed g)) ≡ true → outcome (refused 11 0) r ≡ run (setStop (asked held g)) true r
+    set-stop-bad e = bad-call (setStop (asked held g)) r ok (set-malformed ∙ e)
+
+    pub set-stop-run : (held && not (signFormed g)) ≡ false → (k : StopSign) → k ≡ signIf held g → (a : Answer ℕ) (x : IndexRecord)
+        → indexed a x ≡ byNumbers (first (setStopGuards held (numbersIn (r .index)))) (acceptedOf (numbersIn (withStop held k (r .index)))) (withStop held k (r .index)) (r .index)
+        → outcome a (raw x (r .log) (r .snapshot)) ≡ run (setStop (asked held g)) true r
+    unfolding further effect replyOf
+    set-stop-run m k is a x e =
+        let set : Stands (stopSet (asked held g) s) (raw (withStop held k (r .index)) (r .log) (r .snapshot)) = rw is (stop-set-stands held g) in
+        numbers-run (setStop (asked held g)) (setStopGuards held) (ap (λ (t : Bool). setStopGuards t (numbersOf s)) (given-by held g)) (set-malformed ∙ m)
+        (acceptedOf (numbersIn (withStop held k (r .index)))) (withStop held k (r .index))
+        (λ q. (ap acceptedOf (sym (numbers-are (stopSet (asked held g) s) (raw (withStop held k (r .index)) (r .log) (r .snapshot)) set)), set)) a x e
 
   -- ---- entries put into the log's words
 

@@ -4,11 +4,22 @@ use entry::LogIndex;
 use entry::Refusal;
 use state_cache::IndexRecord;
 
-pub mod append;
-pub mod decide;
-pub mod flush;
+mod append;
+mod decide;
+mod flush;
 pub mod inner;
-pub mod stop;
+mod stop;
+
+pub use append::append_entries_and_get_accepted_idx;
+pub use append::append_entries_with_batching;
+pub use append::append_entries_without_batching;
+pub use append::append_entry_with_batching;
+pub use decide::set_decided_idx;
+pub use decide::set_promise;
+pub use flush::flush_batch;
+pub use flush::flush_batch_and_get_entries;
+pub use stop::append_stopsign;
+pub use stop::set_stopsign;
 
 // What an append with batching says: the entries wait in the batch, or the whole batch is flushed. The flushed entries are the last
 // so many of those retained.

@@ -100,7 +100,7 @@ fn batch(index: IndexRecord, log: &mut [u64], snapshot: &mut [u64], n: u64) -> A
 fn append(index: IndexRecord, log: &mut [u64], snapshot: &[u64], k: u64, said: Said) -> Answered
     ensures { λ r. ⌜ telling (r .reply) (raw (r .index) (now (log .exit)) (now (snapshot .entry))) ≡ printed appendedText (run (append (one k (saidIs said))) true (raw index (now (log .entry)) (now (snapshot .entry)))) ⌝ }
 {
-    let to = internal_storage::append::append_entry_with_batching(index, log, snapshot, k, said);
+    let to = internal_storage::append_entry_with_batching(index, log, snapshot, k, said);
     let answer = to.answer;
     let next = to.index;
     let line = appended_line(answer);
@@ -131,7 +131,7 @@ fn read(index: IndexRecord, log: &[u64], snapshot: &[u64], from: u64, to: u64) -
 fn flush(index: IndexRecord, log: &[u64], snapshot: &[u64]) -> Answered
     ensures { λ r. ⌜ telling (r .reply) (raw (r .index) (now (log .entry)) (now (snapshot .entry))) ≡ answering Flush (raw index (now (log .entry)) (now (snapshot .entry))) ⌝ }
 {
-    let to = internal_storage::flush::flush_batch(index, log, snapshot);
+    let to = internal_storage::flush_batch(index, log, snapshot);
     let answer = to.answer;
     let next = to.index;
     let line = accepted_line(answer);
@@ -144,7 +144,7 @@ fn flush(index: IndexRecord, log: &[u64], snapshot: &[u64]) -> Answered
 fn decide(index: IndexRecord, log: &[u64], snapshot: &[u64], i: u64) -> Answered
     ensures { λ r. ⌜ telling (r .reply) (raw (r .index) (now (log .entry)) (now (snapshot .entry))) ≡ answering (Decide i) (raw index (now (log .entry)) (now (snapshot .entry))) ⌝ }
 {
-    let to = internal_storage::decide::set_decided_idx(index, log, snapshot, LogIndex(i));
+    let to = internal_storage::set_decided_idx(index, log, snapshot, LogIndex(i));
     let answer = to.answer;
     let next = to.index;
     let line = settled_line(answer);
@@ -198,7 +198,7 @@ fn stop_line(answer: Appended, last: Accepted) -> Line
 fn stop(index: IndexRecord, log: &[u64], snapshot: &[u64], c: u32) -> Answered
     ensures { λ r. ⌜ telling (r .reply) (raw (r .index) (now (log .entry)) (now (snapshot .entry))) ≡ answering (Stop c) (raw index (now (log .entry)) (now (snapshot .entry))) ⌝ }
 {
-    let to = internal_storage::stop::append_stopsign(index, log, snapshot, stop_sign(c));
+    let to = internal_storage::append_stopsign(index, log, snapshot, stop_sign(c));
     let answer = to.answer;
     let next = to.index;
     let last = state_cache::get_accepted_idx(next, log, snapshot);

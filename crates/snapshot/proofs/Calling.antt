@@ -30,7 +30,7 @@ use Rattle.snapshot.specs.declared.Folded.the-variants.{Keys, Refused}
 use Rattle.snapshot.specs.declared.inner.Spot.the-variants.{At, Before}
 use Rattle.snapshot.proofs.Searching.{spot-at, spot-before, spot-inside}
 use Rattle.snapshot.proofs.Finds.{find-absent, find-found}
-use Rattle.snapshot.proofs.Putting.{folded-keys, folded-refused}
+use Rattle.snapshot.proofs.Putting.{folded-keys, folded-refused, folded-over}
 
 -- refusal 8, or the snapshot written out
 module _ (es : List Change) (out : List ℕ) where
@@ -42,8 +42,10 @@ module _ (es : List Change) (out : List ℕ) where
   over-written h = rw (first-goes-on 8 0 (ltb keyRoom (length es)) [] (le-ltb keyRoom (length es) h))
 
   module _ (r : Folded) (t : List ℕ) (p : FoldIs snapshotWords es r t) where
-    pub aside-refused : (x : Refusal) → r ≡ Refused x → outcome (folded (Refused TooManyKeys)) out ≡ written (first (foldGuards es)) es out
-    aside-refused x e = over-refused (omega (arith, folded-refused snapshotWords es x (sym (p .reply) ∙ e)))
+    pub aside-refused : (x : Refusal) → r ≡ Refused x → outcome (folded r) out ≡ written (first (foldGuards es)) es out
+    aside-refused x e =
+        ap (λ (y : Folded). outcome (folded y) out) (folded-over snapshotWords es r x (p .reply) e)
+        ∙ over-refused (omega (arith, folded-refused snapshotWords es x (sym (p .reply) ∙ e)))
 
     pub aside-written : (k : ℕ) → r ≡ Keys k → outcome (folded (Keys k)) t ≡ written (first (foldGuards es)) es out
     aside-written k e =
@@ -83,7 +85,7 @@ module _ (kept : ℕ) (base : List ℕ) (n : ℕ) (entries out : List ℕ) (a : 
     scratch-is : FoldIs snapshotWords (foldOnto (entriesOf kept base) (entriesOf n entries)) r t
     scratch-is = rw (a .base-holds .laid .long) at p
 
-    pub out-refused : (x : Refusal) → r ≡ Refused x → outcome (folded (Refused TooManyKeys)) out ≡ foldedOut kept base n entries out
+    pub out-refused : (x : Refusal) → r ≡ Refused x → outcome (folded r) out ≡ foldedOut kept base n entries out
     out-refused x e = aside-refused (foldOnto (entriesOf kept base) (entriesOf n entries)) out r t scratch-is x e
 
     pub out-written : (k : ℕ) → r ≡ Keys k → outcome (folded (Keys k)) t ≡ foldedOut kept base n entries out

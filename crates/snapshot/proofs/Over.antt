@@ -17,7 +17,7 @@ use Rattle.snapshot.specs.declared.Folded.the-variants.{Keys, Refused}
 use Rattle.snapshot.proofs.Folds.{rising-onto}
 use Rattle.snapshot.proofs.Forming.{formed-onto}
 use Rattle.snapshot.proofs.Room.{onto-grows}
-use Rattle.snapshot.proofs.Putting.{folded-keys, folded-refused, folded-full}
+use Rattle.snapshot.proofs.Putting.{folded-keys, folded-refused, folded-over}
 use Rattle.snapshot.proofs.Calling.{over-refused, snapshot-holds, snapshot-stored}
 
 module _ (kept : ℕ) (base : List ℕ) (n : ℕ) (entries : List ℕ) (m : ℕ) (more : List ℕ)
@@ -35,7 +35,7 @@ module _ (kept : ℕ) (base : List ℕ) (n : ℕ) (entries : List ℕ) (m : ℕ)
     pub twice-refused : (x : Refusal) → r ≡ Refused x → outcome (folded r) base ≡ foldWritten all base
     twice-refused x e =
         let o = folded-refused snapshotWords first x (sym (is .reply) ∙ e) in
-        ap (λ (y : Folded). outcome (folded y) base) (is .reply ∙ folded-full snapshotWords first o)
+        ap (λ (y : Folded). outcome (folded y) base) (folded-over snapshotWords first r x (is .reply) e)
         ∙ over-refused all base (omega (arith, onto-grows first (entriesOf m more)))
 
     module _ (k : ℕ) (e : r ≡ Keys k) where

@@ -51,6 +51,9 @@ folded-refused words es x e = go (decLe (length es * width) words)
     go (yes h) = let b = folded-fits words es h in let z : _≡_ {A = ℕ} 0 1 = cc in absurd (omega arith)
     go (no h) = omega arith
 
+pub folded-over : (words : ℕ) (es : List Change) (r : Folded) (x : Refusal) → r ≡ foldedIn words es → r ≡ Refused x → r ≡ Refused TooManyKeys
+folded-over words es r x p e = p ∙ folded-full words es (folded-refused words es x (sym p ∙ e))
+
 -- the entry that the words `item` are, put among the n entries of s
 module _ (s : List ℕ) (n : ℕ) (item : List ℕ) (h : Holds (length s) n s) (whole : length item ≡ width) where
   abbrev c : Change
@@ -200,9 +203,12 @@ module _ (words : ℕ) (base : List Change) (n : ℕ) (ws : List ℕ) (shown : S
       pub fold-turn : (k : ℕ) → r ≡ Keys k → Sofar words (foldOnto base (take (i + 1) (entriesOf n ws))) t k
       fold-turn k e = rw (onto-next base n i ws h) (sofar-put words (foldOnto base (take i (entriesOf n ws))) s kept f (changeAt ws i) r t put-next next-formed k e)
 
-      pub fold-refused : (x : Refusal) → r ≡ Refused x → FoldIs words (foldOnto base (entriesOf n ws)) (Refused TooManyKeys) t
+      pub fold-refused : (x : Refusal) → r ≡ Refused x → FoldIs words (foldOnto base (entriesOf n ws)) r t
       fold-refused x e =
           let a = sofar-full words (foldOnto base (take i (entriesOf n ws))) s kept f (changeAt ws i) r t put-next x e in
           let b = ap length (onto-next base n i ws h) in
           let o : words < length (foldOnto base (entriesOf n ws)) * width = omega (arith, onto-part base (entriesOf n ws) (i + 1)) in
-          record { reply = sym (folded-full words (foldOnto base (entriesOf n ws)) o); words-are = λ w. absurd (omega arith) }
+          record {
+            reply = folded-over _ _ r x (put-next .reply) e ∙ sym (folded-full words (foldOnto base (entriesOf n ws)) o);
+            words-are = λ w. absurd (omega arith);
+          }

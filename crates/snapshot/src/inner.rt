@@ -137,7 +137,7 @@ pub fn fold_onto(s: &mut [u64], kept: usize, entries: &[u64], n: usize) -> Folde
         let at = i * entry::WIDTH;
         let r = put(s, keys, &entries[at..at + entry::WIDTH]);
         let Folded::Keys(k) = r else {
-            return Folded::Refused(Refusal::TooManyKeys);
+            return r;
         };
         keys = k;
         i += 1;
@@ -159,7 +159,7 @@ pub fn fold_out(
 {
     let r = fold_onto(scratch, kept, entries, n);
     let Folded::Keys(keys) = r else {
-        return Folded::Refused(Refusal::TooManyKeys);
+        return r;
     };
     words::copy_words(scratch, out);
     Folded::Keys(keys)

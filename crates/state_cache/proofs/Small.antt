@@ -1,11 +1,11 @@
 -- The bounds within which the sums of the numbers fit: well-formed numbers keep them.
-use Prim.Native.Nat.{_+_, _≤_}
+use Prim.Native.Nat.{ℕ, _+_, _-_, _≤_, _<_}
 use mathlib.Core.Path.{_≡_, refl, sym, _∙_}
 use mathlib.Core.Bool.{Bool, true, false, true≢false}
 use native.Mathlib.Omega.{arith}
-use borrow.Author.Tests.{leb-true, le-leb}
-use lib.Dec.{leb}
-use Rattle.words.proofs.Tests.{and-left, and-right, both-true}
+use borrow.Author.Tests.{leb-true, le-leb, lt-ltb, le-ltb}
+use lib.Dec.{ltb, leb}
+use Rattle.words.proofs.Tests.{Reach, reached, short, reach, and-left, and-right, both-true}
 use Rattle.entry.specs.Limits.{entryRoom, lastIndex}
 use Rattle.model.specs.Numbers.{Numbers, endOf, acceptedOf, numbersFormed}
 use Rattle.model.proofs.Forms.{Sound, sound-of}
@@ -46,3 +46,15 @@ sizes-fail n e = go (numbersFormed n) refl
         let s = sound-small n (sound-of n q) in
         absurd (true≢false (sym (both-true (leb (n .retained) entryRoom) _ (le-leb (n .retained) entryRoom (s .few)) (both-true (leb (n .batched) entryRoom) _ (le-leb (n .batched) entryRoom (s .waiting)) (le-leb (n .compacted) lastIndex (s .low)))) ∙ e))
     go false q = refl
+
+-- a sum against the largest index, by what is left below it
+module _ (a n more : ℕ) (fits : more ≤ lastIndex) where
+  pub past-high : lastIndex - more < a → true ≡ ltb lastIndex (a + n + more)
+  past-high h = sym (lt-ltb lastIndex (a + n + more) (omega arith))
+
+  pub past-long : a ≤ lastIndex - more → ltb (lastIndex - more - a) n ≡ ltb lastIndex (a + n + more)
+  past-long h = go (reach n (lastIndex - more - a))
+    where
+      go : Reach n (lastIndex - more - a) → ltb (lastIndex - more - a) n ≡ ltb lastIndex (a + n + more)
+      go (reached x) = le-ltb (lastIndex - more - a) n x ∙ sym (le-ltb lastIndex (a + n + more) (omega arith))
+      go (short x) = lt-ltb (lastIndex - more - a) n x ∙ sym (lt-ltb lastIndex (a + n + more) (omega arith))

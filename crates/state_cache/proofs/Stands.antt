@@ -17,7 +17,7 @@ use Rattle.words.proofs.Alls.{all-join, all-left, all-right, zeros-are}
 use Rattle.words.proofs.CodedLaws.{entries-length, entries-add, entries-first, entries-second}
 use Rattle.entry.specs.Limits.{width, keyRoom, logWords, snapshotWords, mostNodes, mostMetadata}
 use Rattle.entry.specs.Change.{Change, changeCode, changeFormed, formed as entriesFormed, entriesOf, stored, storedIn}
-use Rattle.entry.specs.Sign.{signFormed, signBlank, blank, noSign}
+use Rattle.entry.specs.Sign.{signFormed, signIf, signBlank, blank, noSign}
 use Rattle.entry.specs.declared.Ballot.{Ballot}
 use Rattle.entry.specs.declared.StopSign.{StopSign}
 use Rattle.entry.proofs.ChangeLaws.{changeOk}
@@ -142,6 +142,10 @@ sign-blank g e =
 pub given-by : {A : Type 0} (b : Bool) (x : A) → given (if b then some x else none) ≡ b
 given-by true x = refl
 given-by false x = refl
+
+pub sign-by : (held : Bool) (g : StopSign) → signOr (if held then some g else none) ≡ signIf held g
+sign-by true g = refl
+sign-by false g = refl
 
 stop-by : (b : Bool) (g : StopSign) → ((b && signFormed g) || (not b && signBlank g)) ≡ true → signOr (if b then some g else none) ≡ g
 stop-by true g e = refl

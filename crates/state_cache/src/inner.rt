@@ -5,10 +5,11 @@ use super::AcceptedAt;
 use super::IndexRecord;
 use entry::Ballot;
 use entry::LogIndex;
-use entry::StopSign;
 ghost use mathlib.Core.Path.{_≡_};
 ghost use mathlib.Core.Bool.{true};
-ghost use Prim.Native.Nat.{min};
+ghost use Prim.Native.Nat.{_+_, _-_, _≤_, min, max};
+ghost use lib.Dec.{ltb};
+ghost use Rattle.entry.specs.Limits.{lastIndex};
 ghost use Rattle.model.specs.Log.{freshLog};
 ghost use Rattle.model.specs.Calls.{reload};
 ghost use Rattle.model.specs.Numbers.{endOf, acceptedOf, stopDecided, logDecided, numbersFormed};
@@ -25,6 +26,30 @@ pub fn least(a: u64, b: u64) -> u64
     ensures { λ r. ⌜ r ≡ min a b ⌝ }
 {
     if a <= b { a } else { b }
+}
+
+pub fn larger(a: u64, b: u64) -> u64
+    ensures { λ r. ⌜ r ≡ max a b ⌝ }
+{
+    if a < b { b } else { a }
+}
+
+// How far a is above b: 0 where it is not.
+pub fn above(a: u64, b: u64) -> u64
+    ensures { λ r. ⌜ r ≡ a - b ⌝ }
+{
+    if b <= a { a - b } else { 0 }
+}
+
+// Whether a sum passes the largest index. No sum is made that might not fit.
+pub fn past_last(a: u64, n: usize, more: u64) -> bool
+    requires { ⌜ more ≤ lastIndex ⌝ }
+    ensures { λ r. ⌜ r ≡ ltb lastIndex (a + n + more) ⌝ }
+{
+    if entry::LAST_INDEX - more < a {
+        return true;
+    }
+    entry::LAST_INDEX - more - a < n as u64
 }
 
 // The index after the last retained entry.
@@ -122,14 +147,7 @@ pub fn fresh_index(batch_size: u64) -> IndexRecord
         priority: 0,
         pid: 0,
     };
-    let stop = StopSign {
-        config_id: 0,
-        node_count: 0,
-        nodes: [0; 7],
-        metadata_held: false,
-        metadata_len: 0,
-        metadata: [0; 32],
-    };
+    let stop = entry::inner::no_sign();
     IndexRecord {
         batch_size,
         retained: 0,

@@ -6,7 +6,7 @@ use native.Mathlib.Omega.{arith}
 use borrow.Author.Tests.{lt-ltb, le-ltb, ltb-false}
 use lib.Dec.{ltb}
 use Rattle.words.specs.If.{if_then_else_}
-use Rattle.words.proofs.Tests.{Reach, reached, short, reach, or-right}
+use Rattle.words.proofs.Tests.{or-right}
 use Rattle.entry.specs.Limits.{entryRoom, lastIndex}
 use Rattle.entry.specs.Guards.{passes, refuses, first, refused, replied}
 use Rattle.entry.specs.declared.Ballot.{Ballot}
@@ -21,17 +21,6 @@ use Rattle.internal_storage.proofs.Numbered.{told-by}
 use Rattle.sync.specs.Inner.{marked}
 
 -- 9, by what is left of the indexes
-module _ (idx n more : ℕ) (fits : more ≤ lastIndex) where
-  pub past-high : lastIndex - more < idx → true ≡ ltb lastIndex (idx + n + more)
-  past-high h = sym (lt-ltb lastIndex (idx + n + more) (omega arith))
-
-  pub past-long : idx ≤ lastIndex - more → ltb (lastIndex - more - idx) n ≡ ltb lastIndex (idx + n + more)
-  past-long h = go (reach n (lastIndex - more - idx))
-    where
-      go : Reach n (lastIndex - more - idx) → ltb (lastIndex - more - idx) n ≡ ltb lastIndex (idx + n + more)
-      go (reached x) = le-ltb (lastIndex - more - idx) n x ∙ sym (le-ltb lastIndex (idx + n + more) (omega arith))
-      go (short x) = lt-ltb (lastIndex - more - idx) n x ∙ sym (lt-ltb lastIndex (idx + n + more) (omega arith))
-
 pub past-is : (idx n one waiting : ℕ) (stop t : Bool) → one ≡ oneIf stop → t ≡ ltb lastIndex (idx + n + (one + waiting)) → ltb lastIndex (idx + n + oneIf stop + waiting) ≡ t
 past-is idx n one waiting stop t e p =
     let q : idx + n + oneIf stop + waiting ≡ idx + n + (one + waiting) = omega (arith, e) in

@@ -33,7 +33,7 @@ use Rattle.model.specs.Calls.{Call, sync, malformed, further, syncGuards, synce
 use Rattle.state_cache.specs.State.{Raw, raw, numbersIn, formed, logOf, Small}
 use Rattle.state_cache.specs.Run.{outcome, run}
 use Rattle.state_cache.specs.declared.IndexRecord.{IndexRecord}
-use Rattle.state_cache.proofs.Stands.{Stands, stands-of, numbers-are, log-formed, given-by}
+use Rattle.state_cache.proofs.Stands.{Stands, stands-of, numbers-are, log-formed, given-by, sign-by}
 use Rattle.state_cache.proofs.Runs.{call-refused, call-stands}
 use Rattle.state_cache.proofs.Changes.{log-spliced}
 use Rattle.internal_storage.specs.Replies.{asked}
@@ -235,7 +235,7 @@ module _ (r : Raw) (x : LogSync) (incoming suffix : List ℕ) (w : Syncs r x inc
             shot = holds kind;
             shot-keys = ap length (shows kind) ∙ sym (wrote .1);
           };
-          tail = record { count = st .tail .count; sized = st .tail .sized; stopped = given-by (x .«stop_held») (x .stopsign); sign = refl };
+          tail = record { count = st .tail .count; sized = st .tail .sized; stopped = given-by (x .«stop_held») (x .stopsign); sign = sign-by (x .«stop_held») (x .stopsign) };
           marks = record { index = ap (max d) (st .marks .index); promised = st .marks .promised; rounded = refl };
           log =
               ap (λ (es : List Change). stored logWords (es ++ s .tail .batched)) (keeps kind)

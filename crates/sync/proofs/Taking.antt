@@ -1,7 +1,7 @@
 -- The suffix put into the log: the record and the words after it, as the code finds them.
 use Prim.Native.Nat.{ℕ, _+_, _-_, _*_, _≤_}
-use mathlib.Core.Path.{_≡_, refl, ap, _∙_}
-use mathlib.Core.Bool.{Bool, false, _||_, not}
+use mathlib.Core.Path.{_≡_, ap, _∙_}
+use mathlib.Core.Bool.{Bool, _||_, not}
 use mathlib.Core.List.{List}
 use native.Mathlib.Omega.{arith}
 use lib.ListN.{length, take}
@@ -10,18 +10,12 @@ use Rattle.words.specs.Words.{laid, spliced}
 use Rattle.entry.specs.Limits.{width, logWords}
 use Rattle.entry.specs.declared.LogIndex.{LogIndex}
 use Rattle.entry.specs.declared.StopSign.{StopSign}
-use Rattle.model.specs.Log.{freshLog}
-use Rattle.state_cache.specs.State.{signOr, indexOf}
+use Rattle.entry.specs.Sign.{signIf}
 use Rattle.state_cache.specs.declared.IndexRecord.{IndexRecord}
 use Rattle.state_cache.specs.Fields.{withRun, withStop}
-use Rattle.internal_storage.specs.Replies.{asked}
 use Rattle.sync.specs.Requests.{plainBy}
 use Rattle.sync.specs.Inner.{keptBy, syncedIndex, Fits, Taken}
 use Rattle.sync.specs.declared.LogSync.{LogSync}
-
--- a fresh record's stop-sign stands for none
-pub blank-stop : (held : Bool) (g : StopSign) (y : IndexRecord) → held ≡ false → y ≡ indexOf (freshLog 0) → y .stop ≡ signOr (asked held g)
-blank-stop held g y h e = rw (h, e) (unfold indexOf freshLog in refl)
 
 module _ (x : LogSync) (n keys : ℕ) (y : IndexRecord) (log suffix : List ℕ) (w : Fits x n y log suffix) (p : Bool) (plain : p ≡ plainBy (x .«decided_snapshot»)) (kept : ℕ)
     (k : kept ≡ (if p then x .«sync_idx» .0 - y .compacted .0 else 0)) where
@@ -44,7 +38,7 @@ module _ (x : LogSync) (n keys : ℕ) (y : IndexRecord) (log suffix : List ℕ) 
         ),
       )
 
-  module _ (start : LogIndex) (s : start ≡ (if p then y .compacted else x .«sync_idx»)) (stop : StopSign) (g : stop ≡ signOr (asked (x .«stop_held») (x .stopsign))) (exit : List ℕ)
+  module _ (start : LogIndex) (s : start ≡ (if p then y .compacted else x .«sync_idx»)) (stop : StopSign) (g : stop ≡ signIf (x .«stop_held») (x .stopsign)) (exit : List ℕ)
       (e : exit ≡ laid (length log) (spliced (kept * width) ((y .retained - kept) * width) suffix (take ((y .retained + y .batched) * width) log))) where
     pub taken : Taken x n keys y log suffix (withStop (x .«stop_held») stop (withRun start (kept + n) (y .«snapshot_held» || not p) keys y)) exit
     taken = record {
@@ -53,6 +47,6 @@ module _ (x : LogSync) (n keys : ℕ) (y : IndexRecord) (log suffix : List ℕ) 
     }
       where
         fields : (a : LogIndex) (b : ℕ) (c : Bool) (h : StopSign) → a ≡ (if plainBy (x .«decided_snapshot») then y .compacted else x .«sync_idx») → b ≡ keptBy x n y + n
-            → c ≡ plainBy (x .«decided_snapshot») → h ≡ signOr (asked (x .«stop_held») (x .stopsign))
+            → c ≡ plainBy (x .«decided_snapshot») → h ≡ signIf (x .«stop_held») (x .stopsign)
             → withStop (x .«stop_held») h (withRun a b (y .«snapshot_held» || not c) keys y) ≡ syncedIndex x n keys y
         fields a b c h q1 q2 q3 q4 = rw (q1, q2, q3, q4)

@@ -9,14 +9,14 @@ use Rattle.words.specs.If.{if_then_else_}
 use Rattle.words.specs.Words.{laid, spliced}
 use Rattle.entry.specs.Limits.{width, entryRoom, logWords, snapshotWords}
 use Rattle.entry.specs.Change.{Change, Laid, wholeIn}
+use Rattle.entry.specs.Sign.{signIf}
 use Rattle.entry.specs.declared.Ballot.{Ballot}
 use Rattle.snapshot.specs.Folds.{foldOnto}
 use Rattle.snapshot.specs.Inner.{Holds}
 use Rattle.model.specs.Sync.{partFormed, decidedThen, keptThen}
-use Rattle.state_cache.specs.State.{Raw, numbersIn, signOr, Ready}
+use Rattle.state_cache.specs.State.{Raw, numbersIn, Ready}
 use Rattle.state_cache.specs.declared.IndexRecord.{IndexRecord}
 use Rattle.state_cache.specs.Fields.{withRun, withStop}
-use Rattle.internal_storage.specs.Replies.{asked}
 use Rattle.sync.specs.Requests.{plainBy, numbersBy, partBy}
 use Rattle.sync.specs.declared.LogSync.{LogSync}
 use Rattle.sync.specs.declared.SnapshotType.{SnapshotType}
@@ -52,7 +52,7 @@ keptBy x n y = keptThen (numbersBy x n) (numbersIn y)
 abbrev pub syncedIndex : LogSync → ℕ → ℕ → IndexRecord → IndexRecord
 syncedIndex x n keys y =
     let plain : Bool = plainBy (x .«decided_snapshot») in
-    withStop (x .«stop_held») (signOr (asked (x .«stop_held») (x .stopsign)))
+    withStop (x .«stop_held») (signIf (x .«stop_held») (x .stopsign))
     (withRun (if plain then y .compacted else x .«sync_idx») (keptBy x n y + n) (y .«snapshot_held» || not plain) keys y)
 
 -- what a suffix of n entries needs to be put into the log, and what that comes to

@@ -4,20 +4,18 @@ use super::SnapshotType;
 use entry::Ballot;
 use entry::LogIndex;
 use entry::Refusal;
-use entry::StopSign;
 use internal_storage::Check;
 use snapshot::Folded;
 use state_cache::Accepted;
 use state_cache::AcceptedAt;
 use state_cache::IndexRecord;
-ghost use Prim.Native.Nat.{_+_, _-_, _≤_, max};
+ghost use Prim.Native.Nat.{_-_, _≤_};
 ghost use mathlib.Core.Path.{_≡_};
 ghost use mathlib.Core.Bool.{true, false};
 ghost use mathlib.Core.Option.{some};
-ghost use lib.Dec.{ltb};
 ghost use Rattle.words.specs.If.{if_then_else_};
 ghost use Rattle.entry.specs.Guards.{first};
-ghost use Rattle.entry.specs.Limits.{snapshotWords, lastIndex};
+ghost use Rattle.entry.specs.Limits.{snapshotWords};
 ghost use Rattle.entry.specs.Change.{entriesOf};
 ghost use Rattle.snapshot.specs.Calls.{outcome as shotOutcome, folded};
 ghost use Rattle.snapshot.specs.Inner.{Holds, foldWritten};
@@ -25,9 +23,9 @@ ghost use Rattle.model.specs.Numbers.{acceptedOf, logDecided};
 ghost use Rattle.model.specs.Sync.{partNumberGuards, roundGuards};
 ghost use Rattle.model.specs.Calls.{sync as syncCall};
 ghost use Rattle.model.proofs.Forms.{Sound};
-ghost use Rattle.state_cache.specs.State.{raw, numbersIn, signOr, Ready};
+ghost use Rattle.state_cache.specs.State.{raw, numbersIn, Ready};
 ghost use Rattle.state_cache.specs.Run.{outcome, run, accepted};
-ghost use Rattle.internal_storage.specs.Replies.{verdictOf, indexed, byNumbers, asked};
+ghost use Rattle.internal_storage.specs.Replies.{verdictOf, indexed, byNumbers};
 ghost use Rattle.sync.specs.Requests.{plainBy, partBy, numbersBy, requestFormed};
 ghost use Rattle.sync.specs.Inner.{shotThen, marked, Fits, Taken, Syncs};
 
@@ -56,23 +54,6 @@ pub fn request_formed(held: bool, log_sync: LogSync, incoming: &[u64], suffix: &
     (sized & (whole & (!held | (plain | shot)))) & (!held | (fine & (!log_sync.stop_held | stop)))
 }
 
-fn larger(a: u64, b: u64) -> u64
-    ensures { λ r. ⌜ r ≡ max a b ⌝ }
-{
-    if a < b { b } else { a }
-}
-
-// Whether the accepted index that a sync leaves, and the batch after it, pass the largest index. No sum is made that might not fit.
-fn past_last(idx: u64, n: usize, more: u64) -> bool
-    requires { ⌜ more ≤ lastIndex ⌝ }
-    ensures { λ r. ⌜ r ≡ ltb lastIndex (idx + n + more) ⌝ }
-{
-    if entry::LAST_INDEX - more < idx {
-        return true;
-    }
-    entry::LAST_INDEX - more - idx < n as u64
-}
-
 // How many of the retained entries stay: of a plain sync those below its index.
 fn kept_of(plain: bool, idx: u64, low: u64) -> u64
     requires { ⌜ low ≤ idx ⌝ }
@@ -96,7 +77,7 @@ fn check_sync(index: IndexRecord, decided_idx: LogIndex, log_sync: LogSync, n: u
     let end = state_cache::inner::end(index);
     let last = state_cache::inner::accepted(index);
     let one = state_cache::inner::one_if(stop);
-    let next = larger(decided_idx.0, decided.0);
+    let next = state_cache::inner::larger(decided_idx.0, decided.0);
     if state_cache::inner::stop_decided(index) {
         return Check::Refused(Refusal::Stopped(LogIndex(last)));
     }
@@ -109,7 +90,7 @@ fn check_sync(index: IndexRecord, decided_idx: LogIndex, log_sync: LogSync, n: u
     if stop & (0 < waiting) {
         return Check::Refused(Refusal::BatchHeld(waiting));
     }
-    if past_last(idx, n, one + waiting as u64) {
+    if state_cache::inner::past_last(idx, n, one + waiting as u64) {
         return Check::Refused(Refusal::PastLastIndex(LogIndex(last)));
     }
     let kept = kept_of(plain, idx, low) as usize;
@@ -130,7 +111,7 @@ fn check_sync(index: IndexRecord, decided_idx: LogIndex, log_sync: LogSync, n: u
 fn mark(index: IndexRecord, accepted_round: Ballot, decided_idx: LogIndex) -> IndexRecord
     ensures { λ r. ⌜ r ≡ marked «accepted_round» («decided_idx» .0) index ⌝ }
 {
-    let decided = LogIndex(larger(decided_idx.0, index.decided.0));
+    let decided = LogIndex(state_cache::inner::larger(decided_idx.0, index.decided.0));
     let mut next = index;
     next.decided = decided;
     next.accepted_round = accepted_round;
@@ -188,17 +169,6 @@ fn hold(
     }
 }
 
-// The stop-sign of a record: blank where none is held.
-fn sign_or_blank(held: bool, stop: StopSign) -> StopSign
-    ensures { λ r. ⌜ r ≡ signOr (asked held stop) ⌝ }
-{
-    if held {
-        return stop;
-    }
-    let blank = state_cache::inner::fresh_index(0);
-    blank.stop
-}
-
 // Where the run then starts: a snapshot stands for all entries below the sync's index.
 fn start_of(plain: bool, low: LogIndex, idx: LogIndex) -> LogIndex
     ensures { λ r. ⌜ r ≡ (if plain then low else idx) ⌝ }
@@ -228,7 +198,7 @@ fn take_suffix(
     let plain = is_plain(kind);
     let kept = kept_of(plain, idx.0, low.0) as usize;
     let start = start_of(plain, low, idx);
-    let stop = sign_or_blank(log_sync.stop_held, log_sync.stopsign);
+    let stop = entry::inner::sign_if(log_sync.stop_held, log_sync.stopsign);
     words::splice(
         log,
         (index.retained + index.batched) * entry::WIDTH,

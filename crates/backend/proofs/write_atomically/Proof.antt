@@ -46,7 +46,8 @@ use Rattle.state_cache.proofs.IndexRecord as T
 use Rattle.state_cache.proofs.IndexRecord.Laws as T′
 use Rattle.state_cache.proofs.SettledAt as D
 use Rattle.state_cache.proofs.SettledAt.Laws as D′
-use Rattle.backend.specs.Ops.{opOf, opsIn, lentOf, wholeLent, wholeList, noOps, putAll}
+use Rattle.backend.specs.Ops.{opOf, opsIn, lentOf, wholeLent, wholeList}
+use Rattle.backend.specs.Inner.{noOps, putAll}
 use Rattle.backend.specs.declared.Op.{Op}
 use Rattle.backend.specs.declared.OpList.{OpList}
 use Rattle.backend.specs.declared.Lent.{Lent}
@@ -56,10 +57,10 @@ use Rattle.backend.proofs.OpList as L
 use Rattle.backend.proofs.OpList.Laws as L′
 use Rattle.backend.proofs.Lent as N
 use Rattle.backend.proofs.Lent.Laws as N′
-use Rattle.backend.proofs.inner.gather as gather
-use Rattle.backend.proofs.inner.gather.Symbol as gather-def
-use Rattle.backend.proofs.inner.gather.Symbol.{name as #backend·inner·gather}
-use Rattle.backend.proofs.inner.gather.Met as gather-thm
+use Rattle.backend.proofs.inner.gather.gather as gather
+use Rattle.backend.proofs.inner.gather.gather.Symbol as gather-def
+use Rattle.backend.proofs.inner.gather.gather.Symbol.{name as #backend·inner·gather}
+use Rattle.backend.proofs.inner.gather.gather.Met as gather-thm
 use Rattle.backend.proofs.write_list as write-list
 use Rattle.backend.proofs.write_list.Symbol as write-list-def
 use Rattle.backend.proofs.write_list.Symbol.{name as #backend·write-list}
@@ -259,5 +260,5 @@ write-atomically-spec 𝓤 H 𝓜 𝓖 𝓡 =
     entered 𝓤 H (tripleOf 𝓤 H (𝓖 .A) f.signature (f.spec 𝓤 H (𝓖 .A) (𝓜 .mem) (𝓡 .run)))
     (tables 𝓤 H 𝓜 𝓡 code.env .C) (tables 𝓤 H 𝓜 𝓡 code.env .Λ) #backend·write-atomically code.function (code.unfolded 𝓤 H 𝓜 𝓡)
     (write-atomically-meets 𝓤 H (𝓖 .A) (givenOf 𝓤 H 𝓜 𝓖) (𝓜 .mem) (𝓡 .run) (tablesOf 𝓤 H 𝓜 (tables 𝓤 H 𝓜 𝓡 code.env))
-    (cited 𝓤 H (Gather 𝓤 H (𝓖 .A) (𝓜 .mem) (𝓡 .run)) 𝓜 𝓡 code.env #backend·inner·gather gather-def.routine code.calls-backend·inner·gather (gather-thm.met 𝓤 H 𝓜 𝓖 𝓡))
+    (cited 𝓤 H (Gather 𝓤 H (𝓖 .A) (𝓜 .mem) (𝓡 .run)) 𝓜 𝓡 code.env #backend·inner·gather gather-def.routine code.calls-backend·inner·gather·gather (gather-thm.met 𝓤 H 𝓜 𝓖 𝓡))
     (cited 𝓤 H (Run 𝓤 H (𝓖 .A) (𝓜 .mem) (𝓡 .run)) 𝓜 𝓡 code.env #backend·write-list write-list-def.routine code.calls-backend·write-list (write-list-thm.met 𝓤 H 𝓜 𝓖 𝓡)))

@@ -56,10 +56,10 @@ use Rattle.state_cache.proofs.SettledAt as D
 use Rattle.state_cache.proofs.SettledAt.Laws as D′
 use Rattle.state_cache.proofs.Settled as An
 use Rattle.state_cache.proofs.Settled.Laws as An′
-use Rattle.internal_storage.proofs.decide.set_decided_idx as callee
-use Rattle.internal_storage.proofs.decide.set_decided_idx.Symbol as callee-def
-use Rattle.internal_storage.proofs.decide.set_decided_idx.Symbol.{name as #callee}
-use Rattle.internal_storage.proofs.decide.set_decided_idx.Met as callee-thm
+use Rattle.internal_storage.proofs.set_decided_idx as callee
+use Rattle.internal_storage.proofs.set_decided_idx.Symbol as callee-def
+use Rattle.internal_storage.proofs.set_decided_idx.Symbol.{name as #callee}
+use Rattle.internal_storage.proofs.set_decided_idx.Met as callee-thm
 use Rattle.in_place.proofs.set_decided_idx.Key.{name as #in-place}
 use Rattle.in_place.proofs.set_decided_idx as f
 use Rattle.in_place.proofs.set_decided_idx.Statement as stated
@@ -189,4 +189,4 @@ set-decided-idx-spec 𝓤 H 𝓜 𝓖 𝓡 =
     entered 𝓤 H (tripleOf 𝓤 H (𝓖 .A) f.signature (f.spec 𝓤 H (𝓖 .A) (𝓜 .mem) (𝓡 .run)))
     (tables 𝓤 H 𝓜 𝓡 code.env .C) (tables 𝓤 H 𝓜 𝓡 code.env .Λ) #in-place code.function (code.unfolded 𝓤 H 𝓜 𝓡)
     (set-decided-idx-meets 𝓤 H (𝓖 .A) (givenOf 𝓤 H 𝓜 𝓖) (𝓜 .mem) (𝓡 .run) (tablesOf 𝓤 H 𝓜 (tables 𝓤 H 𝓜 𝓡 code.env))
-    (cited 𝓤 H (Callee 𝓤 H (𝓖 .A) (𝓜 .mem) (𝓡 .run)) 𝓜 𝓡 code.env #callee callee-def.routine code.calls-internal-storage·decide·set-decided-idx (callee-thm.met 𝓤 H 𝓜 𝓖 𝓡)))
+    (cited 𝓤 H (Callee 𝓤 H (𝓖 .A) (𝓜 .mem) (𝓡 .run)) 𝓜 𝓡 code.env #callee callee-def.routine code.calls-internal-storage·set-decided-idx (callee-thm.met 𝓤 H 𝓜 𝓖 𝓡)))

@@ -111,15 +111,12 @@ pub fn set_stopsign(
     requires { ⌜ Ready (raw index (now log) (now snapshot)) ⌝ }
     ensures { λ r. ⌜ outcome (accepted (r .answer)) (raw (r .index) (now (log .entry)) (now (snapshot .entry))) ≡ run (setStop (asked held ss)) true (raw index (now (log .entry)) (now (snapshot .entry))) ⌝ }
 {
-    if !held {
-        let blank = state_cache::inner::fresh_index(0);
-        return set_stop_at(index, false, blank.stop);
-    }
-    if !entry::sign_formed(ss) {
+    let formed = entry::sign_formed(ss);
+    if held & !formed {
         return AcceptedAt {
             answer: Accepted::Refused(Refusal::Malformed),
             index,
         };
     }
-    set_stop_at(index, true, ss)
+    set_stop_at(index, held, entry::inner::sign_if(held, ss))
 }

@@ -24,8 +24,8 @@ kept-of-requires c κs = search needs
 start-of-requires : tie.Need-start-of-requires
 start-of-requires c κs = search needs
 
-sign-or-blank-requires : tie.Need-sign-or-blank-requires
-sign-or-blank-requires c κs = search needs
+sign-if-requires : tie.Need-sign-if-requires
+sign-if-requires c κs = search needs
 
 add-splice : tie.Need-add-splice
 add-splice c = search needs
@@ -69,7 +69,7 @@ returns c =
     let g = w .before .before .before .before in
     let k = g .before .before in
     let st = startOf k in
-    taken (st .args .log-sync) (st .args .n) (st .args .keys) (st .args .index) (now (st .args .log)) (now (st .args .suffix)) (st .pre) (k .before .is-plain .result) (k .before .is-plain .ensures) (k .kept-of .result) (k .kept-of .ensures) (g .before .start-of .result) (g .before .start-of .ensures) (g .sign-or-blank .result) (g .sign-or-blank .ensures) _ (w .splice .ensures)
+    taken (st .args .log-sync) (st .args .n) (st .args .keys) (st .args .index) (now (st .args .log)) (now (st .args .suffix)) (st .pre) (k .before .is-plain .result) (k .before .is-plain .ensures) (k .kept-of .result) (k .kept-of .ensures) (g .before .start-of .result) (g .before .start-of .ensures) (g .sign-if .result) (g .sign-if .ensures) _ (w .splice .ensures)
 
 pub take-suffix-spec : {M : Type 1} → statement M
 take-suffix-spec =
@@ -78,7 +78,7 @@ take-suffix-spec =
     is-plain-requires
     kept-of-requires
     start-of-requires
-    sign-or-blank-requires
+    sign-if-requires
     add-splice
     mul-splice
     mul-splice-2

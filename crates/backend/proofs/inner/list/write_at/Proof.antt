@@ -1,0 +1,145 @@
+-- `backend::inner::list::write_at` meets its contract: the list runs on copies, which are written back where it stands.
+use mathlib.Core.Path.{sym, ap, ap₂, _∙_}
+use mathlib.Core.List.{List}
+use Prim.Native.Nat.{ℕ}
+use denote.Ref.{now}
+use Rattle.entry.specs.Guards.{replied}
+use Rattle.model.specs.Backend.{Lent}
+use Rattle.state_cache.specs.State.{Raw, raw, Ready}
+use Rattle.state_cache.specs.Run.{outcome, settled}
+use Rattle.state_cache.proofs.Stands.{ready-of}
+use Rattle.backend.specs.Ops.{opsIn, lentOf}
+use Rattle.backend.specs.Inner.{Wrote}
+use Rattle.backend.proofs.Turns.{write-refused, write-stands, listed-copy, wrote-copy}
+use borrow.Author.Needs.{needs}
+use Rattle.backend.proofs.inner.list.write_at.Statement.{statement}
+use Rattle.backend.proofs.inner.list.write_at.Tie as tie
+
+abbrev stateAt : tie.Start → Raw
+stateAt c = raw (c .args .before) (now (c .args .log)) (now (c .args .snapshot))
+
+abbrev lentAt : tie.Start → Lent
+lentAt c = lentOf (c .args .lent) (now (c .args .entries)) (now (c .args .incoming))
+
+abbrev firstCopy : tie.After-copy-words2 → tie.After-copy-words
+firstCopy k = k .before .before .before .before
+
+abbrev startOf : tie.After-copy-words2 → tie.Start
+startOf k = firstCopy k .before .before .before .before .before .before .before
+
+abbrev copied : tie.After-run-ops → tie.After-copy-words2
+copied p = p .before .before .before .before
+
+abbrev left : tie.After-run-ops → Raw
+left p = raw (p .run-ops .result .index) (p .run-ops .last .1 .0) (p .run-ops .last .1 .1 .0)
+
+ran : (p : tie.After-run-ops) → Wrote (stateAt (startOf (copied p))) (lentAt (startOf (copied p))) (opsIn (startOf (copied p) .args .list)) (p .run-ops .result .answer) (left p)
+ran p =
+    let k = copied p in
+    let st = startOf k in
+    wrote-copy (st .args .before) (now (st .args .log)) (firstCopy k .copy-words .last .1 .0) (now (st .args .snapshot)) (k .copy-words2 .last .1 .0) (firstCopy k .copy-words .ensures) (k .copy-words2 .ensures)
+    (lentAt st) (opsIn (st .args .list)) (p .run-ops .result .answer) (left p) (p .run-ops .ensures)
+
+stood : (e : tie.After-enum-told) → Ready (left (e .before .before .before .before .before))
+stood e =
+    let p = e .before .before .before .before .before in
+    ready-of (left p) (ran p .after (ap settled (e .enum-told .given .1)) .0)
+
+slice-aggregate-copy-words : tie.Need-slice-aggregate-copy-words
+slice-aggregate-copy-words c = search needs
+
+copy-words-requires : tie.Need-copy-words-requires
+copy-words-requires c κs = search needs
+
+slice-aggregate-copy-words-2 : tie.Need-slice-aggregate-copy-words-2
+slice-aggregate-copy-words-2 c = search needs
+
+copy-words-requires-2 : tie.Need-copy-words-requires-2
+copy-words-requires-2 c κs = search needs
+
+slice-aggregate-run-ops : tie.Need-slice-aggregate-run-ops
+slice-aggregate-run-ops c = search needs
+
+slice-aggregate-run-ops-2 : tie.Need-slice-aggregate-run-ops-2
+slice-aggregate-run-ops-2 c = search needs
+
+run-ops-requires : tie.Need-run-ops-requires
+run-ops-requires c κs =
+    let k = c .before .before .before in
+    let st = startOf k in
+    listed-copy (st .args .before) (now (st .args .log)) (firstCopy k .copy-words .last .1 .0) (now (st .args .snapshot)) (k .copy-words2 .last .1 .0) (firstCopy k .copy-words .ensures) (k .copy-words2 .ensures)
+    (st .args .lent) (now (st .args .entries)) (now (st .args .incoming)) (st .args .list) (st .pre)
+
+enum-known-answer : tie.Need-enum-known-answer
+enum-known-answer c = search needs
+
+same-length : tie.Need-same-length
+same-length c = search needs
+
+same-length-2 : tie.Need-same-length-2
+same-length-2 c = search needs
+
+returns : tie.Need-returns
+returns c =
+    let p = c .before .before .before .before .before .before in
+    let st = startOf (copied p) in
+    write-refused (stateAt st) (lentAt st) (opsIn (st .args .list)) (st .pre .ready .okay) (st .pre .okay) (p .run-ops .result .answer) (left p) (ran p) _ (c .before .answer .given .1)
+
+enum-told : tie.Need-enum-told
+enum-told c = search needs
+
+slice-aggregate-copy-words-3 : tie.Need-slice-aggregate-copy-words-3
+slice-aggregate-copy-words-3 c = search needs
+
+copy-words-requires-3 : tie.Need-copy-words-requires-3
+copy-words-requires-3 c κs =
+    let e = c .before .before in
+    stood e .log .long ∙ sym (startOf (copied (e .before .before .before .before .before)) .pre .ready .log .long)
+
+slice-aggregate-copy-words-4 : tie.Need-slice-aggregate-copy-words-4
+slice-aggregate-copy-words-4 c = search needs
+
+copy-words-requires-4 : tie.Need-copy-words-requires-4
+copy-words-requires-4 c κs =
+    let e = c .before .before .before .before .before .before .before in
+    stood e .snapshot .laid .long ∙ sym (startOf (copied (e .before .before .before .before .before)) .pre .ready .snapshot .laid .long)
+
+same-length-3 : tie.Need-same-length-3
+same-length-3 c = search needs
+
+same-length-4 : tie.Need-same-length-4
+same-length-4 c = search needs
+
+returns-2 : tie.Need-returns-2
+returns-2 c =
+    let k4 = c .before .before in
+    let k3 = k4 .before .before .before .before .before in
+    let e = k3 .before .before .before in
+    let p = e .before .before .before .before .before in
+    let st = startOf (copied p) in
+    ap₂ (λ (l s : List ℕ). outcome (replied tt) (raw (p .run-ops .result .index) l s)) (k3 .copy-words3 .ensures) (k4 .copy-words4 .ensures)
+    ∙ write-stands (stateAt st) (lentAt st) (opsIn (st .args .list)) (st .pre .ready .okay) (st .pre .okay) (p .run-ops .result .answer) (left p) (ran p) (e .enum-told .given .1)
+
+pub write-at-spec : {M : Type 1} → statement M
+write-at-spec =
+    tie.close
+    (tie.spec
+    slice-aggregate-copy-words
+    copy-words-requires
+    slice-aggregate-copy-words-2
+    copy-words-requires-2
+    slice-aggregate-run-ops
+    slice-aggregate-run-ops-2
+    run-ops-requires
+    enum-known-answer
+    same-length
+    same-length-2
+    returns
+    enum-told
+    slice-aggregate-copy-words-3
+    copy-words-requires-3
+    slice-aggregate-copy-words-4
+    copy-words-requires-4
+    same-length-3
+    same-length-4
+    returns-2)

@@ -1,0 +1,83 @@
+use native.Mathlib.Omega.{arith}
+use denote.Ref.{now}
+use Rattle.state_cache.specs.State.{Raw, raw}
+use Rattle.entry.proofs.SliceLaws.{slice-whole}
+use Rattle.backend.proofs.Goings.{put-refused, put-goes}
+use borrow.Author.Needs.{needs}
+use Rattle.backend.proofs.inner.step.put_at.Statement.{statement}
+use Rattle.backend.proofs.inner.step.put_at.Tie as tie
+use Rattle.backend.proofs.inner.step.put_at.Reads as reads
+use Rattle.backend.proofs.inner.step.put_at.Lts as lts
+use Rattle.backend.proofs.inner.step.done.Reads as done-reads
+use Rattle.words.proofs.splice.Reads as splice-reads
+
+abbrev stateAt : tie.Start → Raw
+stateAt c = raw (c .args .index) (now (c .args .log)) (now (c .args .shot))
+
+add-if1 : tie.Need-add-if1
+add-if1 c = search needs
+
+add-if1-2 : tie.Need-add-if1-2
+add-if1-2 c = search needs
+
+returns : tie.Need-returns
+returns c =
+    let st = c .before .before .before .before .before in
+    put-refused (st .args .start) (stateAt st) (st .pre .0) (st .args .at) (now (st .args .entries)) (now (st .args .log)) (c .if1 .taken)
+
+add-used : tie.Need-add-used
+add-used c = search needs
+
+mul-used : tie.Need-mul-used
+mul-used c = search needs
+
+mul-splice : tie.Need-mul-splice
+mul-splice c = search needs
+
+sub-splice : tie.Need-sub-splice
+sub-splice c = search needs
+
+mul-splice-2 : tie.Need-mul-splice-2
+mul-splice-2 c = search needs
+
+splice-requires : tie.Need-splice-requires
+splice-requires c κs =
+    let e = c .before .before .before in
+    let st = e .before .before .before .before .before in
+    let w = slice-whole (now (st .args .entries)) (st .pre .1 .1) in
+    (omega (arith, st .pre .1 .0), (omega (arith, st .pre .0 .log .fits, st .pre .0 .log .long), (omega (arith, e .if1 .left, st .pre .0 .log .long, st .pre .1 .0, w), st .pre .0 .log .zeros)))
+
+add-next : tie.Need-add-next
+add-next c = search needs
+
+done-requires : tie.Need-done-requires
+done-requires c κs = search needs
+
+same-length : tie.Need-same-length
+same-length c = search needs
+
+returns-2 : tie.Need-returns-2
+returns-2 c =
+    let p = c .before .before .before in
+    let e = p .before .before .before .before in
+    let st = e .before .before .before .before .before in
+    rw (c .done .ensures)
+    (put-goes (st .args .start) (stateAt st) (st .pre .0) (st .args .at) (now (st .args .entries)) (p .splice .last .0) (e .if1 .left) (st .pre .1 .0) (st .pre .1 .1) (p .splice .ensures))
+
+pub put-at-spec : {M : Type 1} → statement M
+put-at-spec =
+    tie.close
+    (tie.spec
+    add-if1
+    add-if1-2
+    returns
+    add-used
+    mul-used
+    mul-splice
+    sub-splice
+    mul-splice-2
+    splice-requires
+    add-next
+    done-requires
+    same-length
+    returns-2)

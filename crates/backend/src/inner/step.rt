@@ -1,0 +1,206 @@
+// One operation, on words that are of no use where it is refused.
+use super::super::Lent;
+use super::super::Op;
+use super::super::OpKind;
+use entry::LogIndex;
+use entry::Refusal;
+use state_cache::IndexRecord;
+use state_cache::Settled;
+ghost use mathlib.Core.Path.{_≡_};
+ghost use mathlib.Core.Bool.{true};
+ghost use mathlib.Core.List.{[]};
+ghost use Prim.Native.Nat.{_≤_};
+ghost use lib.ListN.{length};
+ghost use Rattle.entry.specs.Limits.{snapshotWords};
+ghost use Rattle.entry.specs.Change.{entriesIn, sliceFormed};
+ghost use Rattle.model.specs.Backend.{appendOnPrefix, trim, supplied, stepGuards, step};
+ghost use Rattle.state_cache.specs.State.{raw, numbersIn, Small};
+ghost use Rattle.backend.specs.Ops.{opOf, lentOf};
+ghost use Rattle.backend.specs.Inner.{onlyEntries, askedKeys, askedWords, midstOf, Held, doneAt, rejoined, roomGuards, Goes, Lends};
+
+// A list's state after an operation, and the start of the run, which may not be compacted.
+pub struct Stepped {
+    pub answer: Settled,
+    pub start: u64,
+    pub index: IndexRecord,
+}
+
+// An operation that stands.
+fn done(start: u64, index: IndexRecord) -> Stepped
+    ensures { λ r. ⌜ r ≡ doneAt start index ⌝ }
+{
+    Stepped {
+        answer: Settled::Done,
+        start,
+        index,
+    }
+}
+
+// Cuts the run after its first `at` entries and puts the entries there, before the batch; or refusal 1.
+fn put_at(
+    start: u64,
+    index: IndexRecord,
+    log: &mut [u64],
+    shot: &[u64],
+    at: usize,
+    entries: &[u64],
+) -> Stepped
+    requires { ⌜ Held (raw index (now log) (now shot)) ⌝ }
+    requires { ⌜ at ≤ index .retained ⌝ }
+    requires { ⌜ sliceFormed (now entries) ≡ true ⌝ }
+    ensures { λ r. ⌜ Goes
+        (roomGuards at (length (entriesIn (now (entries .entry))))
+        (midstOf start (raw index (now (log .entry)) (now (shot .entry)))))
+        (rejoined at (entriesIn (now (entries .entry)))
+        (midstOf start (raw index (now (log .entry)) (now (shot .entry)))))
+        r (now (log .exit)) (now (shot .entry)) ⌝ }
+{
+    let n = entries.len() / entry::WIDTH;
+    if entry::ENTRIES < at + index.batched + n {
+        return Stepped {
+            answer: Settled::Refused(Refusal::NoRoom),
+            start,
+            index,
+        };
+    }
+    let used = (index.retained + index.batched) * entry::WIDTH;
+    words::splice(
+        log,
+        used,
+        at * entry::WIDTH,
+        (index.retained - at) * entry::WIDTH,
+        entries,
+    );
+    let mut next = index;
+    next.retained = at + n;
+    done(start, next)
+}
+
+// The same at an index of the run or its end; or refusal 7, which carries the end held before the call.
+fn put_on_prefix(
+    before: IndexRecord,
+    start: u64,
+    index: IndexRecord,
+    log: &mut [u64],
+    shot: &[u64],
+    from: LogIndex,
+    entries: &[u64],
+) -> Stepped
+    requires { ⌜ Held (raw index (now log) (now shot)) ⌝ }
+    requires { ⌜ Small (numbersIn before) ⌝ }
+    requires { ⌜ sliceFormed (now entries) ≡ true ⌝ }
+    ensures { λ r. ⌜ Goes
+        (stepGuards (numbersIn before) (onlyEntries (now (entries .entry))) (appendOnPrefix (from .0))
+        (midstOf start (raw index (now (log .entry)) (now (shot .entry)))))
+        (step (onlyEntries (now (entries .entry))) (appendOnPrefix (from .0))
+        (midstOf start (raw index (now (log .entry)) (now (shot .entry)))))
+        r (now (log .exit)) (now (shot .entry)) ⌝ }
+{
+    let end = state_cache::inner::end(before);
+    let kept = state_cache::inner::above(from.0, start);
+    if (from.0 < start) | ((index.retained as u64) < kept) {
+        return Stepped {
+            answer: Settled::Refused(Refusal::OutsideRun(LogIndex(end))),
+            start,
+            index,
+        };
+    }
+    put_at(start, index, log, shot, kept as usize, entries)
+}
+
+// Drops the entries below an index, and moves the run's start there if it is higher.
+fn trim_to(start: u64, index: IndexRecord, log: &mut [u64], shot: &[u64], to: LogIndex) -> Stepped
+    requires { ⌜ Held (raw index (now log) (now shot)) ⌝ }
+    ensures { λ r. ⌜ Goes []
+        (step (onlyEntries []) (trim (to .0)) (midstOf start (raw index (now (log .entry)) (now (shot .entry)))))
+        r (now (log .exit)) (now (shot .entry)) ⌝ }
+{
+    let below = state_cache::inner::above(to.0, start);
+    let gone = state_cache::inner::least(below, index.retained as u64) as usize;
+    let used = (index.retained + index.batched) * entry::WIDTH;
+    words::cut_out(log, used, 0, gone * entry::WIDTH);
+    let mut next = index;
+    next.retained = index.retained - gone;
+    done(state_cache::inner::larger(start, to.0), next)
+}
+
+fn keys_if(given: bool, keys: usize) -> usize
+    ensures { λ r. ⌜ r ≡ askedKeys given keys ⌝ }
+{
+    if given { keys } else { 0 }
+}
+
+// The snapshot's words: those that are lent, or zeros.
+fn write_shot(shot: &mut [u64], given: bool, incoming: &[u64])
+    requires { ⌜ length (now shot) ≡ snapshotWords ⌝ }
+    requires { ⌜ length (now incoming) ≡ snapshotWords ⌝ }
+    ensures { λ _. ⌜ now (shot .exit) ≡ askedWords given (now (incoming .entry)) ⌝ }
+{
+    if given {
+        words::copy_words(incoming, shot);
+    } else {
+        words::clear(shot, 0, entry::SNAPSHOT_WORDS);
+    }
+}
+
+// One operation. Its refusals are judged on the state as it stands; what they carry was held before the call.
+pub fn step(
+    before: IndexRecord,
+    start: u64,
+    index: IndexRecord,
+    log: &mut [u64],
+    shot: &mut [u64],
+    entries: &[u64],
+    incoming: &[u64],
+    lent: Lent,
+    o: Op,
+) -> Stepped
+    requires { ⌜ Held (raw index (now log) (now shot)) ⌝ }
+    requires { ⌜ Small (numbersIn before) ⌝ }
+    requires { ⌜ Lends lent (now entries) (now incoming) ⌝ }
+    requires { ⌜ supplied (lentOf lent (now entries) (now incoming)) (opOf o) ≡ true ⌝ }
+    ensures { λ r. ⌜ Goes
+        (stepGuards (numbersIn before) (lentOf lent (now (entries .entry)) (now (incoming .entry))) (opOf o)
+        (midstOf start (raw index (now (log .entry)) (now (shot .entry)))))
+        (step (lentOf lent (now (entries .entry)) (now (incoming .entry))) (opOf o)
+        (midstOf start (raw index (now (log .entry)) (now (shot .entry)))))
+        r (now (log .exit)) (now (shot .exit)) ⌝ }
+{
+    let kind = o.kind;
+    let idx = o.index;
+    let ballot = o.ballot;
+    let given = o.given;
+    let mut next = index;
+    match kind {
+        OpKind::AppendEntries => put_at(start, index, log, shot, index.retained, entries),
+        OpKind::AppendOnPrefix => put_on_prefix(before, start, index, log, shot, idx, entries),
+        OpKind::SetPromise => {
+            next.promise = ballot;
+            done(start, next)
+        }
+        OpKind::SetDecidedIndex => {
+            next.decided = idx;
+            done(start, next)
+        }
+        OpKind::SetAcceptedRound => {
+            next.accepted_round = ballot;
+            done(start, next)
+        }
+        OpKind::SetCompactedIdx => {
+            next.compacted = idx;
+            done(start, next)
+        }
+        OpKind::Trim => trim_to(start, index, log, shot, idx),
+        OpKind::SetStopsign => {
+            next.stop = entry::inner::sign_if(given, lent.stop);
+            next.stop_held = given;
+            done(start, next)
+        }
+        OpKind::SetSnapshot => {
+            write_shot(shot, given, incoming);
+            next.keys = keys_if(given, lent.keys);
+            next.snapshot_held = given;
+            done(start, next)
+        }
+    }
+}

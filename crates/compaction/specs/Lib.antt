@@ -1,3 +1,2 @@
-pub mod Moves
 pub mod Written
 pub mod Inner

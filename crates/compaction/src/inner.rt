@@ -1,7 +1,7 @@
 // What the calls do once the state is known to be well formed: not for a user, whose calls are in lib.rt.
-use super::Upto;
 use entry::LogIndex;
 use entry::Refusal;
+use entry::Upto;
 use snapshot::Folded;
 use state_cache::IndexRecord;
 use state_cache::Settled;
@@ -10,13 +10,13 @@ ghost use mathlib.Core.Path.{_≡_};
 ghost use mathlib.Core.Bool.{true};
 ghost use lib.ListN.{length};
 ghost use Rattle.entry.specs.Limits.{snapshotWords};
+ghost use Rattle.entry.specs.Upto.{uptoOf};
 ghost use Rattle.snapshot.specs.Calls.{outcome as shotOutcome, folded};
 ghost use Rattle.model.specs.Calls.{query, create, trim, snapshot as snapshotCall};
 ghost use Rattle.model.specs.Compact.{target, pastDecided};
 ghost use Rattle.state_cache.specs.State.{raw, numbersIn, Small, Ready};
 ghost use Rattle.state_cache.specs.Run.{outcome, run, settled};
 ghost use Rattle.compaction.specs.Inner.{ReachIs, Movable, Moved};
-ghost use Rattle.compaction.specs.Moves.{uptoOf};
 ghost use Rattle.compaction.specs.Written.{writtenOut};
 
 // Whether refusal 2 applies.

@@ -2,6 +2,7 @@
 // record and every lent word after the call. Names are the Rust's.
 use entry::LogIndex;
 use entry::Refusal;
+use entry::Upto;
 use snapshot::Folded;
 use state_cache::IndexRecord;
 use state_cache::Settled;
@@ -11,20 +12,14 @@ ghost use mathlib.Core.Bool.{true};
 ghost use lib.Dec.{eqb};
 ghost use lib.ListN.{length};
 ghost use Rattle.entry.specs.Limits.{snapshotWords};
+ghost use Rattle.entry.specs.Upto.{uptoOf};
 ghost use Rattle.snapshot.specs.Calls.{outcome as shotOutcome, folded};
 ghost use Rattle.model.specs.Calls.{query, create, trim, snapshot as snapshotCall};
 ghost use Rattle.state_cache.specs.State.{raw};
 ghost use Rattle.state_cache.specs.Run.{outcome, run, settled};
-ghost use Rattle.compaction.specs.Moves.{uptoOf};
 ghost use Rattle.compaction.specs.Written.{writtenOut};
 
 pub mod inner;
-
-// How far a snapshot goes, the Rust's `Option`: over all that is decided, or up to an index.
-pub enum Upto {
-    Decided,
-    Index(LogIndex),
-}
 
 // Drops the entries below an index, whatever stands in the snapshot.
 pub fn try_trim(index: IndexRecord, log: &mut [u64], snapshot: &[u64], idx: LogIndex) -> SettledAt

@@ -42,6 +42,12 @@ pub enum Said {
     Removed,
 }
 
+// How far a compaction goes, the Rust's `Option`: over all that is decided, or up to an index.
+pub enum Upto {
+    Decided,
+    Index(LogIndex),
+}
+
 #[repr(C)]
 pub struct Ballot {
     pub config_id: u32,

@@ -6,10 +6,10 @@ use super::PlainSync;
 use backend::Op;
 use backend::OpKind;
 use backend::OpList;
-use compaction::Upto;
 use entry::BlockPlace;
 use entry::LogIndex;
 use entry::Said as EntrySaid;
+use entry::Upto;
 use reading::Bound;
 use sync::LogSync;
 use sync::SnapshotType;
@@ -19,9 +19,9 @@ ghost use lib.Dec.{ltb};
 ghost use Rattle.words.specs.If.{if_then_else_};
 ghost use Rattle.entry.specs.Limits.{lastWord};
 ghost use Rattle.entry.specs.Change.{saidIs};
+ghost use Rattle.entry.specs.Upto.{uptoOf};
 ghost use Rattle.model.specs.Read.{included, excluded};
 ghost use Rattle.reading.specs.Replies.{boundOf};
-ghost use Rattle.compaction.specs.Moves.{uptoOf};
 ghost use Rattle.host.specs.Requests.{ofFlag, lentSaid, endAt, kindAt, opAt, knownAt, knownAll, listAt, countAt, nineAt, typeAt, keysAt, syncAt};
 
 pub(crate) fn entry_said(removed: bool, place: BlockPlace) -> EntrySaid

@@ -6,6 +6,7 @@ use mathlib.Core.Option.{Option, none, some}
 use lib.ListN.{length, replicate}
 use Rattle.entry.specs.Limits.{mostNodes, mostMetadata}
 use Rattle.entry.specs.Change.{Change, Said as SaidOf, place, removed}
+use Rattle.entry.specs.Upto.{uptoOf}
 use Rattle.entry.specs.Guards.{Answer, refused, replied}
 use Rattle.entry.specs.declared.StopSign.{StopSign}
 use Rattle.model.specs.Numbers.{acceptedOf}
@@ -116,8 +117,7 @@ answering (command.Del k) r = printed appendedText (run (append (one k removed))
 answering (command.Read from to) r = printed readText (run (query (read (included from) (excluded to))) true r)
 answering command.Flush r = printed acceptedText (run flush true r)
 answering (command.Decide i) r = printed settledText (run (decide i) true r)
-answering (command.Snap i) r = printed settledText (run (snapshot (some i)) true r)
-answering command.SnapAll r = printed settledText (run (snapshot none) true r)
+answering (command.Snap upto) r = printed settledText (run (snapshot (uptoOf upto)) true r)
 answering (command.Stop c) r = stoppedBy (run (appendStop (stopOf c)) true r)
 answering (command.Trim i) r = printed settledText (run (trim i) true r)
 answering command.BadLine r = told (lineOf BadLine) r

@@ -1,9 +1,9 @@
 // What each command does to the log, and what answers it, put into out from index `at` on.
-use compaction::Upto;
 use entry::BlockPlace;
 use entry::LogIndex;
 use entry::Said;
 use entry::StopSign;
+use entry::Upto;
 use internal_storage::Appended;
 use reading::Bound;
 use reading::ReadReply;
@@ -19,12 +19,11 @@ ghost use lib.ListN.{length, take};
 ghost use Rattle.entry.specs.Limits.{logWords};
 ghost use Rattle.entry.specs.Change.{saidIs};
 ghost use Rattle.state_cache.specs.State.{raw};
-ghost use Rattle.model.specs.Calls.{append, snapshot as snapshotCall};
+ghost use Rattle.model.specs.Calls.{append};
 ghost use Rattle.state_cache.specs.Run.{run, settled, accepted};
 ghost use Rattle.internal_storage.specs.Replies.{appended};
-ghost use Rattle.compaction.specs.Moves.{uptoOf};
 ghost use Rattle.text.specs.Answers.{lineOf};
-ghost use Rattle.text.specs.declared.Command.the-variants.{Batch, Read, Flush, Decide, Stop, Trim};
+ghost use Rattle.text.specs.declared.Command.the-variants.{Batch, Read, Flush, Decide, Snap, Stop, Trim};
 ghost use Rattle.replay.specs.Answering.{told, settledText, acceptedText, appendedText, printed, telling, stopOf, stopLine, one, answering};
 ghost use Rattle.replay.specs.Feeding.{answerRoom, after};
 
@@ -155,7 +154,8 @@ fn decide(index: IndexRecord, log: &[u64], snapshot: &[u64], i: u64) -> Answered
 }
 
 fn snap(index: IndexRecord, log: &mut [u64], snapshot: &mut [u64], upto: Upto) -> Answered
-    ensures { λ r. ⌜ telling (r .reply) (raw (r .index) (now (log .exit)) (now (snapshot .exit))) ≡ printed settledText (run (snapshotCall (uptoOf upto)) true (raw index (now (log .entry)) (now (snapshot .entry)))) ⌝ }
+    ensures { λ r. ⌜ telling (r .reply) (raw (r .index) (now (log .exit)) (now (snapshot .exit)))
+        ≡ answering (Snap upto) (raw index (now (log .entry)) (now (snapshot .entry))) ⌝ }
 {
     let to = compaction::try_snapshot(index, log, snapshot, upto);
     let answer = to.answer;
@@ -241,8 +241,7 @@ fn carry_out(
         Command::Read(from, to) => read(index, log, snapshot, from, to),
         Command::Flush => flush(index, log, snapshot),
         Command::Decide(i) => decide(index, log, snapshot, i),
-        Command::Snap(i) => snap(index, log, snapshot, Upto::Index(LogIndex(i))),
-        Command::SnapAll => snap(index, log, snapshot, Upto::Decided),
+        Command::Snap(upto) => snap(index, log, snapshot, upto),
         Command::Stop(c) => stop(index, log, snapshot, c),
         Command::Trim(i) => trim(index, log, snapshot, i),
         Command::BadLine => Answered {

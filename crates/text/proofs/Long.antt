@@ -2,7 +2,7 @@
 use Prim.Native.Nat.{ℕ, _+_, _-_, _*_, _^_, _≤_, _<_}
 use Prim.Native.String.{String}
 use mathlib.Core.Path.{_≡_, refl, sym, ap, _∙_}
-use mathlib.Core.Bool.{Bool, true, false, _&&_, not, and-false}
+use mathlib.Core.Bool.{Bool, true, false, _&&_, not}
 use mathlib.Core.List.{List, [], _∷_}
 use native.Mathlib.Omega.{arith}
 use native.Mathlib.Nat.{mul-assoc, one-mul, pow-succ', pow-le-pow-right}
@@ -15,7 +15,7 @@ use Rattle.words.proofs.Tests.{Reach, reached, short, reach, and-left, and-righ
 use Rattle.words.proofs.Alls.{all-head}
 use Rattle.text.specs.Bytes.{bytes}
 use Rattle.text.specs.Number.{isDigit, value, plain, numberOf}
-use Rattle.text.specs.Parse.{_is_, words, onto, bareOf, numberedOf, withNumber, withOne, pairedOf, withNumbers, withTwo, commandOf, parseOf}
+use Rattle.text.specs.Parse.{_is_, words, onto, bareOf, snapOf, numberedOf, withNumber, withOne, pairedOf, withNumbers, withTwo, commandOf, parseOf}
 use Rattle.text.specs.declared.Parsed.{Parsed}
 use Rattle.text.specs.declared.Parsed.the-variants.{Value, NoNumber}
 use Rattle.text.specs.declared.Command.the-variants.{BadLine}
@@ -56,7 +56,6 @@ module _ (w : List ℕ) (h : 6 < length w) where
         off w "batch" (omega arith),
         off w "del" (omega arith),
         off w "decide" (omega arith),
-        off w "snap" (omega arith),
         off w "stop" (omega arith),
         off w "trim" (omega arith),
       )
@@ -119,8 +118,12 @@ second-long w (Value m) = refl
 second-long w NoNumber = refl
 
 one-long : (w a : List ℕ) → 20 < length a → withOne w a ≡ BadLine
-unfolding withOne
-one-long w a h = rw (off a "all" (omega arith), and-false (w is "snap"), number-long a h)
+unfolding withOne snapOf
+one-long w a h = go (w is "snap")
+  where
+    go : (t : Bool) → (if t then snapOf a else withNumber w (numberOf a)) ≡ BadLine
+    go true = rw (off a "all" (omega arith), number-long a h)
+    go false = rw (number-long a h)
 
 one-other : (w a : List ℕ) → 6 < length w → withOne w a ≡ BadLine
 unfolding withOne

@@ -5,12 +5,13 @@ use mathlib.Core.Bool.{Bool, true, false, _&&_}
 use mathlib.Core.List.{List, [], _∷_}
 use lib.Dec.{ltb, eqb}
 use Rattle.words.specs.If.{if_then_else_}
+use Rattle.entry.specs.declared.Upto.the-variants.{Decided, Index}
 use Rattle.text.specs.Bytes.{bytes}
 use Rattle.text.specs.Number.{numberOf}
 use Rattle.text.specs.declared.Parsed.{Parsed}
 use Rattle.text.specs.declared.Parsed.the-variants.{Value, NoNumber}
 use Rattle.text.specs.declared.Command.{Command}
-use Rattle.text.specs.declared.Command.the-variants.{Batch, Put, Del, Read, Flush, Decide, Snap, SnapAll, Stop, Trim, BadLine}
+use Rattle.text.specs.declared.Command.the-variants.{Batch, Put, Del, Read, Flush, Decide, Snap, Stop, Trim, BadLine}
 
 -- whether two lists of bytes are one
 abbrev pub sameOf : List ℕ → List ℕ → Bool
@@ -42,7 +43,6 @@ numberedOf w n =
     if w is "batch" then Batch n
     else if w is "del" then Del n
     else if w is "decide" then Decide n
-    else if w is "snap" then Snap n
     else if w is "stop" then (if ltb n (2 ^ 32) then Stop n else BadLine)
     else if w is "trim" then Trim n
     else BadLine
@@ -51,8 +51,15 @@ abbrev pub withNumber : List ℕ → Parsed → Command
 withNumber w (Value n) = numberedOf w n
 withNumber w NoNumber = BadLine
 
+abbrev pub snapTo : Parsed → Command
+snapTo (Value n) = Snap (Index (record { 0 = n }))
+snapTo NoNumber = BadLine
+
+unfoldable pub snapOf : List ℕ → Command
+snapOf a = if a is "all" then Snap Decided else snapTo (numberOf a)
+
 unfoldable pub withOne : List ℕ → List ℕ → Command
-withOne w a = if w is "snap" && a is "all" then SnapAll else withNumber w (numberOf a)
+withOne w a = if w is "snap" then snapOf a else withNumber w (numberOf a)
 
 -- a line of three words
 unfoldable pub pairedOf : List ℕ → ℕ → ℕ → Command

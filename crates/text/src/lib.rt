@@ -1,6 +1,8 @@
 // The text of a replay: what a line of input means, and the lines that are printed.
+use entry::LogIndex;
+use entry::Upto;
 ghost use mathlib.Core.Path.{_≡_};
-ghost use Rattle.text.specs.Parse.{sameOf, bareOf, numberedOf, withOne, withTwo, parseOf};
+ghost use Rattle.text.specs.Parse.{sameOf, bareOf, snapOf, numberedOf, withOne, withTwo, parseOf};
 
 pub mod inner;
 
@@ -18,8 +20,7 @@ pub enum Command {
     Read(u64, u64),
     Flush,
     Decide(u64),
-    Snap(u64),
-    SnapAll,
+    Snap(Upto),
     Stop(u32),
     Trim(u64),
     BadLine,
@@ -66,6 +67,20 @@ fn bare(w: &[u8]) -> Command
     Command::BadLine
 }
 
+// What stands after `snap`: `all`, or an index.
+fn snap(a: &[u8]) -> Command
+    ensures { λ r. ⌜ r ≡ snapOf (now (a .entry)) ⌝ }
+{
+    if same(a, b"all") {
+        return Command::Snap(Upto::Decided);
+    }
+    let Parsed::Value(n) = inner::number(a) else {
+        return Command::BadLine;
+    };
+    let upto = Upto::Index(LogIndex(n));
+    Command::Snap(upto)
+}
+
 // A word with a number after it.
 fn numbered(w: &[u8], n: u64) -> Command
     ensures { λ r. ⌜ r ≡ numberedOf (now (w .entry)) n ⌝ }
@@ -78,9 +93,6 @@ fn numbered(w: &[u8], n: u64) -> Command
     }
     if same(w, b"decide") {
         return Command::Decide(n);
-    }
-    if same(w, b"snap") {
-        return Command::Snap(n);
     }
     if same(w, b"stop") {
         if n < 0x1_0000_0000 {
@@ -98,8 +110,8 @@ fn numbered(w: &[u8], n: u64) -> Command
 fn one(w: &[u8], a: &[u8]) -> Command
     ensures { λ r. ⌜ r ≡ withOne (now (w .entry)) (now (a .entry)) ⌝ }
 {
-    if same(w, b"snap") & same(a, b"all") {
-        return Command::SnapAll;
+    if same(w, b"snap") {
+        return snap(a);
     }
     let Parsed::Value(n) = inner::number(a) else {
         return Command::BadLine;

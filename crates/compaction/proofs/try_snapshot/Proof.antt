@@ -7,7 +7,7 @@ use Rattle.model.specs.Calls.{snapshot}
 use Rattle.state_cache.specs.State.{raw}
 use Rattle.state_cache.proofs.Stands.{ready-of}
 use Rattle.state_cache.proofs.Runs.{ill-formed}
-use Rattle.compaction.specs.Moves.{uptoOf}
+use Rattle.entry.specs.Upto.{uptoOf}
 use borrow.Author.Needs.{needs}
 use Rattle.compaction.proofs.try_snapshot.Statement.{statement}
 use Rattle.compaction.proofs.try_snapshot.Tie as tie

@@ -18,11 +18,8 @@ noDel c = sym (c .before .same2 .ensures) ∙ c .if2 .left
 noDecide : (c : tie.Else3) → (now (c .before .before .before .before .before .before .before .before .before .before .args .w) is "decide") ≡ false
 noDecide c = sym (c .before .same3 .ensures) ∙ c .if3 .left
 
-noSnap : (c : tie.Else4) → (now (c .before .before .before .before .before .before .before .before .before .before .before .before .before .args .w) is "snap") ≡ false
-noSnap c = sym (c .before .same4 .ensures) ∙ c .if4 .left
-
-noStop : (c : tie.Else5) → (now (c .before .before .before .before .before .before .before .before .before .before .before .before .before .before .before .before .args .w) is "stop") ≡ false
-noStop c = sym (c .before .same5 .ensures) ∙ c .if5 .left
+noStop : (c : tie.Else4) → (now (c .before .before .before .before .before .before .before .before .before .before .before .before .before .args .w) is "stop") ≡ false
+noStop c = sym (c .before .same4 .ensures) ∙ c .if4 .left
 
 slice-aggregate-same : tie.Need-slice-aggregate-same
 slice-aggregate-same c = search needs
@@ -65,13 +62,24 @@ slice-aggregate-same-4 c = search needs
 same-requires-4 : tie.Need-same-requires-4
 same-requires-4 c κs = search needs
 
+cast-t21 : tie.Need-cast-t21
+cast-t21 c = search needs
+
 returns-4 : tie.Need-returns-4
 unfolding numberedOf
 returns-4 c =
-    let e3 = c .before .before .before in
+    let e3 = c .before .before .before .before in
     let e2 = e3 .before .before .before in
     let e1 = e2 .before .before .before in
-    rw (noBatch e1, noDel e2, noDecide e3, sym (c .before .same4 .ensures) ∙ c .if4 .taken)
+    rw (noBatch e1, noDel e2, noDecide e3, sym (c .before .before .same4 .ensures) ∙ c .before .if4 .taken, lt-ltb _ _ (c .if5 .taken))
+
+returns-5 : tie.Need-returns-5
+unfolding numberedOf
+returns-5 c =
+    let e3 = c .before .before .before .before in
+    let e2 = e3 .before .before .before in
+    let e1 = e2 .before .before .before in
+    rw (noBatch e1, noDel e2, noDecide e3, sym (c .before .before .same4 .ensures) ∙ c .before .if4 .taken, le-ltb _ _ (c .if5 .left))
 
 slice-aggregate-same-5 : tie.Need-slice-aggregate-same-5
 slice-aggregate-same-5 c = search needs
@@ -79,52 +87,23 @@ slice-aggregate-same-5 c = search needs
 same-requires-5 : tie.Need-same-requires-5
 same-requires-5 c κs = search needs
 
-cast-t25 : tie.Need-cast-t25
-cast-t25 c = search needs
-
-returns-5 : tie.Need-returns-5
-unfolding numberedOf
-returns-5 c =
-    let e4 = c .before .before .before .before in
-    let e3 = e4 .before .before .before in
-    let e2 = e3 .before .before .before in
-    let e1 = e2 .before .before .before in
-    rw (noBatch e1, noDel e2, noDecide e3, noSnap e4, sym (c .before .before .same5 .ensures) ∙ c .before .if5 .taken, lt-ltb _ _ (c .if6 .taken))
-
 returns-6 : tie.Need-returns-6
 unfolding numberedOf
 returns-6 c =
-    let e4 = c .before .before .before .before in
+    let e4 = c .before .before .before in
     let e3 = e4 .before .before .before in
     let e2 = e3 .before .before .before in
     let e1 = e2 .before .before .before in
-    rw (noBatch e1, noDel e2, noDecide e3, noSnap e4, sym (c .before .before .same5 .ensures) ∙ c .before .if5 .taken, le-ltb _ _ (c .if6 .left))
-
-slice-aggregate-same-6 : tie.Need-slice-aggregate-same-6
-slice-aggregate-same-6 c = search needs
-
-same-requires-6 : tie.Need-same-requires-6
-same-requires-6 c κs = search needs
+    rw (noBatch e1, noDel e2, noDecide e3, noStop e4, sym (c .before .same5 .ensures) ∙ c .if6 .taken)
 
 returns-7 : tie.Need-returns-7
 unfolding numberedOf
 returns-7 c =
-    let e5 = c .before .before .before in
-    let e4 = e5 .before .before .before in
+    let e4 = c .before .before .before in
     let e3 = e4 .before .before .before in
     let e2 = e3 .before .before .before in
     let e1 = e2 .before .before .before in
-    rw (noBatch e1, noDel e2, noDecide e3, noSnap e4, noStop e5, sym (c .before .same6 .ensures) ∙ c .if7 .taken)
-
-returns-8 : tie.Need-returns-8
-unfolding numberedOf
-returns-8 c =
-    let e5 = c .before .before .before in
-    let e4 = e5 .before .before .before in
-    let e3 = e4 .before .before .before in
-    let e2 = e3 .before .before .before in
-    let e1 = e2 .before .before .before in
-    rw (noBatch e1, noDel e2, noDecide e3, noSnap e4, noStop e5, sym (c .before .same6 .ensures) ∙ c .if7 .left)
+    rw (noBatch e1, noDel e2, noDecide e3, noStop e4, sym (c .before .same5 .ensures) ∙ c .if6 .left)
 
 pub numbered-spec : {M : Type 1} → statement M
 numbered-spec =
@@ -141,13 +120,10 @@ numbered-spec =
     returns-3
     slice-aggregate-same-4
     same-requires-4
+    cast-t21
     returns-4
+    returns-5
     slice-aggregate-same-5
     same-requires-5
-    cast-t25
-    returns-5
     returns-6
-    slice-aggregate-same-6
-    same-requires-6
-    returns-7
-    returns-8)
+    returns-7)

@@ -1,4 +1,4 @@
--- `text::one` meets its contract.
+-- `text::one` meets its contract: after `snap` what it says, and after any other word a number or none.
 use mathlib.Core.Path.{sym, _∙_}
 use Rattle.text.specs.Parse.{withOne}
 use borrow.Author.Needs.{needs}
@@ -11,15 +11,12 @@ slice-aggregate-same c = search needs
 same-requires : tie.Need-same-requires
 same-requires c κs = search needs
 
-slice-aggregate-same-2 : tie.Need-slice-aggregate-same-2
-slice-aggregate-same-2 c = search needs
-
-same-requires-2 : tie.Need-same-requires-2
-same-requires-2 c κs = search needs
+snap-requires : tie.Need-snap-requires
+snap-requires c κs = search needs
 
 returns : tie.Need-returns
 unfolding withOne
-returns c = rw (← c .before .before .before .same .ensures, ← c .before .same2 .ensures, c .if1 .taken)
+returns c = rw (sym (c .before .before .same .ensures) ∙ c .before .if1 .taken) (c .snap .ensures)
 
 number-requires : tie.Need-number-requires
 number-requires c κs = search needs
@@ -34,8 +31,7 @@ returns-2 : tie.Need-returns-2
 unfolding withOne
 returns-2 c =
     let n = c .before .before in
-    let s = n .before .before in
-    rw (← s .before .before .same .ensures, ← s .same2 .ensures, n .before .if1 .left, sym (n .number .ensures) ∙ c .enum-told .given .1)
+    rw (sym (n .before .before .same .ensures) ∙ n .before .if1 .left, sym (n .number .ensures) ∙ c .enum-told .given .1)
 
 numbered-requires : tie.Need-numbered-requires
 numbered-requires c κs = search needs
@@ -44,8 +40,7 @@ returns-3 : tie.Need-returns-3
 unfolding withOne
 returns-3 c =
     let n = c .before .before .before .before in
-    let s = n .before .before in
-    rw (← s .before .before .same .ensures, ← s .same2 .ensures, n .before .if1 .left, sym (n .number .ensures) ∙ c .before .before .n .given .1) (c .numbered .ensures)
+    rw (sym (n .before .before .same .ensures) ∙ n .before .if1 .left, sym (n .number .ensures) ∙ c .before .before .n .given .1) (c .numbered .ensures)
 
 pub one-spec : {M : Type 1} → statement M
 one-spec =
@@ -53,8 +48,7 @@ one-spec =
     (tie.spec
     slice-aggregate-same
     same-requires
-    slice-aggregate-same-2
-    same-requires-2
+    snap-requires
     returns
     number-requires
     enum-known-n

@@ -2,8 +2,8 @@
 use mathlib.Core.Path.{sym, ap}
 use Rattle.model.specs.Compact.{pastDecided}
 use Rattle.state_cache.specs.State.{numbersIn}
-use Rattle.compaction.specs.Moves.{uptoOf}
-use Rattle.compaction.specs.declared.Upto.{Upto}
+use Rattle.entry.specs.Upto.{uptoOf}
+use Rattle.entry.specs.declared.Upto.{Upto}
 use borrow.Author.Needs.{needs}
 use Rattle.compaction.proofs.inner.past_decided.Statement.{statement}
 use Rattle.compaction.proofs.inner.past_decided.Tie as tie

@@ -7,7 +7,7 @@ use Rattle.words.specs.Coded.{entriesAt}
 use Rattle.words.specs.All.{allOf}
 use Rattle.state_cache.specs.State.{Raw, raw}
 use Rattle.state_cache.proofs.Small.{sound-small}
-use Rattle.compaction.specs.Moves.{uptoOf}
+use Rattle.entry.specs.Upto.{uptoOf}
 use Rattle.compaction.specs.Inner.{Up}
 use Rattle.compaction.proofs.Moving.{in-run, movable}
 use Rattle.compaction.proofs.Folding.{fold-needs}

@@ -3,8 +3,8 @@ use mathlib.Core.Path.{sym, ap, _∙_}
 use Rattle.model.specs.Compact.{target}
 use Rattle.model.proofs.Keeps.{target-least}
 use Rattle.state_cache.specs.State.{numbersIn}
-use Rattle.compaction.specs.Moves.{uptoOf}
-use Rattle.compaction.specs.declared.Upto.{Upto}
+use Rattle.entry.specs.Upto.{uptoOf}
+use Rattle.entry.specs.declared.Upto.{Upto}
 use borrow.Author.Needs.{needs}
 use Rattle.compaction.proofs.inner.target.Statement.{statement}
 use Rattle.compaction.proofs.inner.target.Tie as tie

@@ -50,12 +50,6 @@ enum-known-command-6 c = search needs
 snap-requires : tie.Need-snap-requires
 snap-requires c κs = search needs
 
-enum-told-2 : tie.Need-enum-told-2
-enum-told-2 c = search needs
-
-snap-requires-2 : tie.Need-snap-requires-2
-snap-requires-2 c κs = search needs
-
 enum-known-command-7 : tie.Need-enum-known-command-7
 enum-known-command-7 c = search needs
 
@@ -68,8 +62,8 @@ enum-known-command-8 c = search needs
 trim-requires : tie.Need-trim-requires
 trim-requires c κs = search needs
 
-enum-told-3 : tie.Need-enum-told-3
-enum-told-3 c = search needs
+enum-told-2 : tie.Need-enum-told-2
+enum-told-2 c = search needs
 
 same-length : tie.Need-same-length
 same-length c = search needs
@@ -146,7 +140,6 @@ same-length-14 : tie.Need-same-length-14
 same-length-14 c = search needs
 
 returns-7 : tie.Need-returns-7
-unfolding answering
 returns-7 c =
     let a = c .before .before .before .before .before .before .before .before .before .before .before .before .args in
     c .before .before .before .before .snap .ensures ∙ sym (ap (λ (x : Command). answering x (raw (a .index) (now (a .log)) (now (a .snapshot)))) (c .before .before .before .before .before .before .before .before .command6 .given .1))
@@ -158,10 +151,9 @@ same-length-16 : tie.Need-same-length-16
 same-length-16 c = search needs
 
 returns-8 : tie.Need-returns-8
-unfolding answering
 returns-8 c =
-    let a = c .before .before .before .before .before .before .before .before .before .before .before .args in
-    c .before .before .before .before .snap2 .ensures ∙ sym (ap (λ (x : Command). answering x (raw (a .index) (now (a .log)) (now (a .snapshot)))) (c .before .before .before .before .before .before .before .enum-told2 .given .1))
+    let a = c .before .before .before .before .before .before .before .before .args in
+    c .stop .ensures ∙ sym (ap (λ (x : Command). answering x (raw (a .index) (now (a .log)) (now (a .snapshot)))) (c .before .before .before .before .command7 .given .1))
 
 same-length-17 : tie.Need-same-length-17
 same-length-17 c = search needs
@@ -171,25 +163,14 @@ same-length-18 c = search needs
 
 returns-9 : tie.Need-returns-9
 returns-9 c =
-    let a = c .before .before .before .before .before .before .before .before .args in
-    c .stop .ensures ∙ sym (ap (λ (x : Command). answering x (raw (a .index) (now (a .log)) (now (a .snapshot)))) (c .before .before .before .before .command7 .given .1))
-
-same-length-19 : tie.Need-same-length-19
-same-length-19 c = search needs
-
-same-length-20 : tie.Need-same-length-20
-same-length-20 c = search needs
-
-returns-10 : tie.Need-returns-10
-returns-10 c =
     let a = c .before .before .before .before .before .before .before .before .before .before .args in
     c .before .before .trim .ensures ∙ sym (ap (λ (x : Command). answering x (raw (a .index) (now (a .log)) (now (a .snapshot)))) (c .before .before .before .before .before .before .command8 .given .1))
 
-returns-11 : tie.Need-returns-11
+returns-10 : tie.Need-returns-10
 unfolding answering
-returns-11 c =
+returns-10 c =
     let a = c .before .before .before .before .args in
-    sym (ap (λ (x : Command). answering x (raw (a .index) (now (a .log)) (now (a .snapshot)))) (c .enum-told3 .given .1))
+    sym (ap (λ (x : Command). answering x (raw (a .index) (now (a .log)) (now (a .snapshot)))) (c .enum-told2 .given .1))
 
 pub carry-out-spec : {M : Type 1} → statement M
 carry-out-spec =
@@ -209,13 +190,11 @@ carry-out-spec =
     decide-requires
     enum-known-command-6
     snap-requires
-    enum-told-2
-    snap-requires-2
     enum-known-command-7
     stop-requires
     enum-known-command-8
     trim-requires
-    enum-told-3
+    enum-told-2
     same-length
     same-length-2
     returns
@@ -243,7 +222,4 @@ carry-out-spec =
     same-length-17
     same-length-18
     returns-9
-    same-length-19
-    same-length-20
-    returns-10
-    returns-11)
+    returns-10)

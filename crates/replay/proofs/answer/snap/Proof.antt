@@ -1,7 +1,7 @@
 -- `replay::answer::snap` meets its contract: the call's outcome is what is told.
 use Rattle.state_cache.specs.State.{raw}
 use Rattle.state_cache.specs.Run.{settled}
-use Rattle.replay.specs.Answering.{settledText}
+use Rattle.replay.specs.Answering.{settledText, answering}
 use Rattle.replay.proofs.Telling.{tells}
 use borrow.Author.Needs.{needs}
 use Rattle.replay.proofs.answer.snap.Statement.{statement}
@@ -20,6 +20,7 @@ same-length-2 : tie.Need-same-length-2
 same-length-2 c = search needs
 
 returns : tie.Need-returns
+unfolding answering
 returns c =
     let to = c .before .before .before .before .before .before .try-snapshot in
     tells settledText _ (settled (to .result .answer)) (raw (to .result .index) (to .last .1 .0) (to .last .1 .1 .0)) _ (to .ensures) (c .settled-line .ensures)

@@ -1,0 +1,50 @@
+-- `text::snap` meets its contract: `all`, or a number or none.
+use mathlib.Core.Path.{sym, _∙_}
+use Rattle.text.specs.Parse.{snapOf}
+use borrow.Author.Needs.{needs}
+use Rattle.text.proofs.snap.Statement.{statement}
+use Rattle.text.proofs.snap.Tie as tie
+
+slice-aggregate-same : tie.Need-slice-aggregate-same
+slice-aggregate-same c = search needs
+
+same-requires : tie.Need-same-requires
+same-requires c κs = search needs
+
+returns : tie.Need-returns
+unfolding snapOf
+returns c = rw (sym (c .before .same .ensures) ∙ c .if1 .taken)
+
+number-requires : tie.Need-number-requires
+number-requires c κs = search needs
+
+enum-known-n : tie.Need-enum-known-n
+enum-known-n c = search needs
+
+enum-told : tie.Need-enum-told
+enum-told c = search needs
+
+returns-2 : tie.Need-returns-2
+unfolding snapOf
+returns-2 c =
+    let n = c .before .before in
+    rw (sym (n .before .before .same .ensures) ∙ n .before .if1 .left, sym (n .number .ensures) ∙ c .enum-told .given .1)
+
+returns-3 : tie.Need-returns-3
+unfolding snapOf
+returns-3 c =
+    let n = c .before .before .before in
+    rw (sym (n .before .before .same .ensures) ∙ n .before .if1 .left, sym (n .number .ensures) ∙ c .before .n .given .1)
+
+pub snap-spec : {M : Type 1} → statement M
+snap-spec =
+    tie.close
+    (tie.spec
+    slice-aggregate-same
+    same-requires
+    returns
+    number-requires
+    enum-known-n
+    enum-told
+    returns-2
+    returns-3)

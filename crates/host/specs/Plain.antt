@@ -7,6 +7,7 @@ use lib.ListN.{length}
 use Rattle.entry.specs.Guards.{Answer, refused, replied}
 use Rattle.snapshot.specs.Calls.{Outcome as Fold}
 use Rattle.model.specs.Append.{Flushed}
+use Rattle.model.specs.Read.{Span}
 use Rattle.model.specs.Diff.{plain as given, complete, delta}
 use Rattle.model.specs.Calls.{Diff}
 use Rattle.state_cache.specs.State.{Raw, oneIf}
@@ -39,6 +40,10 @@ maybeNumber (some n) = tells 1 n 0
 abbrev pub maybeFlushed : Option Flushed → Said
 maybeFlushed none = tells 0 0 0
 maybeFlushed (some f) = tells 1 (f .accepted) (f .count)
+
+-- a part of the lent log: its first entry, and how many
+abbrev pub aSpan : Span → Said
+aSpan p = tells 1 (p .first) (length (p .entries))
 
 abbrev pub aDiff : Diff → Said
 aDiff d = elim (d .given) [ given ↦ tells 1 0 (d .upto) | complete s ↦ tells 2 (length s) (d .upto) | delta s ↦ tells 3 (length s) (d .upto) ]

@@ -26,11 +26,14 @@ ghost use Prim.Native.Nat.{ℕ};
 ghost use Rattle.entry.specs.Guards.{refusedBy};
 ghost use Rattle.entry.specs.Refusals.{numberOf, carriedOf};
 ghost use Rattle.snapshot.specs.Calls.{found, folded};
+ghost use Rattle.state_cache.specs.State.{Raw};
 ghost use Rattle.state_cache.specs.Run.{settled, accepted, flag};
 ghost use Rattle.internal_storage.specs.Replies.{appended, acceptedIdx};
 ghost use Rattle.diff.specs.Replies.{diffSaid};
-ghost use Rattle.host.specs.Plain.{tells, plain, nothing, aNumber, aFlag, maybeNumber, maybeFlushed, aDiff};
-ghost use Rattle.host.specs.Reads.{shownAt, noneShown, markedAs, shownAs, spanAs};
+ghost use Rattle.reading.specs.Replies.{spanSays, markerSaid, shownSaid, readSaid};
+ghost use Rattle.host.specs.Plain.{tells, plain};
+ghost use Rattle.host.specs.Plain.{nothing, aNumber, aFlag, maybeNumber, maybeFlushed, aSpan, aDiff};
+ghost use Rattle.host.specs.Reads.{marked, noneShown, markedAs, shownAs};
 ghost use Rattle.host.specs.Requests.{orderAs};
 
 fn tell(told: u64, first: u64, second: u64) -> Said
@@ -181,7 +184,7 @@ pub(crate) fn diff_said(answer: Diff) -> Said
 
 // A part of the lent log: its first entry, and how many.
 pub(crate) fn span_said(answer: Span) -> Said
-    ensures { λ s. ⌜ s ≡ spanAs answer ⌝ }
+    ensures { λ s. ⌜ ((log : List ℕ) → s ≡ plain aSpan (spanSays log answer)) ⌝ }
 {
     match answer {
         Span::Run { first, count } => tell(1, first as u64, count as u64),
@@ -202,7 +205,7 @@ pub(crate) fn order_said(o: Ordering) -> u64
 // ---- reads
 
 fn show(marker: u64, index: u64, keys: usize, r: ShownRun) -> ShownSaid
-    ensures { λ s. ⌜ s ≡ shownAt marker index keys r ⌝ }
+    ensures { λ s. ⌜ ((x : Raw) → s ≡ marked marker index keys (shownSaid x r)) ⌝ }
 {
     ShownSaid {
         number: 0,
@@ -238,7 +241,7 @@ fn show_none(number: u64, carried: u64) -> ShownSaid
 }
 
 fn run_said(r: ShownRun) -> ShownSaid
-    ensures { λ s. ⌜ s ≡ markedAs (r .marker) r ⌝ }
+    ensures { λ s. ⌜ ((x : Raw) → s ≡ markedAs (markerSaid (x .snapshot) (r .marker)) (shownSaid x r)) ⌝ }
 {
     let m = r.marker;
     match m {
@@ -255,7 +258,7 @@ fn refusal_said(x: Refusal) -> ShownSaid
 }
 
 pub(crate) fn read_said(a: ReadReply) -> ShownSaid
-    ensures { λ s. ⌜ s ≡ shownAs a ⌝ }
+    ensures { λ s. ⌜ ((x : Raw) → s ≡ shownAs (readSaid x a)) ⌝ }
 {
     match a {
         ReadReply::Nothing => show_none(0, 0),

@@ -19,17 +19,18 @@ ghost use mathlib.Core.Bool.{true};
 ghost use mathlib.Core.List.{[], _∷_};
 ghost use Rattle.entry.specs.Limits.{lastWord};
 ghost use Rattle.entry.specs.Change.{entriesIn, wholeIn};
-ghost use Rattle.model.specs.Numbers.{endOf, acceptedOf, stopDecided, logDecided};
+ghost use Rattle.model.specs.Numbers.{acceptedOf, stopDecided, logDecided};
 ghost use Rattle.model.specs.Read.{included, excluded};
-ghost use Rattle.model.specs.Calls.{query, lookup as lookupCall, append, appendNow, flush, flushEntries, appendStop, setStop, setPromise, decide, trim};
-ghost use Rattle.state_cache.specs.State.{raw, numbersIn, Ready};
+ghost use Rattle.model.specs.Calls.{query, read, readDecided, getEntries, getSuffix, lookup as lookupCall};
+ghost use Rattle.model.specs.Calls.{append, appendNow, flush, flushEntries, appendStop, setStop};
+ghost use Rattle.model.specs.Calls.{setPromise, decide, trim};
+ghost use Rattle.state_cache.specs.State.{raw, Ready};
 ghost use Rattle.state_cache.specs.Run.{run, ofNumbers};
-ghost use Rattle.reading.specs.Parts.{spanReply};
-ghost use Rattle.reading.specs.Numbered.{rangeReply, decidedReply};
 ghost use Rattle.internal_storage.specs.Replies.{asked as askedSign, withIndexOnly};
-ghost use Rattle.host.specs.Plain.{plain, nothing, aNumber, aFlag, maybeNumber, maybeFlushed, left, plainly};
+ghost use Rattle.host.specs.Plain.{plain, left, plainly};
+ghost use Rattle.host.specs.Plain.{nothing, aNumber, aFlag, maybeNumber, maybeFlushed, aSpan};
 ghost use Rattle.host.specs.Requests.{endAt, lentSaid};
-ghost use Rattle.host.specs.Reads.{shownAs, spanAs};
+ghost use Rattle.host.specs.Reads.{shownAs};
 
 #[no_mangle]
 pub extern "C" fn kotuseraw_inner_lookup(
@@ -53,7 +54,9 @@ pub extern "C" fn kotuseraw_inner_read(
     to: PlainBound,
 ) -> ShownSaid
     requires { ⌜ Ready (raw index (now log) (now snapshot)) ⌝ }
-    ensures { λ s. ⌜ s ≡ shownAs (rangeReply (endAt (excluded lastWord) from) (endAt (included lastWord) to) (raw index (now (log .entry)) (now (snapshot .entry)))) ⌝ }
+    ensures { λ s. ⌜ s
+        ≡ shownAs (run (query (read (endAt (excluded lastWord) from) (endAt (included lastWord) to))) true
+        (raw index (now (log .entry)) (now (snapshot .entry))) .answer) ⌝ }
 {
     let start = asked::start_of(from);
     let stop = asked::stop_of(to);
@@ -68,7 +71,9 @@ pub extern "C" fn kotuseraw_inner_read_decided_suffix(
     from: LogIndex,
 ) -> ShownSaid
     requires { ⌜ Ready (raw index (now log) (now snapshot)) ⌝ }
-    ensures { λ s. ⌜ s ≡ shownAs (decidedReply (from .0) (raw index (now (log .entry)) (now (snapshot .entry)))) ⌝ }
+    ensures { λ s. ⌜ s
+        ≡ shownAs (run (query (readDecided (from .0))) true
+        (raw index (now (log .entry)) (now (snapshot .entry))) .answer) ⌝ }
 {
     answers::read_said(reading::inner::read_decided_suffix_reply(index, log, snapshot, from))
 }
@@ -82,7 +87,9 @@ pub extern "C" fn kotuseraw_inner_get_entries(
     to: LogIndex,
 ) -> Said
     requires { ⌜ Ready (raw index (now log) (now snapshot)) ⌝ }
-    ensures { λ s. ⌜ s ≡ spanAs (spanReply (from .0) (to .0) (raw index (now (log .entry)) (now (snapshot .entry)))) ⌝ }
+    ensures { λ s. ⌜ s
+        ≡ plain aSpan (run (query (getEntries (from .0) (to .0))) true
+        (raw index (now (log .entry)) (now (snapshot .entry))) .answer) ⌝ }
 {
     answers::span_said(reading::inner::get_entries_reply(index, log, snapshot, from, to))
 }
@@ -95,7 +102,9 @@ pub extern "C" fn kotuseraw_inner_get_suffix(
     from: LogIndex,
 ) -> Said
     requires { ⌜ Ready (raw index (now log) (now snapshot)) ⌝ }
-    ensures { λ s. ⌜ s ≡ spanAs (spanReply (from .0) (endOf (numbersIn index)) (raw index (now (log .entry)) (now (snapshot .entry)))) ⌝ }
+    ensures { λ s. ⌜ s
+        ≡ plain aSpan (run (query (getSuffix (from .0))) true
+        (raw index (now (log .entry)) (now (snapshot .entry))) .answer) ⌝ }
 {
     answers::span_said(reading::inner::get_suffix_reply(index, log, snapshot, from))
 }

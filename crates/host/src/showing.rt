@@ -1,5 +1,5 @@
-// The calls that read a log and change nothing. A part of the lent log is told by its first entry and its count; the functions that copy one
-// out are for callers that keep no pointer into the log.
+// The calls that read a log and change nothing. A part of the lent log is told by its first entry and its count; the
+// functions that copy one out are for callers that keep no pointer into the log.
 use super::PlainBound;
 use super::Said;
 use super::ShownSaid;
@@ -15,17 +15,15 @@ ghost use mathlib.Core.Bool.{true};
 ghost use mathlib.Core.List.{List};
 ghost use Prim.Native.Nat.{ℕ};
 ghost use Rattle.entry.specs.Limits.{lastWord};
-ghost use Rattle.model.specs.Numbers.{endOf};
 ghost use Rattle.model.specs.Read.{included, excluded};
-ghost use Rattle.model.specs.Calls.{query, lookup as lookupCall};
-ghost use Rattle.state_cache.specs.State.{raw, numbersIn};
+ghost use Rattle.model.specs.Calls.{query, read, readDecided, getEntries, getSuffix, lookup as lookupCall};
+ghost use Rattle.state_cache.specs.State.{Raw, raw};
 ghost use Rattle.state_cache.specs.Run.{run};
-ghost use Rattle.reading.specs.Parts.{part, spanReply};
-ghost use Rattle.reading.specs.Replies.{shownPart};
-ghost use Rattle.reading.specs.Numbered.{rangeReply, decidedReply};
-ghost use Rattle.host.specs.Plain.{plain, maybeNumber};
+ghost use Rattle.reading.specs.Parts.{part};
+ghost use Rattle.reading.specs.Replies.{readSaid, partShown};
+ghost use Rattle.host.specs.Plain.{plain, maybeNumber, aSpan};
 ghost use Rattle.host.specs.Requests.{endAt};
-ghost use Rattle.host.specs.Reads.{shownAs, shownBy, spanAs, copied, copiedOut};
+ghost use Rattle.host.specs.Reads.{shownAs, shownBy, copied, copiedOut};
 
 #[no_mangle]
 pub extern "C" fn kotuseraw_lookup(
@@ -47,7 +45,9 @@ pub extern "C" fn kotuseraw_read(
     from: PlainBound,
     to: PlainBound,
 ) -> ShownSaid
-    ensures { λ s. ⌜ s ≡ shownAs (rangeReply (endAt (excluded lastWord) from) (endAt (included lastWord) to) (raw index (now (log .entry)) (now (snapshot .entry)))) ⌝ }
+    ensures { λ s. ⌜ s
+        ≡ shownAs (run (query (read (endAt (excluded lastWord) from) (endAt (included lastWord) to))) true
+        (raw index (now (log .entry)) (now (snapshot .entry))) .answer) ⌝ }
 {
     let start = asked::start_of(from);
     let stop = asked::stop_of(to);
@@ -61,7 +61,9 @@ pub extern "C" fn kotuseraw_read_decided_suffix(
     snapshot: &[u64],
     from: LogIndex,
 ) -> ShownSaid
-    ensures { λ s. ⌜ s ≡ shownAs (decidedReply (from .0) (raw index (now (log .entry)) (now (snapshot .entry)))) ⌝ }
+    ensures { λ s. ⌜ s
+        ≡ shownAs (run (query (readDecided (from .0))) true
+        (raw index (now (log .entry)) (now (snapshot .entry))) .answer) ⌝ }
 {
     answers::read_said(reading::read_decided_suffix_reply(index, log, snapshot, from))
 }
@@ -74,7 +76,9 @@ pub extern "C" fn kotuseraw_get_entries(
     from: LogIndex,
     to: LogIndex,
 ) -> Said
-    ensures { λ s. ⌜ s ≡ spanAs (spanReply (from .0) (to .0) (raw index (now (log .entry)) (now (snapshot .entry)))) ⌝ }
+    ensures { λ s. ⌜ s
+        ≡ plain aSpan (run (query (getEntries (from .0) (to .0))) true
+        (raw index (now (log .entry)) (now (snapshot .entry))) .answer) ⌝ }
 {
     answers::span_said(reading::get_entries_reply(index, log, snapshot, from, to))
 }
@@ -86,7 +90,9 @@ pub extern "C" fn kotuseraw_get_suffix(
     snapshot: &[u64],
     from: LogIndex,
 ) -> Said
-    ensures { λ s. ⌜ s ≡ spanAs (spanReply (from .0) (endOf (numbersIn index)) (raw index (now (log .entry)) (now (snapshot .entry)))) ⌝ }
+    ensures { λ s. ⌜ s
+        ≡ plain aSpan (run (query (getSuffix (from .0))) true
+        (raw index (now (log .entry)) (now (snapshot .entry))) .answer) ⌝ }
 {
     answers::span_said(reading::get_suffix_reply(index, log, snapshot, from))
 }
@@ -115,7 +121,7 @@ pub extern "C" fn kotuseraw_entries_of(
 
 // The reply that a read's answer stands for, as far as it shows entries.
 fn reply_of(shown: ShownSaid) -> ReadReply
-    ensures { λ r. ⌜ ((log : List ℕ) → shownPart r log ≡ shownBy shown log) ⌝ }
+    ensures { λ r. ⌜ ((x : Raw) (log : List ℕ) → partShown (readSaid x r) log ≡ shownBy shown log) ⌝ }
 {
     if shown.told == 1 {
         let run = ShownRun {
@@ -151,7 +157,10 @@ pub extern "C" fn kotuseraw_read_entries(
     out: &mut [u64],
 ) -> usize
     ensures { λ n. ⌜ copied n (now (out .exit))
-        ≡ copiedOut (shownPart (rangeReply (endAt (excluded lastWord) from) (endAt (included lastWord) to) (raw index (now (log .entry)) (now (snapshot .entry)))) (now (log .entry))) (now (out .entry)) ⌝ }
+        ≡ copiedOut
+        (partShown (run (query (read (endAt (excluded lastWord) from) (endAt (included lastWord) to))) true
+        (raw index (now (log .entry)) (now (snapshot .entry))) .answer) (now (log .entry)))
+        (now (out .entry)) ⌝ }
 {
     let start = asked::start_of(from);
     let stop = asked::stop_of(to);

@@ -14,23 +14,23 @@ use Rattle.words.specs.If.{if_then_else_}
 use Rattle.entry.specs.Change.{Change}
 use Rattle.model.specs.Numbers.{endOf, acceptedOf}
 use Rattle.model.specs.Log.{Log, numbersOf}
-use Rattle.model.specs.Read.{Shown, shown, markerOf, emptyRun, fullRun, readFrom, shownAt}
+use Rattle.model.specs.Read.{noSpan, Shown, shown, markerOf, emptyRun, fullRun, readFrom, shownAt}
 
 -- a read that shows an entry shows a full run
-full : (from to : ℕ) (s : Log) (v : Shown) → readFrom from to s ≡ some v → 0 < length (v .entries) → v ≡ fullRun from to s
+full : (from to : ℕ) (s : Log) (v : Shown) → readFrom from to s ≡ some v → 0 < length (v .part .entries) → v ≡ fullRun from to s
 unfolding readFrom
 full from to s v e h =
     go (eqb to 0) (leb to (s .run .compacted)) (ltb (acceptedOf (numbersOf s)) to || leb (acceptedOf (numbersOf s)) from) (leb to from) e
   where
-    none-shown : (x : Shown) → some x ≡ some v → x .entries ≡ [] → v ≡ fullRun from to s
-    none-shown x q z = let w : x ≡ v = cc in absurd (omega (arith, ap length z, ap (λ (y : Shown). length (y .entries)) w))
+    none-shown : (x : Shown) → some x ≡ some v → x .part .entries ≡ [] → v ≡ fullRun from to s
+    none-shown x q z = let w : x ≡ v = cc in absurd (omega (arith, ap length z, ap (λ (y : Shown). length (y .part .entries)) w))
 
     nothing : none ≡ some v → v ≡ fullRun from to s
     nothing q = let z : _≡_ {A = ℕ} 0 1 = cc in absurd (omega arith)
 
     go : (a b c d : Bool)
         → (if a then none
-        else if b then some (shown (some (markerOf (s .run))) [] 0 none false)
+        else if b then some (shown (some (markerOf (s .run))) noSpan 0 none false)
         else if c then none
         else if d then some emptyRun
         else some (fullRun from to s)) ≡ some v
@@ -41,7 +41,7 @@ full from to s v e h =
     go false false false true q = none-shown _ q refl
     go false false false false q = cc
 
-module _ (from to : ℕ) (s : Log) (v : Shown) (e : readFrom from to s ≡ some v) (j : ℕ) (h : j < length (v .entries)) where
+module _ (from to : ℕ) (s : Log) (v : Shown) (e : readFrom from to s ≡ some v) (j : ℕ) (h : j < length (v .part .entries)) where
   run : v ≡ fullRun from to s
   run = full from to s v e (omega arith)
 
@@ -56,13 +56,13 @@ module _ (from to : ℕ) (s : Log) (v : Shown) (e : readFrom from to s ≡ some 
   unfolding fullRun
   inside =
       let t : List Change = drop (first - s .run .compacted) (s .run .retained) in
-      omega (arith, ap (λ (x : Shown). length (x .entries)) run, length-take (last - first) t)
+      omega (arith, ap (λ (x : Shown). length (x .part .entries)) run, length-take (last - first) t)
 
-  pub each-held : (d : Change) → getD (v .entries) j d ≡ getD (s .run .retained) (shownAt from (s .run) j - s .run .compacted) d
+  pub each-held : (d : Change) → getD (v .part .entries) j d ≡ getD (s .run .retained) (shownAt from (s .run) j - s .run .compacted) d
   unfolding fullRun
   each-held d =
       let i : first - s .run .compacted + j ≡ shownAt from (s .run) j - s .run .compacted = omega arith in
-      ap (λ (x : Shown). getD (x .entries) j d) run
+      ap (λ (x : Shown). getD (x .part .entries) j d) run
       ∙ getD-take (last - first) (drop (first - s .run .compacted) (s .run .retained)) j d (omega (arith, inside))
       ∙ getD-drop (first - s .run .compacted) (s .run .retained) j d
       ∙ ap (λ (k : ℕ). getD (s .run .retained) k d) i

@@ -13,7 +13,8 @@ use Rattle.model.specs.Numbers.{Numbers, acceptedOf, logDecided}
 use Rattle.model.specs.Log.{Log, given, ifGiven, numbersOf, wellFormed, deciding, promising, withMarks}
 use Rattle.model.specs.Append.{appendGuards, appendStopGuards, setStopGuards, appended, appendedNow, flushed, stopAppended, stopSet, reloaded, Flushed, appendReply, flushReply}
 use Rattle.model.specs.Backend.{Op, Lent, opsFormed, writeGuards, written}
-use Rattle.model.specs.Read.{Bound, startPast, stopPast, Shown, readReply, decidedSuffix, entriesBetween, suffixFrom}
+use Rattle.model.specs.Read.{Bound, startPast, stopPast, Span, Shown}
+use Rattle.model.specs.Read.{readReply, decidedSuffix, entriesBetween, suffixFrom}
 use Rattle.model.specs.Compact.{trimGuards, snapshotGuards, createGuards, created, trimmedTo, snapshotTo}
 use Rattle.model.specs.Diff.{Given, diffOf, diffGuards}
 use Rattle.model.specs.Sync.{Part, partFormed, partGuards, roundGuards, marksThen, partSynced}
@@ -50,11 +51,11 @@ pub record Diff : Type 0 where
 abbrev pub QueryReply : Query → Type 0
 QueryReply (read a b) = Option Shown
 QueryReply (readDecided i) = Option Shown
-QueryReply (getSuffix i) = List Change
+QueryReply (getSuffix i) = Span
 QueryReply (create i) = List Change
 QueryReply (diff i) = Diff
 QueryReply (lookup k) = Option ℕ
-QueryReply (getEntries i j) = List Change
+QueryReply (getEntries i j) = Span
 
 abbrev pub Reply : Call → Type 0
 Reply (query q) = QueryReply q

@@ -11,7 +11,7 @@ use Rattle.entry.specs.declared.StopSign.{StopSign}
 use Rattle.snapshot.specs.Folds.{fold}
 use Rattle.model.specs.Log.{Log, noBallot, withRun, freshLog}
 use Rattle.model.specs.Append.{Flushed}
-use Rattle.model.specs.Read.{included, excluded, trimmed, Shown, shown, emptyRun}
+use Rattle.model.specs.Read.{included, excluded, trimmed, span, noSpan, Shown, shown, emptyRun}
 use Rattle.model.specs.Calls.{read, query, append, trim, answerTo, stateAfter}
 
 abbrev pub put : ℕ → ℕ → Change
@@ -35,7 +35,8 @@ sign7 = record {
 abbrev pub three : List Change
 three = put 9 100 ∷ put 4 200 ∷ del 9 ∷ []
 
--- "Log L: compacted 2, no snapshot (its marker is trimmed 2), entries 2 to 4, decided 4, stop-sign, accepted 6", with its decided index
+-- "Log L: compacted 2, no snapshot (its marker is trimmed 2), entries 2 to 4, decided 4, stop-sign, accepted 6",
+-- with its decided index
 unfoldable pub logL : ℕ → Log
 logL d = record {
   run = record { compacted = 2; retained = three; held = none };
@@ -65,10 +66,10 @@ trimCase i a s = record { seen = trims (answerTo (trim i) (logL 6)) (stateAfter 
 abbrev pub table : List Case
 table =
     readCase 0 0 none
-    ∷ readCase 9 2 (some (shown (some (trimmed 2)) [] 0 none false))
-    ∷ readCase 2 5 (some (shown none three 2 none false))
-    ∷ readCase 0 6 (some (shown (some (trimmed 2)) three 2 (some sign7) false))
-    ∷ readCase 5 6 (some (shown none [] 0 (some sign7) false))
+    ∷ readCase 9 2 (some (shown (some (trimmed 2)) noSpan 0 none false))
+    ∷ readCase 2 5 (some (shown none (span 0 three) 2 none false))
+    ∷ readCase 0 6 (some (shown (some (trimmed 2)) (span 0 three) 2 (some sign7) false))
+    ∷ readCase 5 6 (some (shown none (span 3 []) 0 (some sign7) false))
     ∷ readCase 5 5 (some emptyRun)
     ∷ readCase 4 3 (some emptyRun)
     ∷ readCase 2 7 none
@@ -77,7 +78,10 @@ table =
     ∷ trimCase 7 (refused 2 6) (logL 6)
     ∷ record { seen = folds (fold three); due = folds (put 4 200 ∷ del 9 ∷ []) }
     ∷ record {
-      seen = appends (answerTo (append (put 9 100 ∷ [])) (freshLog 0)) (stateAfter (append (put 9 100 ∷ [])) (freshLog 0));
-      due = appends (replied (some (record { accepted = 1; count = 1 }))) (withRun (record { compacted = 0; retained = put 9 100 ∷ []; held = none }) (freshLog 0));
+      seen =
+          appends (answerTo (append (put 9 100 ∷ [])) (freshLog 0)) (stateAfter (append (put 9 100 ∷ [])) (freshLog 0));
+      due =
+          appends (replied (some (record { accepted = 1; count = 1 })))
+          (withRun (record { compacted = 0; retained = put 9 100 ∷ []; held = none }) (freshLog 0));
     }
     ∷ []

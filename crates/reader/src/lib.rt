@@ -7,8 +7,7 @@ ghost use mathlib.Core.Bool.{true};
 ghost use Rattle.model.specs.Calls.{query, read as readCall};
 ghost use Rattle.state_cache.specs.State.{raw};
 ghost use Rattle.state_cache.specs.Run.{run};
-ghost use Rattle.reading.specs.Replies.{boundOf, readSaid, shownPart, shownPartAt};
-ghost use Rattle.reading.specs.Numbered.{rangeReply};
+ghost use Rattle.reading.specs.Replies.{boundOf, readSaid, partShown, partShownAt};
 
 pub struct Shown<'a> {
     pub entries: &'a [u64],
@@ -32,10 +31,15 @@ pub fn read<'a>(
     from: Bound,
     to: Bound,
 ) -> Shown<'a>
-    ensures { λ r. ⌜ (readSaid (raw index (now (log .entry)) (now (snapshot .entry))) (r .reply) ≡ run (query (readCall (boundOf from) (boundOf to))) true (raw index (now (log .entry)) (now (snapshot .entry))) .answer)
-        × (r .reply ≡ rangeReply (boundOf from) (boundOf to) (raw index (now (log .entry)) (now (snapshot .entry))))
-        × (now (r .entries) ≡ shownPart (r .reply) (now (log .entry)))
-        × (r .entries .ptr ≡ shownPartAt (r .reply) (now (log .entry)) (log .entry .ptr)) ⌝ }
+    ensures { λ r. ⌜ (readSaid (raw index (now (log .entry)) (now (snapshot .entry))) (r .reply)
+        ≡ run (query (readCall (boundOf from) (boundOf to))) true
+        (raw index (now (log .entry)) (now (snapshot .entry))) .answer)
+        × (now (r .entries)
+        ≡ partShown (run (query (readCall (boundOf from) (boundOf to))) true
+        (raw index (now (log .entry)) (now (snapshot .entry))) .answer) (now (log .entry)))
+        × (r .entries .ptr
+        ≡ partShownAt (run (query (readCall (boundOf from) (boundOf to))) true
+        (raw index (now (log .entry)) (now (snapshot .entry))) .answer) (now (log .entry)) (log .entry .ptr)) ⌝ }
 {
     let reply = reading::read_reply(index, log, snapshot, from, to);
     let entries = reading::entries_shown(log, reply);

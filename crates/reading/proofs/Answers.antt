@@ -1,5 +1,6 @@
 -- The answer of a call that changes nothing: refusals 12 and 11, and the reply.
-use mathlib.Core.Path.{_≡_, refl, sym, ap}
+use Prim.Native.Nat.{ℕ}
+use mathlib.Core.Path.{_≡_, refl, sym, ap, subst}
 use mathlib.Core.Bool.{Bool, true, false}
 use mathlib.Core.List.{[]}
 use Rattle.entry.specs.Guards.{Verdict, passes, refuses, first, Answer, refused, replied}
@@ -24,6 +25,16 @@ module _ (q : Query) (r : Raw) where
     pub answer-is : queryMalformed q ≡ false → queryGuards q (logOf r) ≡ [] → (y : QueryReply q) → y ≡ queryReply q (logOf r) → replied y ≡ run (query q) true r .answer
     unfolding malformed further effect replyOf first
     answer-is m g y e = ap answerOf (call-stands (query q) r ok m (rw g) y r e (stands-of r ok))
+
+-- what holds of every refusal and of the reply of a call that stands holds of its answer
+pub answered : (q : Query) (r : Raw) (P : Answer (QueryReply q) → Type 0) → ((n k : ℕ) → P (refused n k))
+    → (formed r ≡ true → queryMalformed q ≡ false → P (run (query q) true r .answer)) → P (run (query q) true r .answer)
+answered q r P refusals stands = go (formed r) (queryMalformed q) refl refl
+  where
+    go : (a b : Bool) → formed r ≡ a → queryMalformed q ≡ b → P (run (query q) true r .answer)
+    go false b e m = subst P (ill-formed-answer q r e) (refusals 12 0)
+    go true true e m = subst P (bad-answer q r e m) (refusals 11 0)
+    go true false e m = stands e m
 
 -- such a call leaves the record and every lent word as they were
 pub query-keeps : (q : Query) (r : Raw) → run (query q) true r .after ≡ r

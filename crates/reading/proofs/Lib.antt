@@ -2,3 +2,4 @@ pub mod Answers
 pub mod Looking
 pub mod Showing
 pub mod Replying
+pub mod Unique

@@ -1,42 +1,42 @@
--- The reply by numbers: its cases as the code takes them, and that it says what the model's read shows.
+-- The reply by numbers: its cases as the code takes them, that it says what the model's read shows, and that the part that it names
+-- lies in the lent log.
 use Prim.Native.Nat.{ℕ, _+_, _-_, _<_, _≤_, min, max}
 use native.Mathlib.Omega.{arith}
-use mathlib.Core.Path.{_≡_, refl, sym, ap, ap₂, _∙_}
+use mathlib.Core.Path.{_≡_, refl, sym, ap, ap₂, subst, _∙_}
 use mathlib.Core.Bool.{Bool, true, false, _&&_, _||_}
-use mathlib.Core.List.{List, []}
+use mathlib.Core.List.{List}
 use mathlib.Core.Option.{Option, none, some}
 use borrow.Author.Tests.{eq-eqb, ne-eqb, le-leb, lt-leb, leb-false, lt-ltb, le-ltb, ltb-true, ltb-false}
 use lib.Dec.{ltb, leb, eqb}
-use lib.ListN.{take, drop}
+use lib.ListN.{length, take, drop}
 use Rattle.words.specs.If.{if_then_else_}
 use Rattle.words.specs.Coded.{entriesAt}
-use Rattle.words.proofs.Tests.{or-left}
-use Rattle.entry.specs.Change.{Change, entriesOf}
-use Rattle.entry.specs.Guards.{replied}
-use Rattle.entry.specs.declared.Refusal.the-variants.{Malformed, IllFormed}
+use Rattle.words.proofs.Tests.{or-left, or-right, either}
+use Rattle.entry.specs.Change.{entriesOf, entriesIn}
+use Rattle.entry.specs.Guards.{Answer, refused, replied}
 use Rattle.entry.specs.declared.LogIndex.{LogIndex}
 use Rattle.entry.specs.declared.StopSign.{StopSign}
 use Rattle.model.specs.Numbers.{Numbers, endOf, acceptedOf, stopDecided}
-use Rattle.model.specs.Read.{Bound, startAt, stopAt, startPast, stopPast, Marker, trimmed, snapshotted, markerOf, Shown, shown, emptyRun, between, fullRun, readFrom, readReply, decidedSuffix}
-use Rattle.model.specs.Calls.{query, read, readDecided, queryReply, queryGuards}
-use Rattle.state_cache.specs.State.{Raw, numbersIn, formed, logOf, Ready}
+use Rattle.model.specs.Read.{Bound, startAt, stopAt, startPast, stopPast, Marker, trimmed, snapshotted, markerOf, Span, span, noSpan, Shown, shown, emptyRun, spanBetween, fullRun, readFrom, readReply, decidedSuffix}
+use Rattle.model.specs.Calls.{query, read, readDecided, getEntries, getSuffix, queryReply, queryGuards}
+use Rattle.state_cache.specs.State.{Raw, numbersIn, logOf, Ready}
 use Rattle.state_cache.specs.Run.{run}
 use Rattle.state_cache.specs.declared.IndexRecord.{IndexRecord}
-use Rattle.state_cache.proofs.Stands.{ready-of}
 use Rattle.state_cache.proofs.Small.{accepted-le, end-le}
-use Rattle.reading.specs.Parts.{shownIn}
-use Rattle.reading.specs.Replies.{markerSaid, shownSaid, readSaid}
-use Rattle.reading.specs.Kinds.{entryIs}
-use Rattle.reading.specs.Numbered.{markerIn, markerAt, runOfNone, runOf, replyOf, rangeReply, decidedReply}
+use Rattle.state_cache.proofs.Stands.{ready-of}
+use Rattle.reading.specs.Parts.{part}
+use Rattle.reading.specs.Replies.{lentSpan, spanSays, markerSaid, shownSaid, readSaid}
+use Rattle.reading.specs.Inner.{entryIs, spanIn, markerIn, markerAt, runOfNone, runOf, readIn}
+use Rattle.reading.specs.declared.Span.{Span as CodeSpan}
 use Rattle.reading.specs.declared.Marker.{Marker as CodeMarker}
 use Rattle.reading.specs.declared.Marker.the-variants.{None, Trimmed, Snapshot}
 use Rattle.reading.specs.declared.ShownRun.{ShownRun}
 use Rattle.reading.specs.declared.ReadReply.{ReadReply}
-use Rattle.reading.specs.declared.ReadReply.the-variants.{Nothing, Run, Refused}
+use Rattle.reading.specs.declared.ReadReply.the-variants.{Nothing, Run}
 use Rattle.reading.specs.declared.inner.IndexEntry.{IndexEntry}
 use Rattle.reading.specs.declared.inner.IndexEntry.the-variants.{Compacted, Entry, StopSign as StopEntry}
-use Rattle.reading.proofs.Answers.{ill-formed-answer, bad-answer, answer-is}
-use Rattle.reading.proofs.Showing.{shown-is, room, numbers}
+use Rattle.reading.proofs.Answers.{answer-is, answered}
+use Rattle.reading.proofs.Showing.{part-entries, lent-count, shown-is, held, room, numbers, entries-answer, suffix-answer as end-answer}
 
 -- ---- the cases as the code takes them
 
@@ -55,11 +55,11 @@ pub marker-bare : (x : IndexRecord) → x .«snapshot_held» ≡ false → Trimm
 marker-bare x e = sym (ap (λ (b : Bool). if b then Snapshot (x .compacted) (x .keys) else Trimmed (x .compacted)) e)
 
 -- a run from the numbers that the code finds one after another
-module _ (x : IndexRecord) (from to : ℕ) (m : CodeMarker) (start far end near known last count decided : ℕ) (told : Bool) where
+module _ (x : IndexRecord) (from to : ℕ) (m : CodeMarker) (start far end near known last count decided : ℕ) (stopped : Bool) where
   pub run-is : m ≡ (if ltb from (x .compacted .0) then markerIn x else None)
       → start ≡ from - x .compacted .0 → far ≡ to - x .compacted .0 → end ≡ min far (x .retained) → near ≡ x .decided .0 - x .compacted .0 → known ≡ min end near
-      → last ≡ acceptedOf (numbersIn x) → told ≡ stopDecided (numbersIn x) → count ≡ end - start → decided ≡ known - start
-      → _≡_ {A = ShownRun} (record { marker = m; first = start; count = count; decided = decided; stop = eqb to last && x .«stop_held»; «stop_decided» = eqb to last && told }) (runOf from to x)
+      → last ≡ acceptedOf (numbersIn x) → stopped ≡ stopDecided (numbersIn x) → count ≡ end - start → decided ≡ known - start
+      → _≡_ {A = ShownRun} (record { marker = m; first = start; count = count; decided = decided; stop = eqb to last && x .«stop_held»; «stop_decided» = eqb to last && stopped }) (runOf from to x)
   run-is p₁ p₂ p₃ p₄ p₅ p₆ p₇ p₈ p₉ p₁₀ = rw (p₉, p₁₀, p₆, p₄, p₃, p₅, p₂, p₇, p₈, p₁)
 
 pub held-below : (n : Numbers) (i : ℕ) (e : IndexEntry) → entryIs n i e → i < acceptedOf n
@@ -84,33 +84,33 @@ module _ (x : IndexRecord) (from to : ℕ) where
   abbrev n : Numbers
   n = numbersIn x
 
-  pub case-zero : to ≡ 0 → Nothing ≡ replyOf from to x
-  unfolding replyOf
+  pub case-zero : to ≡ 0 → Nothing ≡ readIn from to x
+  unfolding readIn
   case-zero h = sym (rw (eq-eqb to 0 h))
 
   module _ (z : to ≡ 0 → ⊥) where
-    pub case-marker : to - 1 < x .compacted .0 → Run (runOfNone (markerIn x)) ≡ replyOf from to x
-    unfolding replyOf
+    pub case-marker : to - 1 < x .compacted .0 → Run (runOfNone (markerIn x)) ≡ readIn from to x
+    unfolding readIn
     case-marker h = sym (rw (ne-eqb to 0 z, le-leb to (x .compacted .0) (omega arith)))
 
-    pub case-past : acceptedOf n ≤ to - 1 → Nothing ≡ replyOf from to x
-    unfolding replyOf
+    pub case-past : acceptedOf n ≤ to - 1 → Nothing ≡ readIn from to x
+    unfolding readIn
     case-past h = sym (rw (ne-eqb to 0 z, lt-leb to (x .compacted .0) (omega (arith, low-accepted n)), lt-ltb (acceptedOf n) to (omega arith)))
 
   module _ (h₁ : x .compacted .0 < to) (h₂ : to ≤ acceptedOf n) where
-    pub case-nothing : acceptedOf n ≤ from → Nothing ≡ replyOf from to x
-    unfolding replyOf
+    pub case-nothing : acceptedOf n ≤ from → Nothing ≡ readIn from to x
+    unfolding readIn
     case-nothing h =
         sym (rw (ne-eqb to 0 (omega arith), lt-leb to (x .compacted .0) h₁, le-ltb (acceptedOf n) to h₂, le-leb (acceptedOf n) from h))
 
     module _ (h : from < acceptedOf n) where
-      pub case-empty : to ≤ from → Run (runOfNone None) ≡ replyOf from to x
-      unfolding replyOf
+      pub case-empty : to ≤ from → Run (runOfNone None) ≡ readIn from to x
+      unfolding readIn
       case-empty k =
           sym (rw (ne-eqb to 0 (omega arith), lt-leb to (x .compacted .0) h₁, le-ltb (acceptedOf n) to h₂, lt-leb (acceptedOf n) from h, le-leb to from k))
 
-      pub case-run : from < to → Run (runOf from to x) ≡ replyOf from to x
-      unfolding replyOf
+      pub case-run : from < to → Run (runOf from to x) ≡ readIn from to x
+      unfolding readIn
       case-run k =
           sym (rw (ne-eqb to 0 (omega arith), lt-leb to (x .compacted .0) h₁, le-ltb (acceptedOf n) to h₂, lt-leb (acceptedOf n) from h, lt-leb to from k))
 
@@ -126,7 +126,7 @@ stop-by : (a b : Bool) (g : StopSign) → _≡_ {A = Option StopSign} (if a && b
 stop-by true b g = refl
 stop-by false b g = refl
 
-shown-eq : {a a′ : Option Marker} {b b′ : List Change} {c c′ : ℕ} {d d′ : Option StopSign} (e : Bool) → a ≡ a′ → b ≡ b′ → c ≡ c′ → d ≡ d′ → shown a b c d e ≡ shown a′ b′ c′ d′ e
+shown-eq : {a a′ : Option Marker} {b b′ : Span} {c c′ : ℕ} {d d′ : Option StopSign} (e : Bool) → a ≡ a′ → b ≡ b′ → c ≡ c′ → d ≡ d′ → shown a b c d e ≡ shown a′ b′ c′ d′ e
 shown-eq e p q u v = rw (p, q, u, v)
 
 -- numbers counted from the compacted index, and from 0
@@ -145,6 +145,19 @@ past from low = omega arith
 fits : (from low m n : ℕ) → from ≤ low + n → m ≤ n → from - low + (m - (from - low)) ≤ n
 fits from low m n h k = omega arith
 
+-- a part of the lent log whose words are its entries
+abbrev Lent : List ℕ → Span → Type 0
+Lent log p = entriesIn (part (p .first) (length (p .entries)) log) ≡ p .entries
+
+abbrev pub SpanLent : List ℕ → Answer Span → Type 0
+SpanLent log (refused n k) = Unit {0}
+SpanLent log (replied p) = Lent log p
+
+abbrev pub ShownLent : List ℕ → Answer (Option Shown) → Type 0
+ShownLent log (refused n k) = Unit {0}
+ShownLent log (replied none) = Unit {0}
+ShownLent log (replied (some v)) = Lent log (v .part)
+
 module _ (r : Raw) (g : Ready r) where
   abbrev x : IndexRecord
   x = r .index
@@ -160,10 +173,6 @@ module _ (r : Raw) (g : Ready r) where
   marker-if true = marker-said
   marker-if false = refl
 
-  none-shown : shownIn (r .log) 0 0 ≡ []
-  unfolding entriesAt
-  none-shown = shown-is 0 0 0 (r .log) (omega arith) (omega arith)
-
   -- the model's read, by other numbers
   fullBy : Numbers → ℕ → ℕ → Shown
   fullBy n from to =
@@ -171,7 +180,7 @@ module _ (r : Raw) (g : Ready r) where
       let last : ℕ = min to (endOf n) in
       shown
       (if ltb from low then some (markerOf (logOf r .run)) else none)
-      (between first last (logOf r .run))
+      (spanBetween first last (logOf r .run))
       (min last (x .decided .0) - first)
       (if eqb to (acceptedOf n) then logOf r .tail .sign else none)
       (eqb to (acceptedOf n) && stopDecided n)
@@ -179,7 +188,7 @@ module _ (r : Raw) (g : Ready r) where
   readBy : Numbers → ℕ → ℕ → Option Shown
   readBy n from to =
       if eqb to 0 then none
-      else if leb to low then some (shown (some (markerOf (logOf r .run))) [] 0 none false)
+      else if leb to low then some (shown (some (markerOf (logOf r .run))) noSpan 0 none false)
       else if ltb (acceptedOf n) to || leb (acceptedOf n) from then none
       else if leb to from then some emptyRun
       else some (fullBy n from to)
@@ -196,8 +205,8 @@ module _ (r : Raw) (g : Ready r) where
       let m : ℕ = min (to - low) n in
       let last : low + m ≡ min to (low + n) = from-low to low n (omega arith) in
       shown-eq (eqb to (acceptedOf (numbersIn x)) && stopDecided (numbersIn x)) (marker-if (ltb from low))
-      (shown-is n (from - low) (m - (from - low)) (r .log) (fits from low m n (omega arith) (omega arith)) (room r g)
-      ∙ ap₂ (λ (i j : ℕ). take i (drop j (entriesOf n (r .log)))) (offset from low m ∙ ap (λ (k : ℕ). k - max from low) last) (past from low))
+      (ap (span (from - low)) (shown-is n (from - low) (m - (from - low)) (r .log) (fits from low m n (omega arith) (omega arith)))
+      ∙ ap₂ (λ (i j : ℕ). span j (take i (drop j (entriesOf n (r .log))))) (offset from low m ∙ ap (λ (k : ℕ). k - max from low) last) (past from low))
       (offset from low (min m (x .decided .0 - low))
       ∙ ap (λ (k : ℕ). k - max from low) (from-low′ (x .decided .0) low m (g .numbers .low) ∙ ap (λ (k : ℕ). min k (x .decided .0)) last))
       (stop-by (eqb to (acceptedOf (numbersIn x))) (x .«stop_held») (x .stop))
@@ -207,17 +216,17 @@ module _ (r : Raw) (g : Ready r) where
   by-test true a b u v f h = f refl
   by-test false a b u v f h = h refl
 
-  reply-said : (from to : ℕ) → readSaid r (replyOf from to x) ≡ replied (readBy (numbersIn x) from to)
-  unfolding replyOf readBy
+  reply-said : (from to : ℕ) → readSaid r (readIn from to x) ≡ replied (readBy (numbersIn x) from to)
+  unfolding readIn readBy entriesAt
   reply-said from to =
       by-test (eqb to 0) _ _ _ _ (λ _. refl) (λ _.
-      by-test (leb to low) _ _ _ _ (λ _. ap (λ (s : Shown). replied (some s)) (shown-eq false marker-said none-shown refl refl)) (λ e₁.
+      by-test (leb to low) _ _ _ _ (λ _. ap (λ (s : Shown). replied (some s)) (shown-eq false marker-said refl refl refl)) (λ e₁.
       by-test (ltb (acceptedOf (numbersIn x)) to || leb (acceptedOf (numbersIn x)) from) _ _ _ _ (λ _. refl) (λ e₂.
-      by-test (leb to from) _ _ _ _ (λ _. ap (λ (s : Shown). replied (some s)) (shown-eq false refl none-shown refl refl)) (λ e₃.
+      by-test (leb to from) _ _ _ _ (λ _. refl) (λ e₃.
       ap (λ (s : Shown). replied (some s)) (full-said from to (leb-false to low e₁) (ltb-false (acceptedOf (numbersIn x)) to (or-left _ (leb (acceptedOf (numbersIn x)) from) e₂)) (leb-false to from e₃))))))
 
-  read-answer : (a b : Bound) (from to last : ℕ) → startPast a || stopPast b ≡ false → from ≡ startAt a → to ≡ stopAt b last → last ≡ acceptedOf (numbersIn x)
-      → readSaid r (replyOf from to x) ≡ run (query (read a b)) true r .answer
+  pub read-answer : (a b : Bound) (from to last : ℕ) → startPast a || stopPast b ≡ false → from ≡ startAt a → to ≡ stopAt b last → last ≡ acceptedOf (numbersIn x)
+      → readSaid r (readIn from to x) ≡ run (query (read a b)) true r .answer
   unfolding queryReply queryGuards readReply
   read-answer a b from to last m p q e =
       reply-said from to
@@ -226,79 +235,70 @@ module _ (r : Raw) (g : Ready r) where
       ∙ answer-is (read a b) r (g .okay) m refl (readReply a b (logOf r)) refl
 
   module _ (from : ℕ) where
-    suffix-answer : from < x .decided .0 → readSaid r (replyOf from (x .decided .0) x) ≡ run (query (readDecided from)) true r .answer
+    pub suffix-answer : from < x .decided .0 → readSaid r (readIn from (x .decided .0) x) ≡ run (query (readDecided from)) true r .answer
     unfolding queryReply queryGuards decidedSuffix logOf
     suffix-answer h =
         reply-said from (x .decided .0)
         ∙ ap replied (read-by from (x .decided .0) ∙ sym (rw (lt-ltb from (x .decided .0) h)))
         ∙ answer-is (readDecided from) r (g .okay) refl refl (decidedSuffix from (logOf r)) refl
 
-    suffix-none : x .decided .0 ≤ from → replied none ≡ run (query (readDecided from)) true r .answer
+    pub suffix-none : x .decided .0 ≤ from → replied none ≡ run (query (readDecided from)) true r .answer
     unfolding queryReply queryGuards decidedSuffix logOf
     suffix-none h = ap replied (sym (rw (le-ltb from (x .decided .0) h))) ∙ answer-is (readDecided from) r (g .okay) refl refl (decidedSuffix from (logOf r)) refl
 
--- ---- the replies themselves, by the tests as the code takes them
+  -- entries among those retained lie in the log
+  inside : (first count : ℕ) → first + count ≤ x .retained → Lent (r .log) (lentSpan (r .log) first count)
+  inside first count h =
+      ap (λ (k : ℕ). entriesIn (part first k (r .log))) (lent-count (r .log) first count) ∙ part-entries first count (r .log) (omega (arith, room r g))
 
-module _ (a b : Bound) (x : Raw) where
-  abbrev whole : ReadReply
-  whole = replyOf (startAt a) (stopAt b (acceptedOf (numbersIn (x .index)))) (x .index)
+  in-span : (from to : ℕ) → SpanLent (r .log) (spanSays (r .log) (spanIn from to (numbersIn x)))
+  unfolding spanIn endOf
+  in-span from to =
+      either (λ (s : CodeSpan). SpanLent (r .log) (spanSays (r .log) s)) (leb low from && (leb from to && leb to (endOf (numbersIn x)))) _ _
+      (λ e. let h = held low from to (endOf (numbersIn x)) e in inside (from - low) (to - from) (omega (arith, h .0, h .1 .0, h .1 .1))) (λ _. inside 0 0 (omega arith))
 
-  pub range-ill : formed x ≡ false → Refused IllFormed ≡ rangeReply a b x
-  unfolding rangeReply
-  range-ill e = sym (ap (λ (t : Bool). if t then (if startPast a || stopPast b then Refused Malformed else whole) else Refused IllFormed) e)
+  abbrev Said : ReadReply → Type 0
+  Said s = ShownLent (r .log) (readSaid r s)
 
-  module _ (ok : formed x ≡ true) where
-    in-form : (if startPast a || stopPast b then Refused Malformed else whole) ≡ rangeReply a b x
-    unfolding rangeReply
-    in-form = sym (ap (λ (t : Bool). if t then (if startPast a || stopPast b then Refused Malformed else whole) else Refused IllFormed) ok)
+  in-run : (from to : ℕ) → from ≤ low + x .retained → Said (Run (runOf from to x))
+  in-run from to h =
+      let m : ℕ = min (to - low) (x .retained) in
+      inside (from - low) (m - (from - low)) (fits from low m (x .retained) h (omega arith))
 
-    pub range-bad : (startPast a || stopPast b) ≡ true → Refused Malformed ≡ rangeReply a b x
-    range-bad m = sym (ap (λ (t : Bool). if t then Refused Malformed else whole) m) ∙ in-form
+  in-read : (from to : ℕ) → Said (readIn from to x)
+  unfolding readIn endOf
+  in-read from to =
+      let n = numbersIn x in
+      either Said (eqb to 0) _ _ (λ _. tt) (λ _.
+      either Said (leb to low) _ _ (λ _. inside 0 0 (omega arith)) (λ _.
+      either Said (ltb (acceptedOf n) to || leb (acceptedOf n) from) _ _ (λ _. tt) (λ e.
+      either Said (leb to from) _ _ (λ _. inside 0 0 (omega arith)) (λ _.
+      in-run from to (omega (arith, leb-false (acceptedOf n) from (or-right (ltb (acceptedOf n) to) _ e), accepted-le n))))))
 
-    pub range-fine : (startPast a || stopPast b) ≡ false → (from to last : ℕ) → from ≡ startAt a → to ≡ stopAt b last → last ≡ acceptedOf (numbersIn (x .index)) → replyOf from to (x .index) ≡ rangeReply a b x
-    range-fine m from to last p q e =
-        ap₂ (λ (i j : ℕ). replyOf i j (x .index)) p (q ∙ ap (stopAt b) e)
-        ∙ sym (ap (λ (t : Bool). if t then Refused Malformed else whole) m) ∙ in-form
+-- ---- the words of the part that an answer names are the entries that it shows
 
-    bounded : (t : Bool) → (startPast a || stopPast b) ≡ t → readSaid x (if t then Refused Malformed else whole) ≡ run (query (read a b)) true x .answer
-    bounded true m = bad-answer (read a b) x ok m
-    bounded false m = read-answer x (ready-of x ok) a b (startAt a) (stopAt b (acceptedOf (numbersIn (x .index)))) (acceptedOf (numbersIn (x .index))) m refl refl refl
+module _ (r : Raw) where
+  pub read-lent : (a b : Bound) → ShownLent (r .log) (run (query (read a b)) true r .answer)
+  read-lent a b = answered (read a b) r (ShownLent (r .log)) (λ _ _. tt) (λ ok m.
+      let last = acceptedOf (numbersIn (r .index)) in
+      let g = ready-of r ok in
+      subst (ShownLent (r .log)) (read-answer r g a b (startAt a) (stopAt b last) last m refl refl refl) (in-read r g (startAt a) (stopAt b last)))
 
-  range-means : (t : Bool) → formed x ≡ t → readSaid x (if t then (if startPast a || stopPast b then Refused Malformed else whole) else Refused IllFormed) ≡ run (query (read a b)) true x .answer
-  range-means true e = bounded e (startPast a || stopPast b) refl
-  range-means false e = ill-formed-answer (read a b) x e
+  pub decided-lent : (from : ℕ) → ShownLent (r .log) (run (query (readDecided from)) true r .answer)
+  decided-lent from = answered (readDecided from) r (ShownLent (r .log)) (λ _ _. tt) (λ ok _. go (ready-of r ok) (ltb from decided) refl)
+    where
+      decided : ℕ
+      decided = r .index .decided .0
 
-  pub range-told : (s : ReadReply) → s ≡ rangeReply a b x → (readSaid x s ≡ run (query (read a b)) true x .answer) × (s ≡ rangeReply a b x)
-  unfolding rangeReply
-  range-told s e = (ap (readSaid x) e ∙ range-means (formed x) refl, e)
+      go : Ready r → (t : Bool) → ltb from decided ≡ t → ShownLent (r .log) (run (query (readDecided from)) true r .answer)
+      go g true e = subst (ShownLent (r .log)) (suffix-answer r g from (ltb-true from decided e)) (in-read r g from decided)
+      go g false e = subst (ShownLent (r .log)) (suffix-none r g from (ltb-false from decided e)) tt
 
-module _ (from : ℕ) (x : Raw) where
-  abbrev upTo : ReadReply
-  upTo = replyOf from (x .index .decided .0) (x .index)
+  pub entries-lent : (from to : ℕ) → SpanLent (r .log) (run (query (getEntries from to)) true r .answer)
+  entries-lent from to = answered (getEntries from to) r (SpanLent (r .log)) (λ _ _. tt) (λ ok _.
+      subst (SpanLent (r .log)) (entries-answer r (ready-of r ok) from to) (in-span r (ready-of r ok) from to))
 
-  pub decided-ill : formed x ≡ false → Refused IllFormed ≡ decidedReply from x
-  unfolding decidedReply
-  decided-ill e = sym (ap (λ (t : Bool). if t then (if ltb from (x .index .decided .0) then upTo else Nothing) else Refused IllFormed) e)
-
-  module _ (ok : formed x ≡ true) where
-    known : (if ltb from (x .index .decided .0) then upTo else Nothing) ≡ decidedReply from x
-    unfolding decidedReply
-    known = sym (ap (λ (t : Bool). if t then (if ltb from (x .index .decided .0) then upTo else Nothing) else Refused IllFormed) ok)
-
-    pub decided-none : x .index .decided .0 ≤ from → Nothing ≡ decidedReply from x
-    decided-none h = sym (ap (λ (t : Bool). if t then upTo else Nothing) (le-ltb from (x .index .decided .0) h)) ∙ known
-
-    pub decided-fine : from < x .index .decided .0 → upTo ≡ decidedReply from x
-    decided-fine h = sym (ap (λ (t : Bool). if t then upTo else Nothing) (lt-ltb from (x .index .decided .0) h)) ∙ known
-
-    below : (t : Bool) → ltb from (x .index .decided .0) ≡ t → readSaid x (if t then upTo else Nothing) ≡ run (query (readDecided from)) true x .answer
-    below true e = suffix-answer x (ready-of x ok) from (ltb-true from (x .index .decided .0) e)
-    below false e = suffix-none x (ready-of x ok) from (ltb-false from (x .index .decided .0) e)
-
-  decided-means : (t : Bool) → formed x ≡ t → readSaid x (if t then (if ltb from (x .index .decided .0) then upTo else Nothing) else Refused IllFormed) ≡ run (query (readDecided from)) true x .answer
-  decided-means true e = below e (ltb from (x .index .decided .0)) refl
-  decided-means false e = ill-formed-answer (readDecided from) x e
-
-  pub decided-told : (s : ReadReply) → s ≡ decidedReply from x → (readSaid x s ≡ run (query (readDecided from)) true x .answer) × (s ≡ decidedReply from x)
-  unfolding decidedReply
-  decided-told s e = (ap (readSaid x) e ∙ decided-means (formed x) refl, e)
+  pub suffix-lent : (from : ℕ) → SpanLent (r .log) (run (query (getSuffix from)) true r .answer)
+  suffix-lent from = answered (getSuffix from) r (SpanLent (r .log)) (λ _ _. tt) (λ ok _.
+      let last = endOf (numbersIn (r .index)) in
+      subst (SpanLent (r .log)) (end-answer r (ready-of r ok) from last refl) (in-span r (ready-of r ok) from last))

@@ -12,22 +12,22 @@ use lib.Seq.{length-take-le}
 use Rattle.words.specs.If.{if_then_else_}
 use Rattle.words.specs.Coded.{entriesAt}
 use Rattle.words.proofs.Tests.{and-left, and-right}
-use Rattle.words.proofs.CodedLaws.{entries-take, entries-drop, entries-append}
+use Rattle.words.proofs.CodedLaws.{entries-length, entries-take, entries-drop, entries-append}
 use Rattle.entry.specs.Limits.{width}
-use Rattle.entry.specs.Change.{changeCode, entriesOf}
+use Rattle.entry.specs.Change.{Change, changeCode, entriesOf, entriesIn}
 use Rattle.entry.specs.Guards.{replied}
-use Rattle.entry.specs.declared.Refusal.the-variants.{IllFormed}
 use Rattle.model.specs.Numbers.{Numbers, endOf}
 use Rattle.model.specs.Log.{numbersOf}
-use Rattle.model.specs.Read.{entriesBetween, suffixFrom}
+use Rattle.model.specs.Read.{span, noSpan, spanBetween, entriesBetween, suffixFrom}
 use Rattle.model.specs.Calls.{query, getEntries, getSuffix, queryReply, queryGuards}
-use Rattle.state_cache.specs.State.{Raw, numbersIn, formed, logOf, Ready}
+use Rattle.state_cache.specs.State.{Raw, numbersIn, logOf, Ready}
 use Rattle.state_cache.specs.Run.{run}
-use Rattle.state_cache.proofs.Stands.{stands-of, numbers-are, ready-of}
-use Rattle.reading.specs.Parts.{part, wordAt, partAt, shownIn, spanSays, spanBetween, spanReply}
-use Rattle.reading.specs.declared.Span.{Span}
-use Rattle.reading.specs.declared.Span.the-variants.{Run, Refused}
-use Rattle.reading.proofs.Answers.{ill-formed-answer, answer-is}
+use Rattle.state_cache.proofs.Stands.{stands-of, numbers-are}
+use Rattle.reading.specs.Parts.{part, wordAt, partAt}
+use Rattle.reading.specs.Replies.{lentSpan, spanSays}
+use Rattle.reading.specs.Inner.{spanIn}
+use Rattle.reading.specs.declared.Span.the-variants.{Run}
+use Rattle.reading.proofs.Answers.{answer-is}
 
 -- the part itself, as the code cuts it, and where it stands
 module _ (first count : ℕ) (ws : List ℕ) (p : ℕ × ℕ) where
@@ -54,6 +54,17 @@ front count l h =
     ∙ ap (λ (k : ℕ). entriesOf k (take (count * width) l ++ drop (count * width) l)) z
     ∙ ap (entriesOf count) (take-append-drop (count * width) l)
 
+-- the words of a part that lies in the slice are its entries
+pub part-entries : (first count : ℕ) (ws : List ℕ) → (first + count) * width ≤ length ws
+    → entriesIn (part first count ws) ≡ entriesOf count (drop (first * width) ws)
+unfolding part
+part-entries first count ws h =
+    let room : count * width ≤ length (drop (first * width) ws) = simp length-drop (omega arith) in
+    let long : length (take (count * width) (drop (first * width) ws)) ≡ count * width = length-take-le (count * width) (drop (first * width) ws) room in
+    let half : length (take (count * width) (drop (first * width) ws)) / width ≡ count = omega (arith, long) in
+    rw (le-leb ((first + count) * width) (length ws) h)
+    (ap (λ (j : ℕ). entriesOf j (take (count * width) (drop (first * width) ws))) half ∙ front count (drop (first * width) ws) room)
+
 pub no-part : (ws : List ℕ) (p : ℕ × ℕ) → (part 0 0 ws ≡ []) × (partAt 0 0 ws p ≡ p)
 unfolding part partAt
 no-part ws p = go (leb ((0 + 0) * width) (length ws))
@@ -65,42 +76,27 @@ no-part ws p = go (leb ((0 + 0) * width) (length ws))
     go true = (refl, at-start)
     go false = (refl, refl)
 
--- a part within the first n entries is a run of them
-pub shown-is : (n first count : ℕ) (ws : List ℕ) → first + count ≤ n → n * width ≤ length ws → shownIn ws first count ≡ take count (drop first (entriesOf n ws))
-unfolding part
-shown-is n first count ws h k =
-    let fits : (first + count) * width ≤ length ws = omega arith in
-    let room : count * width ≤ length (drop (first * width) ws) = simp length-drop (omega arith) in
-    let long : length (take (count * width) (drop (first * width) ws)) ≡ count * width = length-take-le (count * width) (drop (first * width) ws) room in
-    let half : length (take (count * width) (drop (first * width) ws)) / width ≡ count = omega (arith, long) in
-    rw (le-leb ((first + count) * width) (length ws) fits)
-    (ap (λ (j : ℕ). entriesOf j (take (count * width) (drop (first * width) ws))) half
-    ∙ front count (drop (first * width) ws) room
-    ∙ sym (ap (take count) (entries-drop changeCode first n ws (omega arith)) ∙ entries-take changeCode count (n - first) (drop (first * width) ws) (omega arith)))
+-- so many of the first n entries of some words, from the first-th on
+pub shown-is : (n first count : ℕ) (ws : List ℕ) → first + count ≤ n
+    → entriesOf count (drop (first * width) ws) ≡ take count (drop first (entriesOf n ws))
+shown-is n first count ws h =
+    sym (ap (take count) (entries-drop changeCode first n ws (omega arith)) ∙ entries-take changeCode count (n - first) (drop (first * width) ws) (omega arith))
 
--- the test of an interval, as the code takes it
-module _ (from to last : ℕ) (n : Numbers) (q : last ≡ endOf n) where
-  abbrev pub heldTest : Bool
-  heldTest = leb (n .compacted) from && (leb from to && leb to last)
+-- how many entries a part has
+pub lent-count : (log : List ℕ) (first count : ℕ) → length (lentSpan log first count .entries) ≡ count
+lent-count log first count = entries-length changeCode count (drop (first * width) log)
 
-  pub between-none : heldTest ≡ false → Run 0 0 ≡ spanBetween from to n
-  unfolding spanBetween
-  between-none e =
-      let h : (leb (n .compacted) from && (leb from to && leb to (endOf n))) ≡ false = rw (← q) e in
-      sym (rw h)
+-- an interval that is wholly held
+pub held : (low from to last : ℕ) → (leb low from && (leb from to && leb to last)) ≡ true → (low ≤ from) × ((from ≤ to) × (to ≤ last))
+held low from to last e =
+    let e₂ = and-right (leb low from) _ e in
+    (leb-true low from (and-left _ _ e), (leb-true from to (and-left _ _ e₂), leb-true to last (and-right (leb from to) _ e₂)))
 
-  module _ (e : heldTest ≡ true) where
-    pub between-held : Run (from - n .compacted) (to - from) ≡ spanBetween from to n
-    unfolding spanBetween
-    between-held =
-        let h : (leb (n .compacted) from && (leb from to && leb to (endOf n))) ≡ true = rw (← q) e in
-        sym (rw h)
-
-    pub between-low : n .compacted ≤ from
-    between-low = leb-true (n .compacted) from (and-left _ _ e)
-
-    pub between-up : from ≤ to
-    between-up = leb-true from to (and-left _ _ (and-right (leb (n .compacted) from) _ e))
+-- the reply by its test, as the code takes it
+pub span-by : (from to last : ℕ) (n : Numbers) → last ≡ endOf n → (t : Bool) → (leb (n .compacted) from && (leb from to && leb to last)) ≡ t
+    → (if t then Run (from - n .compacted) (to - from) else Run 0 0) ≡ spanIn from to n
+unfolding spanIn
+span-by from to last n q t e = sym (rw (← q, e))
 
 -- the entries of an interval
 module _ (r : Raw) (g : Ready r) where
@@ -113,61 +109,28 @@ module _ (r : Raw) (g : Ready r) where
   pub numbers : numbersOf (logOf r) ≡ numbersIn (r .index)
   numbers = numbers-are (logOf r) r (stands-of r (g .okay))
 
-  by-test : (t : Bool) (from to : ℕ) → (t ≡ true → (c ≤ from) × ((from ≤ to) × (to ≤ c + r .index .retained)))
+  by-test : (t : Bool) (from to : ℕ) → (t ≡ true → (c ≤ from) × ((from ≤ to) × (to ≤ endOf (numbersIn (r .index)))))
       → spanSays (r .log) (if t then Run (from - c) (to - from) else Run 0 0)
-      ≡ replied (if t then take (to - from) (drop (from - c) (entriesOf (r .index .retained) (r .log))) else [])
-  unfolding entriesAt
+      ≡ replied (if t then span (from - c) (take (to - from) (drop (from - c) (entriesOf (r .index .retained) (r .log)))) else noSpan)
+  unfolding entriesAt endOf
   by-test true from to f =
       let h = f refl in
-      ap replied (shown-is (r .index .retained) (from - c) (to - from) (r .log) (omega (arith, h .0, h .1 .0, h .1 .1)) room)
-  by-test false from to f = ap replied (shown-is 0 0 0 (r .log) (omega arith) (omega arith))
+      ap (λ (es : List Change). replied (span (from - c) es)) (shown-is (r .index .retained) (from - c) (to - from) (r .log) (omega (arith, h .0, h .1 .0, h .1 .1)))
+  by-test false from to f = refl
 
-  facts : (from to : ℕ) → (leb c from && (leb from to && leb to (endOf (numbersIn (r .index))))) ≡ true → (c ≤ from) × ((from ≤ to) × (to ≤ c + r .index .retained))
-  unfolding endOf
-  facts from to e =
-      let e₂ = and-right (leb c from) _ e in
-      (leb-true c from (and-left _ _ e), (leb-true from to (and-left _ _ e₂), leb-true to (c + r .index .retained) (and-right (leb from to) _ e₂)))
-
-  says-between : (from to : ℕ) → spanSays (r .log) (spanBetween from to (numbersIn (r .index))) ≡ replied (entriesBetween from to (logOf r))
-  unfolding spanBetween entriesBetween logOf
+  says-between : (from to : ℕ) → spanSays (r .log) (spanIn from to (numbersIn (r .index))) ≡ replied (entriesBetween from to (logOf r))
+  unfolding spanIn entriesBetween logOf
   says-between from to =
-      by-test (leb c from && (leb from to && leb to (endOf (numbersIn (r .index))))) from to (facts from to)
-      ∙ ap (λ (n : Numbers). replied (if leb c from && (leb from to && leb to (endOf n)) then take (to - from) (drop (from - c) (entriesOf (r .index .retained) (r .log))) else [])) (sym numbers)
+      by-test (leb c from && (leb from to && leb to (endOf (numbersIn (r .index))))) from to (held c from to (endOf (numbersIn (r .index))))
+      ∙ ap (λ (n : Numbers). replied (if leb c from && (leb from to && leb to (endOf n)) then spanBetween from to (logOf r .run) else noSpan)) (sym numbers)
 
-  entries-answer : (from to : ℕ) → spanSays (r .log) (spanBetween from to (numbersIn (r .index))) ≡ run (query (getEntries from to)) true r .answer
+  pub entries-answer : (from to : ℕ) → spanSays (r .log) (spanIn from to (numbersIn (r .index))) ≡ run (query (getEntries from to)) true r .answer
   unfolding queryReply queryGuards
   entries-answer from to = says-between from to ∙ answer-is (getEntries from to) r (g .okay) refl refl (entriesBetween from to (logOf r)) refl
 
-  suffix-answer : (from to : ℕ) → to ≡ endOf (numbersIn (r .index)) → spanSays (r .log) (spanBetween from to (numbersIn (r .index))) ≡ run (query (getSuffix from)) true r .answer
+  pub suffix-answer : (from to : ℕ) → to ≡ endOf (numbersIn (r .index)) → spanSays (r .log) (spanIn from to (numbersIn (r .index))) ≡ run (query (getSuffix from)) true r .answer
   unfolding queryReply queryGuards suffixFrom
   suffix-answer from to e =
       says-between from to
       ∙ ap (λ (j : ℕ). replied (entriesBetween from j (logOf r))) (e ∙ ap endOf (sym numbers))
       ∙ answer-is (getSuffix from) r (g .okay) refl refl (suffixFrom from (logOf r)) refl
-
--- the reply itself, by whether the state is well formed
-module _ (from to : ℕ) (x : Raw) where
-  pub span-ill : formed x ≡ false → Refused IllFormed ≡ spanReply from to x
-  unfolding spanReply
-  span-ill e = sym (ap (λ (t : Bool). if t then spanBetween from to (numbersIn (x .index)) else Refused IllFormed) e)
-
-  pub span-fine : formed x ≡ true → spanBetween from to (numbersIn (x .index)) ≡ spanReply from to x
-  unfolding spanReply
-  span-fine e = sym (ap (λ (t : Bool). if t then spanBetween from to (numbersIn (x .index)) else Refused IllFormed) e)
-
-  entries-means : (t : Bool) → formed x ≡ t → spanSays (x .log) (if t then spanBetween from to (numbersIn (x .index)) else Refused IllFormed) ≡ run (query (getEntries from to)) true x .answer
-  entries-means true e = entries-answer x (ready-of x e) from to
-  entries-means false e = ill-formed-answer (getEntries from to) x e
-
-  suffix-means : to ≡ endOf (numbersIn (x .index)) → (t : Bool) → formed x ≡ t
-      → spanSays (x .log) (if t then spanBetween from to (numbersIn (x .index)) else Refused IllFormed) ≡ run (query (getSuffix from)) true x .answer
-  suffix-means q true e = suffix-answer x (ready-of x e) from to q
-  suffix-means q false e = ill-formed-answer (getSuffix from) x e
-
-  pub entries-told : (s : Span) → s ≡ spanReply from to x → (spanSays (x .log) s ≡ run (query (getEntries from to)) true x .answer) × (s ≡ spanReply from to x)
-  unfolding spanReply
-  entries-told s e = (ap (spanSays (x .log)) e ∙ entries-means (formed x) refl, e)
-
-  pub suffix-told : to ≡ endOf (numbersIn (x .index)) → (s : Span) → s ≡ spanReply from to x → (spanSays (x .log) s ≡ run (query (getSuffix from)) true x .answer) × (s ≡ spanReply from to x)
-  unfolding spanReply
-  suffix-told q s e = (ap (spanSays (x .log)) e ∙ suffix-means q (formed x) refl, e)

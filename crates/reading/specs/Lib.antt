@@ -1,5 +1,4 @@
 pub mod Newest
 pub mod Parts
 pub mod Replies
-pub mod Kinds
-pub mod Numbered
+pub mod Inner

@@ -14,16 +14,14 @@ ghost use mathlib.Core.Bool.{true, false};
 ghost use lib.ListN.{length};
 ghost use Rattle.entry.specs.Limits.{width};
 ghost use Rattle.snapshot.specs.Calls.{found};
-ghost use Rattle.model.specs.Numbers.{endOf, acceptedOf};
+ghost use Rattle.model.specs.Numbers.{acceptedOf};
 ghost use Rattle.model.specs.Read.{startPast, stopPast, startAt, stopAt};
 ghost use Rattle.model.specs.Calls.{query, lookup, getEntries, getSuffix, read, readDecided};
 ghost use Rattle.state_cache.specs.State.{raw, numbersIn, Small, Ready};
 ghost use Rattle.state_cache.specs.Run.{run};
 ghost use Rattle.reading.specs.Newest.{NewestIs};
-ghost use Rattle.reading.specs.Parts.{spanBetween, spanSays, spanReply};
-ghost use Rattle.reading.specs.Replies.{boundOf, readSaid};
-ghost use Rattle.reading.specs.Kinds.{kindIs, entryIs};
-ghost use Rattle.reading.specs.Numbered.{markerIn, markerAt, runOfNone, runOf, replyOf, rangeReply, decidedReply};
+ghost use Rattle.reading.specs.Replies.{boundOf, spanSays, readSaid};
+ghost use Rattle.reading.specs.Inner.{kindIs, entryIs, spanIn, markerIn, markerAt, runOfNone, runOf, readIn};
 
 // Where the newest entry of a key stands, or none.
 pub enum Newest {
@@ -99,7 +97,7 @@ pub fn look(index: IndexRecord, log: &[u64], snapshot: &[u64], key: u64) -> Foun
 // Where the entries from one index up to another stand among those retained.
 pub fn between(index: IndexRecord, from: u64, to: u64) -> Span
     requires { ⌜ Small (numbersIn index) ⌝ }
-    ensures { λ r. ⌜ r ≡ spanBetween from to (numbersIn index) ⌝ }
+    ensures { λ r. ⌜ r ≡ spanIn from to (numbersIn index) ⌝ }
 {
     let low = index.compacted.0;
     let last = state_cache::inner::end(index);
@@ -259,7 +257,7 @@ fn no_entries(marker: Marker) -> ShownRun
 // Where the last index of the range is an entry or the stop-sign: the kind of the first decides.
 fn read_from(index: IndexRecord, from: u64, to: u64) -> ReadReply
     requires { ⌜ Small (numbersIn index) × ((index .compacted .0 < to) × (to ≤ acceptedOf (numbersIn index))) ⌝ }
-    ensures { λ r. ⌜ r ≡ replyOf from to index ⌝ }
+    ensures { λ r. ⌜ r ≡ readIn from to index ⌝ }
 {
     let kind = kind_at(index, from);
     let Kind::Held(entry) = kind else {
@@ -274,7 +272,7 @@ fn read_from(index: IndexRecord, from: u64, to: u64) -> ReadReply
 // The kind of the last index is asked first: where it is compacted, the first is not looked at.
 pub fn read_at(index: IndexRecord, from: u64, to: u64) -> ReadReply
     requires { ⌜ Small (numbersIn index) ⌝ }
-    ensures { λ r. ⌜ r ≡ replyOf from to index ⌝ }
+    ensures { λ r. ⌜ r ≡ readIn from to index ⌝ }
 {
     if to == 0 {
         return ReadReply::Nothing;
@@ -300,16 +298,17 @@ pub fn get_entries_reply(
     to: LogIndex,
 ) -> Span
     requires { ⌜ Ready (raw index (now log) (now snapshot)) ⌝ }
-    ensures { λ r. ⌜ spanSays (now (log .entry)) r ≡ run (query (getEntries (from .0) (to .0))) true (raw index (now (log .entry)) (now (snapshot .entry))) .answer ⌝ }
-    ensures { λ r. ⌜ r ≡ spanReply (from .0) (to .0) (raw index (now (log .entry)) (now (snapshot .entry))) ⌝ }
+    ensures { λ r. ⌜ spanSays (now (log .entry)) r
+        ≡ run (query (getEntries (from .0) (to .0))) true
+        (raw index (now (log .entry)) (now (snapshot .entry))) .answer ⌝ }
 {
     between(index, from.0, to.0)
 }
 
 pub fn get_suffix_reply(index: IndexRecord, log: &[u64], snapshot: &[u64], from: LogIndex) -> Span
     requires { ⌜ Ready (raw index (now log) (now snapshot)) ⌝ }
-    ensures { λ r. ⌜ spanSays (now (log .entry)) r ≡ run (query (getSuffix (from .0))) true (raw index (now (log .entry)) (now (snapshot .entry))) .answer ⌝ }
-    ensures { λ r. ⌜ r ≡ spanReply (from .0) (endOf (numbersIn index)) (raw index (now (log .entry)) (now (snapshot .entry))) ⌝ }
+    ensures { λ r. ⌜ spanSays (now (log .entry)) r
+        ≡ run (query (getSuffix (from .0))) true (raw index (now (log .entry)) (now (snapshot .entry))) .answer ⌝ }
 {
     between(index, from.0, state_cache::inner::end(index))
 }
@@ -322,8 +321,9 @@ pub fn read_reply(
     to: Bound,
 ) -> ReadReply
     requires { ⌜ Ready (raw index (now log) (now snapshot)) ⌝ }
-    ensures { λ r. ⌜ readSaid (raw index (now (log .entry)) (now (snapshot .entry))) r ≡ run (query (read (boundOf from) (boundOf to))) true (raw index (now (log .entry)) (now (snapshot .entry))) .answer ⌝ }
-    ensures { λ r. ⌜ r ≡ rangeReply (boundOf from) (boundOf to) (raw index (now (log .entry)) (now (snapshot .entry))) ⌝ }
+    ensures { λ r. ⌜ readSaid (raw index (now (log .entry)) (now (snapshot .entry))) r
+        ≡ run (query (read (boundOf from) (boundOf to))) true
+        (raw index (now (log .entry)) (now (snapshot .entry))) .answer ⌝ }
 {
     let no_start = start_past(from);
     let no_stop = stop_past(to);
@@ -343,8 +343,8 @@ pub fn read_decided_suffix_reply(
     from: LogIndex,
 ) -> ReadReply
     requires { ⌜ Ready (raw index (now log) (now snapshot)) ⌝ }
-    ensures { λ r. ⌜ readSaid (raw index (now (log .entry)) (now (snapshot .entry))) r ≡ run (query (readDecided (from .0))) true (raw index (now (log .entry)) (now (snapshot .entry))) .answer ⌝ }
-    ensures { λ r. ⌜ r ≡ decidedReply (from .0) (raw index (now (log .entry)) (now (snapshot .entry))) ⌝ }
+    ensures { λ r. ⌜ readSaid (raw index (now (log .entry)) (now (snapshot .entry))) r
+        ≡ run (query (readDecided (from .0))) true (raw index (now (log .entry)) (now (snapshot .entry))) .answer ⌝ }
 {
     if index.decided.0 <= from.0 {
         return ReadReply::Nothing;

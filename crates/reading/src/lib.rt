@@ -1,6 +1,5 @@
-// The calls that read a lent log and change nothing: module 9's lookup, the reads of module 4 and module 5's read. Each contract is an
-// equation with the answer of `run`; where a reply names a part of the log, a second equation tells which, since an empty part could
-// start anywhere. Names are the Rust's where the Rust has the call.
+// The calls that read a lent log and change nothing: module 9's lookup, the reads of module 4 and module 5's read. Each
+// contract is an equation with the answer of `run`. Names are the Rust's where the Rust has the call.
 use entry::LogIndex;
 use entry::Refusal;
 use snapshot::Found;
@@ -8,13 +7,11 @@ use state_cache::IndexRecord;
 ghost use mathlib.Core.Path.{_≡_};
 ghost use mathlib.Core.Bool.{true};
 ghost use Rattle.snapshot.specs.Calls.{found};
-ghost use Rattle.model.specs.Numbers.{endOf};
 ghost use Rattle.model.specs.Calls.{query, lookup as lookupCall, getEntries, getSuffix, read, readDecided};
-ghost use Rattle.state_cache.specs.State.{raw, numbersIn};
+ghost use Rattle.state_cache.specs.State.{Raw, raw};
 ghost use Rattle.state_cache.specs.Run.{run};
-ghost use Rattle.reading.specs.Parts.{part, partAt, spanSays, spanReply};
-ghost use Rattle.reading.specs.Replies.{boundOf, readSaid, shownPart, shownPartAt};
-ghost use Rattle.reading.specs.Numbered.{rangeReply, decidedReply};
+ghost use Rattle.reading.specs.Parts.{part, partAt};
+ghost use Rattle.reading.specs.Replies.{boundOf, spanSays, readSaid, partShown, partShownAt};
 
 pub mod inner;
 
@@ -38,8 +35,8 @@ pub enum Marker {
     Snapshot { index: LogIndex, keys: usize },
 }
 
-// A run that is read: its marker; its entries, a part of the lent log, with the number of them decided; and whether the stop-sign,
-// which stays in the record, comes last, and is decided.
+// A run that is read: its marker; its entries, a part of the lent log, with the number of them decided; and whether the
+// stop-sign, which stays in the record, comes last, and is decided.
 pub struct ShownRun {
     pub marker: Marker,
     pub first: usize,
@@ -73,8 +70,9 @@ pub fn get_entries_reply(
     from: LogIndex,
     to: LogIndex,
 ) -> Span
-    ensures { λ r. ⌜ spanSays (now (log .entry)) r ≡ run (query (getEntries (from .0) (to .0))) true (raw index (now (log .entry)) (now (snapshot .entry))) .answer ⌝ }
-    ensures { λ r. ⌜ r ≡ spanReply (from .0) (to .0) (raw index (now (log .entry)) (now (snapshot .entry))) ⌝ }
+    ensures { λ r. ⌜ spanSays (now (log .entry)) r
+        ≡ run (query (getEntries (from .0) (to .0))) true
+        (raw index (now (log .entry)) (now (snapshot .entry))) .answer ⌝ }
 {
     if !state_cache::well_formed(index, log, snapshot) {
         return Span::Refused(Refusal::IllFormed);
@@ -84,8 +82,8 @@ pub fn get_entries_reply(
 
 // The same from an index to the end.
 pub fn get_suffix_reply(index: IndexRecord, log: &[u64], snapshot: &[u64], from: LogIndex) -> Span
-    ensures { λ r. ⌜ spanSays (now (log .entry)) r ≡ run (query (getSuffix (from .0))) true (raw index (now (log .entry)) (now (snapshot .entry))) .answer ⌝ }
-    ensures { λ r. ⌜ r ≡ spanReply (from .0) (endOf (numbersIn index)) (raw index (now (log .entry)) (now (snapshot .entry))) ⌝ }
+    ensures { λ r. ⌜ spanSays (now (log .entry)) r
+        ≡ run (query (getSuffix (from .0))) true (raw index (now (log .entry)) (now (snapshot .entry))) .answer ⌝ }
 {
     if !state_cache::well_formed(index, log, snapshot) {
         return Span::Refused(Refusal::IllFormed);
@@ -95,7 +93,8 @@ pub fn get_suffix_reply(index: IndexRecord, log: &[u64], snapshot: &[u64], from:
 
 // That part of the log itself, an empty one where it does not lie in the slice: its words, and its place.
 pub fn entries_of<'a>(log: &'a [u64], first: usize, count: usize) -> &'a [u64]
-    ensures { λ r. ⌜ (now r ≡ part first count (now (log .entry))) × (r .ptr ≡ partAt first count (now (log .entry)) (log .entry .ptr)) ⌝ }
+    ensures { λ r. ⌜ (now r ≡ part first count (now (log .entry)))
+        × (r .ptr ≡ partAt first count (now (log .entry)) (log .entry .ptr)) ⌝ }
 {
     let room = log.len() / entry::WIDTH;
     if room < first {
@@ -109,9 +108,10 @@ pub fn entries_of<'a>(log: &'a [u64], first: usize, count: usize) -> &'a [u64]
     &log[at..end]
 }
 
-// The entries that a reply shows, none where it shows no run.
+// The entries that a reply shows, whatever state it came from; none where it shows no run.
 pub fn entries_shown<'a>(log: &'a [u64], reply: ReadReply) -> &'a [u64]
-    ensures { λ r. ⌜ (now r ≡ shownPart reply (now (log .entry))) × (r .ptr ≡ shownPartAt reply (now (log .entry)) (log .entry .ptr)) ⌝ }
+    ensures { λ r. ⌜ ((x : Raw) → (now r ≡ partShown (readSaid x reply) (now (log .entry)))
+        × (r .ptr ≡ partShownAt (readSaid x reply) (now (log .entry)) (log .entry .ptr))) ⌝ }
 {
     match reply {
         ReadReply::Nothing => entries_of(log, 0, 0),
@@ -128,8 +128,9 @@ pub fn read_reply(
     from: Bound,
     to: Bound,
 ) -> ReadReply
-    ensures { λ r. ⌜ readSaid (raw index (now (log .entry)) (now (snapshot .entry))) r ≡ run (query (read (boundOf from) (boundOf to))) true (raw index (now (log .entry)) (now (snapshot .entry))) .answer ⌝ }
-    ensures { λ r. ⌜ r ≡ rangeReply (boundOf from) (boundOf to) (raw index (now (log .entry)) (now (snapshot .entry))) ⌝ }
+    ensures { λ r. ⌜ readSaid (raw index (now (log .entry)) (now (snapshot .entry))) r
+        ≡ run (query (read (boundOf from) (boundOf to))) true
+        (raw index (now (log .entry)) (now (snapshot .entry))) .answer ⌝ }
 {
     if !state_cache::well_formed(index, log, snapshot) {
         return ReadReply::Refused(Refusal::IllFormed);
@@ -144,8 +145,8 @@ pub fn read_decided_suffix_reply(
     snapshot: &[u64],
     from: LogIndex,
 ) -> ReadReply
-    ensures { λ r. ⌜ readSaid (raw index (now (log .entry)) (now (snapshot .entry))) r ≡ run (query (readDecided (from .0))) true (raw index (now (log .entry)) (now (snapshot .entry))) .answer ⌝ }
-    ensures { λ r. ⌜ r ≡ decidedReply (from .0) (raw index (now (log .entry)) (now (snapshot .entry))) ⌝ }
+    ensures { λ r. ⌜ readSaid (raw index (now (log .entry)) (now (snapshot .entry))) r
+        ≡ run (query (readDecided (from .0))) true (raw index (now (log .entry)) (now (snapshot .entry))) .answer ⌝ }
 {
     if !state_cache::well_formed(index, log, snapshot) {
         return ReadReply::Refused(Refusal::IllFormed);

@@ -1,6 +1,6 @@
 -- Bytes put one after another, and the lines of what a read shows.
 use Prim.Native.Nat.{ℕ, _+_, _*_, _/_, _≤_}
-use mathlib.Core.Path.{_≡_, sym, ap, _∙_}
+use mathlib.Core.Path.{_≡_, refl, sym, ap, _∙_}
 use mathlib.Core.Bool.{Bool, true, false, _&&_}
 use mathlib.Core.List.{List, [], _++_, append-assoc}
 use mathlib.Core.Option.{Option, none, some}
@@ -11,11 +11,12 @@ use Rattle.words.specs.If.{if_then_else_}
 use Rattle.words.proofs.CodedLaws.{entries-length}
 use Rattle.entry.specs.Limits.{width, largestBatch, logWords, snapshotWords}
 use Rattle.entry.specs.Guards.{Answer, refused, replied}
-use Rattle.entry.specs.Change.{entriesOf, changeCode}
+use Rattle.entry.specs.Change.{Change, entriesOf, changeCode}
 use Rattle.model.specs.Append.{Flushed}
+use Rattle.model.specs.Read.{Bound, span, Shown, shown}
 use Rattle.model.specs.Log.{given, freshLog}
 use Rattle.model.specs.Numbers.{acceptedOf}
-use Rattle.model.specs.Calls.{Query, QueryReply, query}
+use Rattle.model.specs.Calls.{query, read}
 use Rattle.state_cache.proofs.Stands.{given-by}
 use Rattle.state_cache.specs.State.{Raw, raw, rawOf, indexOf, oneIf}
 use Rattle.state_cache.specs.Run.{Outcome, outcome, run, freshCall, ofNumbers}
@@ -25,9 +26,12 @@ use Rattle.text.specs.Answers.{lineOf, entryLines}
 use Rattle.text.specs.declared.Line.the-variants.{Done, Refused, Run, Snapshot}
 use Rattle.reading.proofs.Answers.{query-keeps}
 use Rattle.reading.specs.Parts.{part}
-use Rattle.reading.specs.Replies.{markerSaid, shownSaid}
+use Rattle.reading.specs.Replies.{lentSpan, markerSaid, shownSaid, readSaid}
+use Rattle.reading.proofs.Showing.{lent-count}
+use Rattle.reading.proofs.Replying.{ShownLent, read-lent}
+use Rattle.reading.specs.declared.ReadReply.{ReadReply}
 use Rattle.reading.specs.declared.ShownRun.{ShownRun}
-use Rattle.replay.specs.Answering.{told, markerText, stopText, shownText, printed, startedBy, stopLine, stoppedBy}
+use Rattle.replay.specs.Answering.{told, markerText, stopText, shownText, readText, inLog, readTextIn, printed, startedBy, stopLine, stoppedBy}
 use Rattle.replay.specs.Feeding.{after}
 
 two : {t₁ t₂ : List ℕ} (t₀ a b : List ℕ) → t₁ ≡ t₀ ++ a → t₂ ≡ t₁ ++ b → t₂ ≡ t₀ ++ (a ++ b)
@@ -57,13 +61,14 @@ pub shown-is : {t₁ t₂ t₃ t₄ : List ℕ} (t₀ : List ℕ) (run : ShownRu
     → t₂ ≡ t₁ ++ markerText (markerSaid snapshot (run .marker))
     → t₃ ≡ t₂ ++ entryLines (run .decided) (entriesOf (length entries / width) entries)
     → t₄ ≡ t₃ ++ stopText (if run .stop then some (index .stop) else none) (run .«stop_decided»)
-    → t₄ ≡ t₀ ++ shownText (shownSaid (raw index log snapshot) run)
+    → t₄ ≡ t₀ ++ shownText (inLog log (shownSaid (raw index log snapshot) run))
 unfolding shownText
 shown-is {t₁ = t₁} {t₂ = t₂} t₀ run index log snapshot entries m lines e em el p q r s =
-    let part-is : List ℕ = part (run .first) (run .count) log in
+    let part-is : List ℕ = part (run .first) (length (lentSpan log (run .first) (run .count) .entries)) log in
+    let named : entries ≡ part-is = e ∙ ap (λ (k : ℕ). part (run .first) k log) (sym (lent-count log (run .first) (run .count))) in
     let n : ℕ = oneIf (given (markerSaid snapshot (run .marker))) + length (entriesOf (length part-is / width) part-is) + oneIf (given (if run .stop then some (index .stop) else none)) in
     let en : lines ≡ n = el ∙ ap (λ (k : ℕ). k + length entries / width + oneIf (run .stop)) em
-    ∙ ap (λ (ws : List ℕ). oneIf (given (markerSaid snapshot (run .marker))) + length ws / width + oneIf (run .stop)) e
+    ∙ ap (λ (ws : List ℕ). oneIf (given (markerSaid snapshot (run .marker))) + length ws / width + oneIf (run .stop)) named
     ∙ ap (λ (k : ℕ). oneIf (given (markerSaid snapshot (run .marker))) + k + oneIf (run .stop)) (sym (entries-length changeCode (length part-is / width) part-is))
     ∙ ap (λ (b : Bool). oneIf (given (markerSaid snapshot (run .marker))) + length (entriesOf (length part-is / width) part-is) + oneIf b) (sym (given-by (run .stop) (index .stop))) in
     let head : List ℕ = lineOf (Run n) in
@@ -71,8 +76,14 @@ shown-is {t₁ = t₁} {t₂ = t₂} t₀ run index log snapshot entries m lines
     let body : List ℕ = entryLines (run .decided) (entriesOf (length part-is / width) part-is) in
     let last : List ℕ = stopText (if run .stop then some (index .stop) else none) (run .«stop_decided») in
     let p′ = p ∙ ap (λ (k : ℕ). t₀ ++ lineOf (Run k)) en in
-    let r′ = r ∙ ap (λ (ws : List ℕ). t₂ ++ entryLines (run .decided) (entriesOf (length ws / width) ws)) e in
+    let r′ = r ∙ ap (λ (ws : List ℕ). t₂ ++ entryLines (run .decided) (entriesOf (length ws / width) ws)) named in
     two t₀ (head ++ mark ++ body) last (two t₀ (head ++ mark) body (two t₀ head mark p′ q) r′) s
+
+-- the words that a read's part names are its entries
+lent-text : (log : List ℕ) (a : Answer (Option Shown)) → ShownLent log a → readTextIn log a ≡ readText a
+lent-text log (refused n k) e = refl
+lent-text log (replied none) e = refl
+lent-text log (replied (some v)) e = ap (λ (es : List Change). shownText (shown (v .marker) (span (v .part .first) es) (v .decided) (v .stop) (v .stopDecided))) e
 
 -- ---- what a call's answer prints, and the state after it
 
@@ -80,11 +91,13 @@ pub tells : {A : Type 0} (text : Answer A → List ℕ) (l : List ℕ) (a : Answ
     → outcome a x ≡ o → l ≡ text a → told l x ≡ printed text o
 tells text l a x o e h = ap (λ (bs : List ℕ). told bs x) h ∙ ap (printed text) e
 
--- a query's answer; the state stays
-pub asks : (q : Query) (text : Answer (QueryReply q) → List ℕ) (a : Answer (QueryReply q)) (x : Raw)
-    → a ≡ run (query q) true x .answer → told (text a) x ≡ printed text (run (query q) true x)
-asks q text a x e =
-    ap (λ (y : Answer (QueryReply q)). told (text y) x) e ∙ ap (λ (r : Raw). told (text (run (query q) true x .answer)) r) (sym (query-keeps q x))
+-- a read's answer; the state stays
+pub reads : (a b : Bound) (r : ReadReply) (x : Raw) → readSaid x r ≡ run (query (read a b)) true x .answer
+    → told (readTextIn (x .log) (readSaid x r)) x ≡ printed readText (run (query (read a b)) true x)
+reads a b r x e =
+    ap (λ (y : Answer (Option Shown)). told (readTextIn (x .log) y) x) e
+    ∙ ap (λ (bs : List ℕ). told bs x) (lent-text (x .log) (run (query (read a b)) true x .answer) (read-lent x a b))
+    ∙ ap (λ (s : Raw). told (readText (run (query (read a b)) true x .answer)) s) (sym (query-keeps (read a b) x))
 
 pub stops : (l : List ℕ) (a : Answer (Option Flushed)) (last : Answer ℕ) (x : Raw) (o : Outcome (Option Flushed))
     → outcome a x ≡ o → last ≡ ofNumbers acceptedOf x → l ≡ stopLine a last → told l x ≡ stoppedBy o

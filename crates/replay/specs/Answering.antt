@@ -5,14 +5,14 @@ use mathlib.Core.List.{List, [], _∷_, _++_}
 use mathlib.Core.Option.{Option, none, some}
 use lib.ListN.{length, replicate}
 use Rattle.entry.specs.Limits.{mostNodes, mostMetadata}
-use Rattle.entry.specs.Change.{Change, Said as SaidOf, place, removed}
+use Rattle.entry.specs.Change.{Change, Said as SaidOf, place, removed, entriesIn}
 use Rattle.entry.specs.Upto.{uptoOf}
 use Rattle.entry.specs.Guards.{Answer, refused, replied}
 use Rattle.entry.specs.declared.StopSign.{StopSign}
 use Rattle.model.specs.Numbers.{acceptedOf}
 use Rattle.model.specs.Log.{given}
 use Rattle.model.specs.Append.{Flushed}
-use Rattle.model.specs.Read.{included, excluded, Marker, trimmed, snapshotted, Shown}
+use Rattle.model.specs.Read.{included, excluded, Marker, trimmed, snapshotted, span, Shown, shown}
 use Rattle.model.specs.Calls.{query, read, append, flush, appendStop, decide, trim, snapshot}
 use Rattle.state_cache.specs.State.{Raw, oneIf}
 use Rattle.state_cache.specs.Run.{Outcome, run, freshCall, ofNumbers}
@@ -20,6 +20,7 @@ use Rattle.text.specs.Answers.{lineOf, entryLines}
 use Rattle.text.specs.declared.Line.the-variants.{Done, Held, Nothing, BadLine, Accepted, Refused, Run, Trimmed, Snapshot, Stop}
 use Rattle.text.specs.declared.Command.{Command}
 use Rattle.text.specs.declared.Command.the-variants as command
+use Rattle.reading.specs.Parts.{part}
 use Rattle.reading.specs.Replies.{readSaid}
 use Rattle.replay.specs.declared.answer.Reply.{Reply}
 use Rattle.replay.specs.declared.answer.Reply.the-variants as reply
@@ -59,13 +60,13 @@ stopText (some g) decided = lineOf (Stop (g .«config_id») decided)
 
 -- "`run` counts the lines after it"
 abbrev pub linesIn : Shown → ℕ
-linesIn v = oneIf (given (v .marker)) + length (v .entries) + oneIf (given (v .stop))
+linesIn v = oneIf (given (v .marker)) + length (v .part .entries) + oneIf (given (v .stop))
 
 unfoldable pub shownText : Shown → List ℕ
 shownText v =
     lineOf (Run (linesIn v))
     ++ markerText (v .marker)
-    ++ entryLines (v .decided) (v .entries)
+    ++ entryLines (v .decided) (v .part .entries)
     ++ stopText (v .stop) (v .stopDecided)
 
 abbrev pub readText : Answer (Option Shown) → List ℕ
@@ -73,10 +74,21 @@ readText (refused n k) = lineOf (Refused n)
 readText (replied none) = lineOf Nothing
 readText (replied (some v)) = shownText v
 
+-- the same with the entries of the words that the part names: what the program has at hand
+abbrev pub inLog : List ℕ → Shown → Shown
+inLog log v =
+    shown (v .marker) (span (v .part .first) (entriesIn (part (v .part .first) (length (v .part .entries)) log)))
+    (v .decided) (v .stop) (v .stopDecided)
+
+abbrev pub readTextIn : List ℕ → Answer (Option Shown) → List ℕ
+readTextIn log (refused n k) = lineOf (Refused n)
+readTextIn log (replied none) = lineOf Nothing
+readTextIn log (replied (some v)) = shownText (inLog log v)
+
 -- a command's answer, beside the state after it
 abbrev pub replyText : Raw → Reply → List ℕ
 replyText x (reply.Line l) = lineOf l
-replyText x (reply.Read r) = readText (readSaid x r)
+replyText x (reply.Read r) = readTextIn (x .log) (readSaid x r)
 
 abbrev pub telling : Reply → Raw → Told
 telling r x = told (replyText x r) x

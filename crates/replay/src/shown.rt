@@ -15,7 +15,7 @@ ghost use Rattle.entry.specs.Limits.{logWords};
 ghost use Rattle.model.specs.Log.{given};
 ghost use Rattle.state_cache.specs.State.{raw, oneIf};
 ghost use Rattle.reading.specs.Replies.{markerSaid, shownSaid, readSaid};
-ghost use Rattle.replay.specs.Answering.{markerText, stopText, shownText, readText, replyText};
+ghost use Rattle.replay.specs.Answering.{markerText, stopText, shownText, inLog, readTextIn, replyText};
 ghost use Rattle.replay.specs.Feeding.{answerRoom};
 
 // A marker's line, or none.
@@ -60,7 +60,9 @@ fn lines_of_marker(marker: Marker) -> u64
 fn put_shown(out: &mut [u8], at: usize, run: ShownRun, index: IndexRecord, log: &[u64]) -> usize
     requires { ⌜ (at + answerRoom ≤ length (now out)) × (length (now log) ≡ logWords) ⌝ }
     ensures { λ r. ⌜ r ≤ at + answerRoom ⌝ }
-    ensures { λ r. ⌜ ((snapshot : List ℕ) → take r (now (out .exit)) ≡ take at (now (out .entry)) ++ shownText (shownSaid (raw index (now (log .entry)) snapshot) run)) ⌝ }
+    ensures { λ r. ⌜ ((snapshot : List ℕ) → take r (now (out .exit))
+        ≡ take at (now (out .entry))
+        ++ shownText (inLog (now (log .entry)) (shownSaid (raw index (now (log .entry)) snapshot) run))) ⌝ }
 {
     let entries = reading::entries_of(log, run.first, run.count);
     let n = entries.len() / entry::WIDTH;
@@ -75,7 +77,9 @@ fn put_shown(out: &mut [u8], at: usize, run: ShownRun, index: IndexRecord, log: 
 fn put_read(out: &mut [u8], at: usize, reply: ReadReply, index: IndexRecord, log: &[u64]) -> usize
     requires { ⌜ (at + answerRoom ≤ length (now out)) × (length (now log) ≡ logWords) ⌝ }
     ensures { λ r. ⌜ r ≤ at + answerRoom ⌝ }
-    ensures { λ r. ⌜ ((snapshot : List ℕ) → take r (now (out .exit)) ≡ take at (now (out .entry)) ++ readText (readSaid (raw index (now (log .entry)) snapshot) reply)) ⌝ }
+    ensures { λ r. ⌜ ((snapshot : List ℕ) → take r (now (out .exit))
+        ≡ take at (now (out .entry))
+        ++ readTextIn (now (log .entry)) (readSaid (raw index (now (log .entry)) snapshot) reply)) ⌝ }
 {
     match reply {
         ReadReply::Nothing => text::inner::put_line(out, at, Line::Nothing),

@@ -1,11 +1,13 @@
-// The two calls that take or give references to structs, as functions on plain slices and values that the boundary can export: what a
-// read shows, and an operation list as a slice.
+// The two calls that take or give references to structs, as functions on plain slices and values that the boundary can
+// export: what a read shows, and an operation list as a slice.
 use reading::Bound;
 use state_cache::IndexRecord;
 ghost use mathlib.Core.Path.{_≡_};
+ghost use mathlib.Core.Bool.{true};
+ghost use Rattle.model.specs.Calls.{query, read};
 ghost use Rattle.state_cache.specs.State.{raw};
-ghost use Rattle.reading.specs.Replies.{boundOf, shownPart, shownPartAt};
-ghost use Rattle.reading.specs.Numbered.{rangeReply};
+ghost use Rattle.state_cache.specs.Run.{run};
+ghost use Rattle.reading.specs.Replies.{boundOf, partShown, partShownAt};
 
 pub mod inner;
 
@@ -17,7 +19,12 @@ pub fn read_entries<'a>(
     from: Bound,
     to: Bound,
 ) -> &'a [u64]
-    ensures { λ r. ⌜ (now r ≡ shownPart (rangeReply (boundOf from) (boundOf to) (raw index (now (log .entry)) (now (snapshot .entry)))) (now (log .entry))) × (r .ptr ≡ shownPartAt (rangeReply (boundOf from) (boundOf to) (raw index (now (log .entry)) (now (snapshot .entry)))) (now (log .entry)) (log .entry .ptr)) ⌝ }
+    ensures { λ r. ⌜ (now r
+        ≡ partShown (run (query (read (boundOf from) (boundOf to))) true
+        (raw index (now (log .entry)) (now (snapshot .entry))) .answer) (now (log .entry)))
+        × (r .ptr
+        ≡ partShownAt (run (query (read (boundOf from) (boundOf to))) true
+        (raw index (now (log .entry)) (now (snapshot .entry))) .answer) (now (log .entry)) (log .entry .ptr)) ⌝ }
 {
     let found = reader::read(index, log, snapshot, from, to);
     found.entries

@@ -1,7 +1,7 @@
 -- `reader::read` meets its contract: a walk of its MIR, by hand. The reply of `read_reply` and the part that `entries_shown` returns for it
 -- are held in locals as they come, and `show_with` makes one value of them. All that the proof knows of the three is that they meet their
 -- contracts.
-use mathlib.Core.Path.{_≡_, refl, sym, ap, _∙_}
+use mathlib.Core.Path.{_≡_, refl, ap, _∙_}
 use mathlib.Core.Bool.{true}
 use Prim.Native.Nat.{ℕ}
 use mathlib.Core.List.{List, [], _∷_}
@@ -38,14 +38,16 @@ use denote.Triple.Table.{entered, cited}
 use denote.Triple.Walked.{says, Stays, stay-none, stay-none-slice, walkOf, goes-none, goes-none-slice, Walks, ends-at, walked, walk-meets}
 use denote.Exit.{yes}
 use denote.Triple.Clauses.{ensured, lasts}
+use mathlib.Core.Option.{Option}
+use Rattle.entry.specs.Guards.{Answer}
+use Rattle.model.specs.Read.{Shown as Shows}
 use Rattle.model.specs.Calls.{query, read as readCall}
 use Rattle.state_cache.specs.State.{Raw, raw as rawAt}
 use Rattle.state_cache.specs.Run.{run as runs}
 use Rattle.state_cache.specs.declared.IndexRecord.{IndexRecord}
 use Rattle.state_cache.proofs.IndexRecord as X
 use Rattle.state_cache.proofs.IndexRecord.Laws as X′
-use Rattle.reading.specs.Replies.{boundOf, readSaid, shownPart, shownPartAt}
-use Rattle.reading.specs.Numbered.{rangeReply}
+use Rattle.reading.specs.Replies.{boundOf, readSaid, partShown, partShownAt}
 use Rattle.reading.specs.declared.Bound.{Bound}
 use Rattle.reading.specs.declared.ReadReply.{ReadReply}
 use Rattle.reading.proofs.Bound as E
@@ -141,15 +143,15 @@ module _ {M : Type 1} (𝓤 : URA M) (H : Heap 𝓤) (A : Atoms 𝓤) (W : Given
   abbrev state : Raw
   state = rawAt x (now log) (now snapshot)
 
+  abbrev answer : Answer (Option Shows)
+  answer = runs (query (readCall (boundOf f) (boundOf t))) true state .answer
+
   -- what each call says
   abbrev Said : ReadReply → Type 0
-  Said r = readSaid state r ≡ runs (query (readCall (boundOf f) (boundOf t))) true state .answer
-
-  abbrev Exact : ReadReply → Type 0
-  Exact r = r ≡ rangeReply (boundOf f) (boundOf t) state
+  Said r = readSaid state r ≡ answer
 
   abbrev Words : ReadReply → RefT (List ℕ) → Type 0
-  Words r e = (now e ≡ shownPart r (now log)) × (e .ptr ≡ shownPartAt r (now log) (log .ptr))
+  Words r e = (y : Raw) → (now e ≡ partShown (readSaid y r) (now log)) × (e .ptr ≡ partShownAt (readSaid y r) (now log) (log .ptr))
 
   -- the call of `read_reply`: its parameters are this function's
   abbrev to-reply : Replies 𝓤 H A mem run .Ghost
@@ -168,8 +170,8 @@ module _ {M : Type 1} (𝓤 : URA M) (H : Heap 𝓤) (A : Atoms 𝓤) (W : Given
       use2 W (raw (Replies 𝓤 H A mem run .pre to-reply)) (qed W ((‵ (flft κ₁ q₁) ⊛ ‵ (flft κ₂ q₂) ⊛ ‵ ftrue) ∷ ‵ All ∷ []) ∵ join ! $ frame ! $ done !) $
       nothing ! $ move ! (2 ∷ 0 ∷ []) $ fjoin ! $ move ! (2 ∷ 0 ∷ []) $ fjoin ! $ move ! (1 ∷ 0 ∷ []) $ frame ! $ done !
 
-  reply-said : (r : ReadReply) → ent 𝓤 (ensured 𝓤 H A reply.ended (reply.clauses 𝓤 H A mem run) (κ₁, (κ₂, tt)) a tt r) (sep 𝓤 (fact 𝓤 (Said r)) (fact 𝓤 (Exact r)))
-  reply-said r = exE 𝓤 _ (λ ws. snd∗ 𝓤 (sem 𝓤 H A (lasts reply.ended (κ₁, (κ₂, tt)) a ws)) (sep 𝓤 (fact 𝓤 (Said r)) (fact 𝓤 (Exact r))))
+  reply-said : (r : ReadReply) → ent 𝓤 (ensured 𝓤 H A reply.ended (reply.clauses 𝓤 H A mem run) (κ₁, (κ₂, tt)) a tt r) (fact 𝓤 (Said r))
+  reply-said r = exE 𝓤 _ (λ ws. snd∗ 𝓤 (sem 𝓤 H A (lasts reply.ended (κ₁, (κ₂, tt)) a ws)) (fact 𝓤 (Said r)))
 
   -- the call of `entries_shown`, at the reply r with its machine value
   abbrev to-part : ReadReply → Val → Parts 𝓤 H A mem run .Ghost
@@ -198,7 +200,7 @@ module _ {M : Type 1} (𝓤 : URA M) (H : Heap 𝓤) (A : Atoms 𝓤) (W : Given
 
   -- what is known of the record and the bounds, which are made anew where they are owed
   module _ (isX : Is X.the-row x (m ∷ [])) (isF : Is E.the-row f (ev f ∷ [])) (isT : Is E.the-row t (ev t ∷ [])) where
-    exits : (d : Shown) (u : Val) → Said (d .reply) × Exact (d .reply) × (now (d .entries) ≡ shownPart (d .reply) (now log)) × (d .entries .ptr ≡ shownPartAt (d .reply) (now log) (log .ptr))
+    exits : (d : Shown) (u : Val) → Said (d .reply) × (now (d .entries) ≡ partShown answer (now log)) × (d .entries .ptr ≡ partShownAt answer (now log) (log .ptr))
         → ent 𝓤 (⋆ 𝓤 H A (‵ (B (κ₁, (κ₂, tt)) .own d (u ∷ [])) ∷ (‵ (flft κ₁ q₁) ⊛ ‵ ftrue) ∷ ‵ Own₁ ∷ ‵ Kept₂ ∷ (‵ (flft κ₂ q₂) ⊛ ‵ ftrue) ∷ [])) (Post u)
     exits d u e =
         qed W (‵ (B (κ₁, (κ₂, tt)) .own d (u ∷ [])) ∷ (‵ (flft κ₁ q₁) ⊛ ‵ ftrue) ∷ ‵ Own₁ ∷ ‵ Kept₂ ∷ (‵ (flft κ₂ q₂) ⊛ ‵ ftrue) ∷ []) ∵
@@ -221,7 +223,7 @@ module _ {M : Type 1} (𝓤 : URA M) (H : Heap 𝓤) (A : Atoms 𝓤) (W : Given
           move ! (16 ∷ []) $ use1 W (raw (Replies 𝓤 H A mem run .pre to-reply) ⊛ ‵ Kept) goes-reply $ split ! $
           calls-at ! fm (Replies 𝓤 H A mem run) known-reply to-reply (and-then ! (load ! (from ! (stop !)) (look ! 14 refl)) (and-then ! (load ! (from ! (stop !)) (look ! 12 refl)) (and-then ! (load ! (from ! (stop !)) (look ! 10 refl)) (and-then ! (load ! (from ! (stop !)) (look ! 8 refl)) (and-then ! (load ! (from ! (stop !)) (look ! 6 refl)) (no-more !)))))) (λ u.
           use1 W (later (some (λ (r : ReadReply). ((‵ (flft κ₁ q₁) ⊛ ‵ (flft κ₂ q₂) ⊛ ‵ ftrue) ⊛ ‵ (S.the-row .own r (u ∷ []))) ⊛ raw (ensured 𝓤 H A reply.ended (reply.clauses 𝓤 H A mem run) (κ₁, (κ₂, tt)) a tt r)))) (id⊢ 𝓤 _) $ await ! tt $ pick ! (λ r.
-          split ! $ move ! (1 ∷ []) $ use1 W (raw (fact 𝓤 (Said r)) ⊛ raw (fact 𝓤 (Exact r))) (reply-said r) $ split ! $ heard ! (Said r) (λ e₁. heard ! (Exact r) (λ e₂. split ! $ move ! (1 ∷ []) $
+          split ! $ move ! (1 ∷ []) $ use1 W (raw (fact 𝓤 (Said r))) (reply-said r) $ heard ! (Said r) (λ e₁. split ! $ move ! (1 ∷ []) $
           -- [the reply's facts; the tokens; the slices; _7; …; _6; …]
           peeks ! S.the-row (Is S.the-row) (shows 𝓤 H A S.the-row) r (u ∷ []) (λ is₁.
           land ! (from ! (stop !)) (init ! 5 refl (EL.lawful S.the-type S′.the-laws 𝓤 H A W tt .typed r _ is₁ .0)) $ drop ! $
@@ -245,7 +247,7 @@ module _ {M : Type 1} (𝓤 : URA M) (H : Heap 𝓤) (A : Atoms 𝓤) (W : Given
           land ! (from ! (stop !)) (init ! 19 refl (LL.lawful (T.the-type (namedLft 2 0 tt (κ₁, (κ₂, tt)))) (T′.the-laws (namedLft 2 0 tt (κ₁, (κ₂, tt)))) 𝓤 H A W .typed d _ is₃ .0)) $
           returns ! (look ! 19 refl) $ forget ! 5 refl $ forget ! 7 refl $ forget ! 9 refl $ forget ! 11 refl $ forget ! 13 refl $ forget ! 15 refl $ forget ! 17 refl $ forget ! 19 refl $
           move ! (19 ∷ 20 ∷ []) $ free1 ! $ move ! (17 ∷ 18 ∷ []) $ free1 ! $ move ! (15 ∷ 16 ∷ []) $ free1 ! $ move ! (13 ∷ 14 ∷ []) $ free1 ! $ move ! (11 ∷ 12 ∷ []) $ free1 ! $ move ! (9 ∷ 10 ∷ []) $ free1 ! $ move ! (7 ∷ 8 ∷ []) $ free1 ! $ move ! (5 ∷ 6 ∷ []) $ free1 ! $ free0 ! $
-          by ! (exits d u″ (ap (readSaid state) (e₄ .1) ∙ e₁, e₄ .1 ∙ e₂, ap now (e₄ .0) ∙ e₃ .0 ∙ sym (ap (λ (r : ReadReply). shownPart r (now log)) (e₄ .1)), ap ptr (e₄ .0) ∙ e₃ .1 ∙ sym (ap (λ (r : ReadReply). shownPartAt r (now log) (log .ptr)) (e₄ .1)))))))))))))))))))))))))
+          by ! (exits d u″ (ap (readSaid state) (e₄ .1) ∙ e₁, ap now (e₄ .0) ∙ e₃ state .0 ∙ ap (λ (w : Answer (Option Shows)). partShown w (now log)) e₁, ap ptr (e₄ .0) ∙ e₃ state .1 ∙ ap (λ (w : Answer (Option Shows)). partShownAt w (now log) (log .ptr)) e₁))))))))))))))))))))))
 
 module _ {M : Type 1} (𝓤 : URA M) (H : Heap 𝓤) (A : Atoms 𝓤) (W : Given 𝓤 H A) (mem : Memory → SProp 𝓤) (run : Routine → Fun 𝓤) where
   read-walks : (C : Calls 𝓤 H) (Λ : Loops 𝓤 H) → FmC 𝓤 H (W .laws) C → Triple 𝓤 (C #read-reply) (Replies 𝓤 H A mem run) → Triple 𝓤 (C #entries-shown) (Parts 𝓤 H A mem run) → Triple 𝓤 (C #show-with) (With 𝓤 H A mem run)

@@ -2,9 +2,10 @@
 use mathlib.Core.Path.{sym, _∙_}
 use borrow.Author.Tests.{not-true, not-false}
 use denote.Ref.{now}
+use Rattle.model.specs.Calls.{getEntries}
 use Rattle.state_cache.specs.State.{raw}
 use Rattle.state_cache.proofs.Stands.{ready-of}
-use Rattle.reading.proofs.Showing.{span-ill, entries-told}
+use Rattle.reading.proofs.Answers.{ill-formed-answer}
 use borrow.Author.Needs.{needs}
 use Rattle.reading.proofs.get_entries_reply.Statement.{statement}
 use Rattle.reading.proofs.get_entries_reply.Tie as tie
@@ -15,8 +16,7 @@ well-formed-requires c κs = search needs
 returns : tie.Need-returns
 returns c =
     let a = c .before .before .before .before .args in
-    let x = raw (a .index) (now (a .log)) (now (a .snapshot)) in
-    entries-told (a .from .0) (a .to .0) x _ (span-ill (a .from .0) (a .to .0) x (sym (c .before .well-formed .ensures) ∙ not-true _ (c .if1 .taken)))
+    ill-formed-answer (getEntries (a .from .0) (a .to .0)) (raw (a .index) (now (a .log)) (now (a .snapshot))) (sym (c .before .well-formed .ensures) ∙ not-true _ (c .if1 .taken))
 
 get-entries-reply-requires : tie.Need-get-entries-reply-requires
 get-entries-reply-requires c κs = ready-of _ (sym (c .before .well-formed .ensures) ∙ not-false _ (c .if1 .left))

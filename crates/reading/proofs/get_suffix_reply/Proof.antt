@@ -1,11 +1,11 @@
 -- `reading::get_suffix_reply` meets its contract: refusal 12, then the read of a well-formed log.
-use mathlib.Core.Path.{refl, sym, _∙_}
+use mathlib.Core.Path.{sym, _∙_}
 use borrow.Author.Tests.{not-true, not-false}
 use denote.Ref.{now}
-use Rattle.model.specs.Numbers.{endOf}
-use Rattle.state_cache.specs.State.{raw, numbersIn}
+use Rattle.model.specs.Calls.{getSuffix}
+use Rattle.state_cache.specs.State.{raw}
 use Rattle.state_cache.proofs.Stands.{ready-of}
-use Rattle.reading.proofs.Showing.{span-ill, suffix-told}
+use Rattle.reading.proofs.Answers.{ill-formed-answer}
 use borrow.Author.Needs.{needs}
 use Rattle.reading.proofs.get_suffix_reply.Statement.{statement}
 use Rattle.reading.proofs.get_suffix_reply.Tie as tie
@@ -16,9 +16,7 @@ well-formed-requires c κs = search needs
 returns : tie.Need-returns
 returns c =
     let a = c .before .before .before .before .args in
-    let x = raw (a .index) (now (a .log)) (now (a .snapshot)) in
-    let last = endOf (numbersIn (a .index)) in
-    suffix-told (a .from .0) last x refl _ (span-ill (a .from .0) last x (sym (c .before .well-formed .ensures) ∙ not-true _ (c .if1 .taken)))
+    ill-formed-answer (getSuffix (a .from .0)) (raw (a .index) (now (a .log)) (now (a .snapshot))) (sym (c .before .well-formed .ensures) ∙ not-true _ (c .if1 .taken))
 
 get-suffix-reply-requires : tie.Need-get-suffix-reply-requires
 get-suffix-reply-requires c κs = ready-of _ (sym (c .before .well-formed .ensures) ∙ not-false _ (c .if1 .left))

@@ -2,9 +2,10 @@
 use mathlib.Core.Path.{sym, _∙_}
 use borrow.Author.Tests.{not-true, not-false}
 use denote.Ref.{now}
+use Rattle.model.specs.Calls.{readDecided}
 use Rattle.state_cache.specs.State.{raw}
 use Rattle.state_cache.proofs.Stands.{ready-of}
-use Rattle.reading.proofs.Replying.{decided-ill, decided-told}
+use Rattle.reading.proofs.Answers.{ill-formed-answer}
 use borrow.Author.Needs.{needs}
 use Rattle.reading.proofs.read_decided_suffix_reply.Statement.{statement}
 use Rattle.reading.proofs.read_decided_suffix_reply.Tie as tie
@@ -15,8 +16,7 @@ well-formed-requires c κs = search needs
 returns : tie.Need-returns
 returns c =
     let a = c .before .before .before .before .args in
-    let x = raw (a .index) (now (a .log)) (now (a .snapshot)) in
-    decided-told (a .from .0) x _ (decided-ill (a .from .0) x (sym (c .before .well-formed .ensures) ∙ not-true _ (c .if1 .taken)))
+    ill-formed-answer (readDecided (a .from .0)) (raw (a .index) (now (a .log)) (now (a .snapshot))) (sym (c .before .well-formed .ensures) ∙ not-true _ (c .if1 .taken))
 
 read-decided-suffix-reply-requires : tie.Need-read-decided-suffix-reply-requires
 read-decided-suffix-reply-requires c κs = ready-of _ (sym (c .before .well-formed .ensures) ∙ not-false _ (c .if1 .left))

@@ -2,10 +2,11 @@
 use mathlib.Core.Path.{sym, _∙_}
 use borrow.Author.Tests.{not-true, not-false}
 use denote.Ref.{now}
+use Rattle.model.specs.Calls.{read}
 use Rattle.state_cache.specs.State.{raw}
 use Rattle.state_cache.proofs.Stands.{ready-of}
 use Rattle.reading.specs.Replies.{boundOf}
-use Rattle.reading.proofs.Replying.{range-ill, range-told}
+use Rattle.reading.proofs.Answers.{ill-formed-answer}
 use borrow.Author.Needs.{needs}
 use Rattle.reading.proofs.read_reply.Statement.{statement}
 use Rattle.reading.proofs.read_reply.Tie as tie
@@ -16,8 +17,7 @@ well-formed-requires c κs = search needs
 returns : tie.Need-returns
 returns c =
     let a = c .before .before .before .before .args in
-    let x = raw (a .index) (now (a .log)) (now (a .snapshot)) in
-    range-told (boundOf (a .from)) (boundOf (a .to)) x _ (range-ill (boundOf (a .from)) (boundOf (a .to)) x (sym (c .before .well-formed .ensures) ∙ not-true _ (c .if1 .taken)))
+    ill-formed-answer (read (boundOf (a .from)) (boundOf (a .to))) (raw (a .index) (now (a .log)) (now (a .snapshot))) (sym (c .before .well-formed .ensures) ∙ not-true _ (c .if1 .taken))
 
 read-reply-requires : tie.Need-read-reply-requires
 read-reply-requires c κs = ready-of _ (sym (c .before .well-formed .ensures) ∙ not-false _ (c .if1 .left))

@@ -1,6 +1,6 @@
 -- `walked::read_entries` meets its contract: a walk of its MIR, by hand. What `reader::read` returns is held in a local, and its entries are read
 -- there. All that the proof knows of the call is that it meets its contract.
-use mathlib.Core.Path.{_≡_, refl, sym, ap, _∙_}
+use mathlib.Core.Path.{_≡_, refl, ap}
 use mathlib.Core.Bool.{true}
 use Prim.Native.Nat.{ℕ}
 use mathlib.Core.List.{List, [], _∷_}
@@ -40,10 +40,8 @@ use Rattle.state_cache.specs.Run.{run as runs}
 use Rattle.state_cache.specs.declared.IndexRecord.{IndexRecord}
 use Rattle.state_cache.proofs.IndexRecord as X
 use Rattle.state_cache.proofs.IndexRecord.Laws as X′
-use Rattle.reading.specs.Replies.{boundOf, readSaid, shownPart, shownPartAt}
-use Rattle.reading.specs.Numbered.{rangeReply}
+use Rattle.reading.specs.Replies.{boundOf, readSaid, partShown, partShownAt}
 use Rattle.reading.specs.declared.Bound.{Bound}
-use Rattle.reading.specs.declared.ReadReply.{ReadReply}
 use Rattle.reading.proofs.Bound as E
 use Rattle.reading.proofs.Bound.Laws as E′
 use Rattle.reading.proofs.ReadReply as S
@@ -133,9 +131,8 @@ module _ {M : Type 1} (𝓤 : URA M) (H : Heap 𝓤) (A : Atoms 𝓤) (W : Given
   -- what the callee says
   abbrev Says : Shown → Type 0
   Says d = (readSaid state (d .reply) ≡ runs (query (readCall (boundOf g) (boundOf t))) true state .answer)
-      × (d .reply ≡ rangeReply (boundOf g) (boundOf t) state)
-      × (now (d .entries) ≡ shownPart (d .reply) (now log))
-      × (d .entries .ptr ≡ shownPartAt (d .reply) (now log) (log .ptr))
+      × (now (d .entries) ≡ partShown (runs (query (readCall (boundOf g) (boundOf t))) true state .answer) (now log))
+      × (d .entries .ptr ≡ partShownAt (runs (query (readCall (boundOf g) (boundOf t))) true state .answer) (now log) (log .ptr))
 
   abbrev to : Callee 𝓤 H A mem run .Ghost
   to = (((κ₁, (κ₂, tt)), (q₁, (q₂, tt)), tt, a, at), tt)
@@ -180,7 +177,7 @@ module _ {M : Type 1} (𝓤 : URA M) (H : Heap 𝓤) (A : Atoms 𝓤) (W : Given
     exits d u e is =
         qed W (‵ (B .own d (u ∷ [])) ∷ (‵ (flft κ₁ q₁) ⊛ ‵ (flft κ₂ q₂) ⊛ ‵ ftrue) ∷ ‵ Kept ∷ []) ∵
         suffices ! _ (ends-at 𝓤 H A f.ended stayed (f.clauses 𝓤 H A mem run) W (((κ₁, (κ₂, tt)), (q₁, (q₂, tt)), tt, a, at), tt) (rv d) (d .entries) (tt, (tt, (tt, (tt, (tt, tt))))) (tt, (tt, (tt, (tt, (tt, tt)))))) $
-        says ! (e .2 ∙ ap (λ (r : ReadReply). shownPart r (now log)) (e .1), e .3 ∙ ap (λ (r : ReadReply). shownPartAt r (now log) (log .ptr)) (e .1)) $
+        says ! (e .1, e .2) $
         move ! (1 ∷ []) $ frame ! $
         -- [what the struct owns; the slices]
         move ! (1 ∷ []) $ fsplit ! $ move ! (1 ∷ []) $ fsplit ! $ move ! (1 ∷ []) $

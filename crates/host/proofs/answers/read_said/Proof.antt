@@ -1,5 +1,4 @@
-use mathlib.Core.Path.{sym, ap, _∙_}
-use Rattle.host.specs.Reads.{shownAs}
+use Rattle.state_cache.specs.State.{Raw}
 use borrow.Author.Needs.{needs}
 use Rattle.host.proofs.answers.read_said.Statement.{statement}
 use Rattle.host.proofs.answers.read_said.Tie as tie
@@ -23,13 +22,13 @@ refusal-said-requires : tie.Need-refusal-said-requires
 refusal-said-requires c κs = search needs
 
 returns : tie.Need-returns
-returns c = cc
+returns c = λ (x : Raw). rw (c .before .enum-told .given .1) (c .show-none .ensures)
 
 returns-2 : tie.Need-returns-2
-returns-2 c = cc
+returns-2 c = λ (x : Raw). rw (c .before .before .a .given .1) (c .run-said .ensures x)
 
 returns-3 : tie.Need-returns-3
-returns-3 c = c .refusal-said .ensures ∙ sym (ap shownAs (c .before .before .a2 .given .1))
+returns-3 c = λ (x : Raw). rw (c .before .before .a2 .given .1) (c .refusal-said .ensures)
 
 pub read-said-spec : {M : Type 1} → statement M
 read-said-spec =

@@ -1,5 +1,5 @@
-use mathlib.Core.Path.{sym, ap, _∙_}
-use Rattle.host.specs.Reads.{markedAs}
+use Rattle.words.proofs.CodedLaws.{entries-length}
+use Rattle.state_cache.specs.State.{Raw}
 use borrow.Author.Needs.{needs}
 use Rattle.host.proofs.answers.run_said.Statement.{statement}
 use Rattle.host.proofs.answers.run_said.Tie as tie
@@ -23,13 +23,13 @@ show-requires-3 : tie.Need-show-requires-3
 show-requires-3 c κs = search needs
 
 returns : tie.Need-returns
-returns c = cc
+returns c = λ (x : Raw). rw (c .before .enum-told .given .1) (c .show .ensures x)
 
 returns-2 : tie.Need-returns-2
-returns-2 c = cc
+returns-2 c = λ (x : Raw). rw (c .before .before .m .given .1) (c .show2 .ensures x)
 
 returns-3 : tie.Need-returns-3
-returns-3 c = c .show3 .ensures ∙ sym (ap (λ m. markedAs m (c .before .before .before .before .args .r)) (c .before .before .m2 .given .1))
+returns-3 c = λ (x : Raw). rw (c .before .before .m2 .given .1, entries-length) (c .show3 .ensures x)
 
 pub run-said-spec : {M : Type 1} → statement M
 run-said-spec =

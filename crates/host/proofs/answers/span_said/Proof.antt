@@ -1,5 +1,6 @@
-use mathlib.Core.Path.{sym, ap, _∙_}
-use Rattle.host.specs.Reads.{spanAs}
+use Prim.Native.Nat.{ℕ}
+use mathlib.Core.List.{List}
+use Rattle.words.proofs.CodedLaws.{entries-length}
 use borrow.Author.Needs.{needs}
 use Rattle.host.proofs.answers.span_said.Statement.{statement}
 use Rattle.host.proofs.answers.span_said.Tie as tie
@@ -17,10 +18,10 @@ refuse-requires : tie.Need-refuse-requires
 refuse-requires c κs = search needs
 
 returns : tie.Need-returns
-returns c = cc
+returns c = λ (log : List ℕ). rw (c .before .before .answer .given .1, entries-length) (c .tell .ensures)
 
 returns-2 : tie.Need-returns-2
-returns-2 c = c .refuse .ensures ∙ sym (ap spanAs (c .before .before .answer2 .given .1))
+returns-2 c = λ (log : List ℕ). rw (c .before .before .answer2 .given .1) (c .refuse .ensures)
 
 pub span-said-spec : {M : Type 1} → statement M
 span-said-spec =

@@ -9,7 +9,7 @@ span-said-requires : tie.Need-span-said-requires
 span-said-requires c κs = search needs
 
 returns : tie.Need-returns
-returns c = cc
+returns c = rw (← c .before .get-suffix-reply .ensures) (c .span-said .ensures _)
 
 pub kotuseraw-inner-get-suffix-spec : {M : Type 1} → statement M
 kotuseraw-inner-get-suffix-spec =

@@ -9,7 +9,7 @@ read-said-requires : tie.Need-read-said-requires
 read-said-requires c κs = search needs
 
 returns : tie.Need-returns
-returns c = cc
+returns c = rw (← c .before .read-decided-suffix-reply .ensures) (c .read-said .ensures _)
 
 pub kotuseraw-inner-read-decided-suffix-spec : {M : Type 1} → statement M
 kotuseraw-inner-read-decided-suffix-spec =

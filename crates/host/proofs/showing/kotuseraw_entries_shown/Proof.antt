@@ -2,6 +2,8 @@ use Prim.Native.Nat.{ℕ}
 use mathlib.Core.Path.{ap, _∙_}
 use mathlib.Core.List.{List}
 use denote.Ref.{now}
+use Rattle.model.specs.Log.{freshLog}
+use Rattle.state_cache.specs.State.{rawOf}
 use Rattle.host.specs.Reads.{copiedOut}
 use borrow.Author.Needs.{needs}
 use Rattle.host.proofs.showing.kotuseraw_entries_shown.Statement.{statement}
@@ -21,8 +23,9 @@ same-length c = search needs
 
 returns : tie.Need-returns
 returns c =
+    let any = rawOf (freshLog 0) in
     let a = c .before .before .before .before .before .before .before .before .args in
-    c .before .before .copy-out .ensures ∙ ap (λ (p : List ℕ). copiedOut p (now (a .out))) (c .before .before .before .before .entries-shown .ensures .0 ∙ c .before .before .before .before .before .reply-of .ensures (now (a .log)))
+    c .before .before .copy-out .ensures ∙ ap (λ (p : List ℕ). copiedOut p (now (a .out))) (c .before .before .before .before .entries-shown .ensures any .0 ∙ c .before .before .before .before .before .reply-of .ensures any (now (a .log)))
 
 pub kotuseraw-entries-shown-spec : {M : Type 1} → statement M
 kotuseraw-entries-shown-spec =

@@ -1,3 +1,5 @@
+use denote.Ref.{now}
+use Rattle.state_cache.specs.State.{raw}
 use borrow.Author.Needs.{needs}
 use Rattle.host.proofs.showing.kotuseraw_read.Statement.{statement}
 use Rattle.host.proofs.showing.kotuseraw_read.Tie as tie
@@ -15,7 +17,9 @@ read-said-requires : tie.Need-read-said-requires
 read-said-requires c κs = search needs
 
 returns : tie.Need-returns
-returns c = cc
+returns c =
+    let a = c .before .before .before .before .before .before .args in
+    cc (c .read-said .ensures (raw (a .index) (now (a .log)) (now (a .snapshot))))
 
 pub kotuseraw-read-spec : {M : Type 1} → statement M
 kotuseraw-read-spec =

@@ -1,11 +1,13 @@
 use Prim.Native.Nat.{ℕ}
 use mathlib.Core.Path.{ap, ap₂, _∙_}
+use mathlib.Core.Bool.{true}
 use mathlib.Core.List.{List}
 use denote.Ref.{now}
 use Rattle.model.specs.Read.{Bound}
+use Rattle.model.specs.Calls.{query, read}
 use Rattle.state_cache.specs.State.{raw}
-use Rattle.reading.specs.Replies.{shownPart}
-use Rattle.reading.specs.Numbered.{rangeReply}
+use Rattle.state_cache.specs.Run.{run}
+use Rattle.reading.specs.Replies.{partShown}
 use Rattle.host.specs.Reads.{copiedOut}
 use borrow.Author.Needs.{needs}
 use Rattle.host.proofs.showing.kotuseraw_read_entries.Statement.{statement}
@@ -29,7 +31,7 @@ same-length c = search needs
 returns : tie.Need-returns
 returns c =
     let a = c .before .before .before .before .before .before .before .before .before .before .args in
-    let ends = ap₂ (λ (x y : Bound). copiedOut (shownPart (rangeReply x y (raw (a .index) (now (a .log)) (now (a .snapshot)))) (now (a .log))) (now (a .out))) (c .before .before .before .before .before .before .start-of .ensures) (c .before .before .before .before .before .stop-of .ensures) in
+    let ends = ap₂ (λ (x y : Bound). copiedOut (partShown (run (query (read x y)) true (raw (a .index) (now (a .log)) (now (a .snapshot))) .answer) (now (a .log))) (now (a .out))) (c .before .before .before .before .before .before .start-of .ensures) (c .before .before .before .before .before .stop-of .ensures) in
     c .before .before .copy-out .ensures ∙ ap (λ (p : List ℕ). copiedOut p (now (a .out))) (c .before .before .before .before .read-entries .ensures .0) ∙ ends
 
 pub kotuseraw-read-entries-spec : {M : Type 1} → statement M

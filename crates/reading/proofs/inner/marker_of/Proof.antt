@@ -1,6 +1,6 @@
 -- `reading::inner::marker_of` meets its contract: by the kind.
 use mathlib.Core.Path.{sym, ap, _∙_}
-use Rattle.reading.specs.Numbered.{markerAt}
+use Rattle.reading.specs.Inner.{markerAt}
 use Rattle.reading.specs.declared.inner.IndexEntry.{IndexEntry}
 use borrow.Author.Needs.{needs}
 use Rattle.reading.proofs.inner.marker_of.Statement.{statement}

@@ -2,8 +2,7 @@
 use Prim.Native.Nat.{_-_}
 use mathlib.Core.Path.{ap, _∙_}
 use Rattle.state_cache.specs.State.{numbersIn}
-use Rattle.reading.specs.Kinds.{kindIs, entryIs}
-use Rattle.reading.specs.Numbered.{runOfNone}
+use Rattle.reading.specs.Inner.{kindIs, entryIs, runOfNone}
 use Rattle.reading.specs.declared.ReadReply.the-variants.{Run}
 use Rattle.reading.specs.declared.inner.IndexEntry.the-variants.{Compacted, Entry, StopSign}
 use Rattle.reading.specs.declared.inner.Kind.the-variants.{Nothing, Held}

@@ -1,9 +1,10 @@
 -- `reading::inner::read_decided_suffix_reply` meets its contract: by the numbers.
-use mathlib.Core.Path.{_∙_}
+use mathlib.Core.Path.{ap, _∙_}
 use denote.Ref.{now}
 use Rattle.state_cache.specs.State.{raw}
 use Rattle.state_cache.proofs.Small.{sound-small}
-use Rattle.reading.proofs.Replying.{decided-none, decided-fine, decided-told}
+use Rattle.reading.specs.Replies.{readSaid}
+use Rattle.reading.proofs.Replying.{suffix-answer, suffix-none}
 use Rattle.reading.proofs.inner.read_decided_suffix_reply.Statement.{statement}
 use Rattle.reading.proofs.inner.read_decided_suffix_reply.Tie as tie
 
@@ -12,7 +13,7 @@ returns c =
     let st = c .before .before .before .before .before in
     let a = st .args in
     let x = raw (a .index) (now (a .log)) (now (a .snapshot)) in
-    decided-told (a .from .0) x _ (decided-none (a .from .0) x (st .pre .okay) (c .if1 .taken))
+    suffix-none x (st .pre) (a .from .0) (c .if1 .taken)
 
 read-at-requires : tie.Need-read-at-requires
 read-at-requires c κs = sound-small _ (c .before .before .before .before .before .pre .numbers)
@@ -22,7 +23,7 @@ returns-2 c =
     let st = c .before .before .before .before .before .before in
     let a = st .args in
     let x = raw (a .index) (now (a .log)) (now (a .snapshot)) in
-    decided-told (a .from .0) x _ (c .read-at .ensures ∙ decided-fine (a .from .0) x (st .pre .okay) (c .before .if1 .left))
+    ap (readSaid x) (c .read-at .ensures) ∙ suffix-answer x (st .pre) (a .from .0) (c .before .if1 .left)
 
 pub read-decided-suffix-reply-spec : {M : Type 1} → statement M
 read-decided-suffix-reply-spec = tie.close (tie.spec returns read-at-requires returns-2)

@@ -1,7 +1,7 @@
 -- `reading::inner::read_from` meets its contract: the kind of the first index decides.
 use mathlib.Core.Path.{ap, _∙_}
 use Rattle.state_cache.specs.State.{numbersIn}
-use Rattle.reading.specs.Kinds.{kindIs, entryIs}
+use Rattle.reading.specs.Inner.{kindIs, entryIs}
 use Rattle.reading.specs.declared.ReadReply.the-variants.{Run}
 use Rattle.reading.specs.declared.inner.Kind.the-variants.{Nothing, Held}
 use Rattle.reading.proofs.Replying.{held-below, case-nothing, case-empty, case-run}

@@ -1,13 +1,15 @@
 -- `reading::inner::read_reply` meets its contract: refusal 11, then by the numbers.
-use mathlib.Core.Path.{_≡_, sym, ap₂, _∙_}
+use mathlib.Core.Path.{_≡_, sym, ap, ap₂, _∙_}
 use mathlib.Core.Bool.{Bool, true, false, _||_}
 use denote.Ref.{now}
 use Rattle.words.proofs.Tests.{or-left, or-right}
 use Rattle.model.specs.Read.{startPast, stopPast}
+use Rattle.model.specs.Calls.{read}
 use Rattle.state_cache.specs.State.{raw}
 use Rattle.state_cache.proofs.Small.{sound-small}
-use Rattle.reading.specs.Replies.{boundOf}
-use Rattle.reading.proofs.Replying.{range-bad, range-fine, range-told}
+use Rattle.reading.specs.Replies.{boundOf, readSaid}
+use Rattle.reading.proofs.Answers.{bad-answer}
+use Rattle.reading.proofs.Replying.{read-answer}
 use borrow.Author.Needs.{needs}
 use Rattle.reading.proofs.inner.read_reply.Statement.{statement}
 use Rattle.reading.proofs.inner.read_reply.Tie as tie
@@ -28,7 +30,7 @@ returns c =
     let st = c .before .before .before .before .before in
     let a = st .args in
     let x = raw (a .index) (now (a .log)) (now (a .snapshot)) in
-    range-told (boundOf (a .from)) (boundOf (a .to)) x _ (range-bad (boundOf (a .from)) (boundOf (a .to)) x (st .pre .okay) (bounds (c .before) true (c .if1 .taken)))
+    bad-answer (read (boundOf (a .from)) (boundOf (a .to))) x (st .pre .okay) (bounds (c .before) true (c .if1 .taken))
 
 accepted-requires : tie.Need-accepted-requires
 accepted-requires c κs = sound-small _ (c .before .before .before .before .before .pre .numbers)
@@ -53,9 +55,8 @@ returns-2 c =
     let st = b .before .before .before .before .before in
     let a = st .args in
     let x = raw (a .index) (now (a .log)) (now (a .snapshot)) in
-    range-told (boundOf (a .from)) (boundOf (a .to)) x _
-    (c .read-at .ensures
-    ∙ range-fine (boundOf (a .from)) (boundOf (a .to)) x (st .pre .okay) (bounds (b .before) false (b .if1 .left)) _ _ (l .accepted .result) (f .start-at .ensures) (s .stop-at .ensures) (l .accepted .ensures))
+    ap (readSaid x) (c .read-at .ensures)
+    ∙ read-answer x (st .pre) (boundOf (a .from)) (boundOf (a .to)) _ _ (l .accepted .result) (bounds (b .before) false (b .if1 .left)) (f .start-at .ensures) (s .stop-at .ensures) (l .accepted .ensures)
 
 pub read-reply-spec : {M : Type 1} → statement M
 read-reply-spec = tie.close (tie.spec start-past-requires stop-past-requires returns accepted-requires start-at-requires stop-at-requires read-at-requires returns-2)

@@ -10,7 +10,7 @@ use Rattle.text.specs.Answers.{lineOf}
 use Rattle.text.specs.declared.Line.the-variants.{Refused}
 use Rattle.reading.specs.Replies.{readSaid}
 use Rattle.reading.specs.declared.ReadReply.{ReadReply}
-use Rattle.replay.specs.Answering.{readText}
+use Rattle.replay.specs.Answering.{readTextIn}
 use borrow.Author.Needs.{needs}
 use Rattle.replay.proofs.shown.put_read.Statement.{statement}
 use Rattle.replay.proofs.shown.put_read.Tie as tie
@@ -44,7 +44,7 @@ returns c =
     let b = c .before .before in
     let a = b .before .before .before .before .before .before .args in
     let front = take (a .at) (now (a .out)) in
-    (omega (arith, b .put-line .ensures .0), λ (snapshot : List ℕ). b .put-line .ensures .1 ∙ sym (ap (λ (r : ReadReply). front ++ readText (readSaid (raw (a .index) (now (a .log)) snapshot) r)) (b .before .before .enum-told .given .1)))
+    (omega (arith, b .put-line .ensures .0), λ (snapshot : List ℕ). b .put-line .ensures .1 ∙ sym (ap (λ (r : ReadReply). front ++ readTextIn (now (a .log)) (readSaid (raw (a .index) (now (a .log)) snapshot) r)) (b .before .before .enum-told .given .1)))
 
 same-length-2 : tie.Need-same-length-2
 same-length-2 c = search needs
@@ -54,7 +54,7 @@ returns-2 c =
     let b = c .before .before in
     let a = b .before .before .before .before .before .before .before .args in
     let front = take (a .at) (now (a .out)) in
-    (b .put-shown .ensures .0, λ (snapshot : List ℕ). b .put-shown .ensures .1 snapshot ∙ sym (ap (λ (r : ReadReply). front ++ readText (readSaid (raw (a .index) (now (a .log)) snapshot) r)) (b .before .before .before .reply .given .1)))
+    (b .put-shown .ensures .0, λ (snapshot : List ℕ). b .put-shown .ensures .1 snapshot ∙ sym (ap (λ (r : ReadReply). front ++ readTextIn (now (a .log)) (readSaid (raw (a .index) (now (a .log)) snapshot) r)) (b .before .before .before .reply .given .1)))
 
 same-length-3 : tie.Need-same-length-3
 same-length-3 c = search needs
@@ -64,7 +64,7 @@ returns-3 c =
     let b = c .before .before in
     let a = b .before .before .before .before .before .before .before .before .args in
     let front = take (a .at) (now (a .out)) in
-    (omega (arith, b .put-line2 .ensures .0), λ (snapshot : List ℕ). b .put-line2 .ensures .1 ∙ ap (λ (n : ℕ). front ++ lineOf (Refused n)) (b .before .number .ensures) ∙ sym (ap (λ (r : ReadReply). front ++ readText (readSaid (raw (a .index) (now (a .log)) snapshot) r)) (b .before .before .before .before .reply2 .given .1)))
+    (omega (arith, b .put-line2 .ensures .0), λ (snapshot : List ℕ). b .put-line2 .ensures .1 ∙ ap (λ (n : ℕ). front ++ lineOf (Refused n)) (b .before .number .ensures) ∙ sym (ap (λ (r : ReadReply). front ++ readTextIn (now (a .log)) (readSaid (raw (a .index) (now (a .log)) snapshot) r)) (b .before .before .before .before .reply2 .given .1)))
 
 pub put-read-spec : {M : Type 1} → statement M
 put-read-spec =

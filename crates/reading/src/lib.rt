@@ -7,7 +7,7 @@ use state_cache::IndexRecord;
 ghost use mathlib.Core.Path.{_≡_};
 ghost use mathlib.Core.Bool.{true};
 ghost use Rattle.snapshot.specs.Calls.{found};
-ghost use Rattle.model.specs.Calls.{query, lookup as lookupCall, getEntries, getSuffix, read, readDecided};
+ghost use Rattle.model.specs.Calls.{query, lookup as lookupCall, getEntries, getSuffix, read as readCall, readDecided};
 ghost use Rattle.state_cache.specs.State.{Raw, raw};
 ghost use Rattle.state_cache.specs.Run.{run};
 ghost use Rattle.reading.specs.Parts.{part, partAt};
@@ -50,6 +50,12 @@ pub enum ReadReply {
     Nothing,
     Run(ShownRun),
     Refused(Refusal),
+}
+
+// What a read in one call gives: the reply, and the part of the lent log beside it.
+pub struct Shown<'a> {
+    pub entries: &'a [u64],
+    pub reply: ReadReply,
 }
 
 // A key's place: its newest word among the decided entries that are retained, else the snapshot's.
@@ -129,7 +135,7 @@ pub fn read_reply(
     to: Bound,
 ) -> ReadReply
     ensures { λ r. ⌜ readSaid (raw index (now (log .entry)) (now (snapshot .entry))) r
-        ≡ run (query (read (boundOf from) (boundOf to))) true
+        ≡ run (query (readCall (boundOf from) (boundOf to))) true
         (raw index (now (log .entry)) (now (snapshot .entry))) .answer ⌝ }
 {
     if !state_cache::well_formed(index, log, snapshot) {
@@ -152,4 +158,37 @@ pub fn read_decided_suffix_reply(
         return ReadReply::Refused(Refusal::IllFormed);
     }
     inner::read_decided_suffix_reply(index, log, snapshot, from)
+}
+
+fn show_with<'a>(part: &'a [u64], reply: ReadReply) -> Shown<'a>
+    ensures { λ r. ⌜ (r .entries ≡ part .entry) × (r .reply ≡ reply) ⌝ }
+{
+    Shown {
+        entries: part,
+        reply,
+    }
+}
+
+// A read in one call: the reply of `read_reply`, and the entries that it shows. The marker's snapshot and the stop-sign
+// stay where they are lent.
+pub fn read<'a>(
+    index: IndexRecord,
+    log: &'a [u64],
+    snapshot: &[u64],
+    from: Bound,
+    to: Bound,
+) -> Shown<'a>
+    ensures { λ r. ⌜ (readSaid (raw index (now (log .entry)) (now (snapshot .entry))) (r .reply)
+        ≡ run (query (readCall (boundOf from) (boundOf to))) true
+        (raw index (now (log .entry)) (now (snapshot .entry))) .answer)
+        × (now (r .entries)
+        ≡ partShown (run (query (readCall (boundOf from) (boundOf to))) true
+        (raw index (now (log .entry)) (now (snapshot .entry))) .answer) (now (log .entry)))
+        × (r .entries .ptr
+        ≡ partShownAt (run (query (readCall (boundOf from) (boundOf to))) true
+        (raw index (now (log .entry)) (now (snapshot .entry))) .answer) (now (log .entry)) (log .entry .ptr)) ⌝ }
+{
+    let reply = read_reply(index, log, snapshot, from, to);
+    let entries = entries_shown(log, reply);
+    show_with(entries, reply)
 }

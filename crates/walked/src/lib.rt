@@ -11,7 +11,7 @@ ghost use Rattle.reading.specs.Replies.{boundOf, partShown, partShownAt};
 
 pub mod inner;
 
-// The entries of `reader::read`.
+// The entries of `reading::read`.
 pub fn read_entries<'a>(
     index: IndexRecord,
     log: &'a [u64],
@@ -26,6 +26,6 @@ pub fn read_entries<'a>(
         ≡ partShownAt (run (query (read (boundOf from) (boundOf to))) true
         (raw index (now (log .entry)) (now (snapshot .entry))) .answer) (now (log .entry)) (log .entry .ptr)) ⌝ }
 {
-    let found = reader::read(index, log, snapshot, from, to);
+    let found = reading::read(index, log, snapshot, from, to);
     found.entries
 }

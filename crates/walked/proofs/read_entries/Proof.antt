@@ -1,4 +1,4 @@
--- `walked::read_entries` meets its contract: a walk of its MIR, by hand. What `reader::read` returns is held in a local, and its entries are read
+-- `walked::read_entries` meets its contract: a walk of its MIR, by hand. What `reading::read` returns is held in a local, and its entries are read
 -- there. All that the proof knows of the call is that it meets its contract.
 use mathlib.Core.Path.{_≡_, refl, ap}
 use mathlib.Core.Bool.{true}
@@ -54,13 +54,13 @@ use base.Fml.{fat}
 use denote.Ref.{NamedLft}
 use denote.Steps.{only}
 use Rattle.model.specs.Calls.{query, read as readCall}
-use Rattle.reader.specs.declared.Shown.{Shown}
-use Rattle.reader.proofs.Shown as T
-use Rattle.reader.proofs.Shown.Laws as T′
-use Rattle.reader.proofs.read as callee
-use Rattle.reader.proofs.read.Symbol as callee-def
-use Rattle.reader.proofs.read.Symbol.{name as #callee}
-use Rattle.reader.proofs.read.Met as callee-thm
+use Rattle.reading.specs.declared.Shown.{Shown}
+use Rattle.reading.proofs.Shown as T
+use Rattle.reading.proofs.Shown.Laws as T′
+use Rattle.reading.proofs.read as callee
+use Rattle.reading.proofs.read.Symbol as callee-def
+use Rattle.reading.proofs.read.Symbol.{name as #callee}
+use Rattle.reading.proofs.read.Met as callee-thm
 use Rattle.walked.proofs.read_entries.Key.{name as #fn}
 use Rattle.walked.proofs.read_entries as f
 use Rattle.walked.proofs.read_entries.Statement as stated
@@ -232,4 +232,4 @@ read-entries-spec 𝓤 H 𝓜 𝓖 𝓡 =
     entered 𝓤 H (tripleOf 𝓤 H (𝓖 .A) f.signature (f.spec 𝓤 H (𝓖 .A) (𝓜 .mem) (𝓡 .run)))
     (tables 𝓤 H 𝓜 𝓡 code.env .C) (tables 𝓤 H 𝓜 𝓡 code.env .Λ) #fn code.function (code.unfolded 𝓤 H 𝓜 𝓡)
     (fn-meets 𝓤 H (𝓖 .A) (givenOf 𝓤 H 𝓜 𝓖) (𝓜 .mem) (𝓡 .run) (tablesOf 𝓤 H 𝓜 (tables 𝓤 H 𝓜 𝓡 code.env))
-    (cited 𝓤 H (Callee 𝓤 H (𝓖 .A) (𝓜 .mem) (𝓡 .run)) 𝓜 𝓡 code.env #callee callee-def.routine code.calls-reader·read (callee-thm.met 𝓤 H 𝓜 𝓖 𝓡)))
+    (cited 𝓤 H (Callee 𝓤 H (𝓖 .A) (𝓜 .mem) (𝓡 .run)) 𝓜 𝓡 code.env #callee callee-def.routine code.calls-reading·read (callee-thm.met 𝓤 H 𝓜 𝓖 𝓡)))

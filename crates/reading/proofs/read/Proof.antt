@@ -1,4 +1,4 @@
--- `reader::read` meets its contract: a walk of its MIR, by hand. The reply of `read_reply` and the part that `entries_shown` returns for it
+-- `reading::read` meets its contract: a walk of its MIR, by hand. The reply of `read_reply` and the part that `entries_shown` returns for it
 -- are held in locals as they come, and `show_with` makes one value of them. All that the proof knows of the three is that they meet their
 -- contracts.
 use mathlib.Core.Path.{_≡_, refl, ap, _∙_}
@@ -47,32 +47,32 @@ use Rattle.state_cache.specs.Run.{run as runs}
 use Rattle.state_cache.specs.declared.IndexRecord.{IndexRecord}
 use Rattle.state_cache.proofs.IndexRecord as X
 use Rattle.state_cache.proofs.IndexRecord.Laws as X′
 use Rattle.reading.specs.Replies.{boundOf, readSaid, partShown, partShownAt}
 use Rattle.reading.specs.declared.Bound.{Bound}
 use Rattle.reading.specs.declared.ReadReply.{ReadReply}
 use Rattle.reading.proofs.Bound as E
 use Rattle.reading.proofs.Bound.Laws as E′
 use Rattle.reading.proofs.ReadReply as S
 use Rattle.reading.proofs.ReadReply.Laws as S′
 use Rattle.reading.proofs.read_reply as reply
 use Rattle.reading.proofs.read_reply.Symbol as reply-def
 use Rattle.reading.proofs.read_reply.Symbol.{name as #read-reply}
 use Rattle.reading.proofs.read_reply.Met as reply-thm
 use Rattle.reading.proofs.entries_shown as part
 use Rattle.reading.proofs.entries_shown.Symbol as part-def
 use Rattle.reading.proofs.entries_shown.Symbol.{name as #entries-shown}
 use Rattle.reading.proofs.entries_shown.Met as part-thm
-use Rattle.reader.specs.declared.Shown.{Shown}
-use Rattle.reader.proofs.Shown as T
-use Rattle.reader.proofs.Shown.Laws as T′
-use Rattle.reader.proofs.show_with as with
-use Rattle.reader.proofs.show_with.Symbol as with-def
-use Rattle.reader.proofs.show_with.Symbol.{name as #show-with}
-use Rattle.reader.proofs.show_with.Met as with-thm
-use Rattle.reader.proofs.read.Key.{name as #read}
-use Rattle.reader.proofs.read as read
-use Rattle.reader.proofs.read.Statement as stated
-use Rattle.reader.proofs.read.Code as code
+use Rattle.reading.specs.declared.Shown.{Shown}
+use Rattle.reading.proofs.Shown as T
+use Rattle.reading.proofs.Shown.Laws as T′
+use Rattle.reading.proofs.show_with as with
+use Rattle.reading.proofs.show_with.Symbol as with-def
+use Rattle.reading.proofs.show_with.Symbol.{name as #show-with}
+use Rattle.reading.proofs.show_with.Met as with-thm
+use Rattle.reading.proofs.read.Key.{name as #read}
+use Rattle.reading.proofs.read as read
+use Rattle.reading.proofs.read.Statement as stated
+use Rattle.reading.proofs.read.Code as code
 
 -- the struct's type, over the signature's lifetimes
 abbrev B : Lfts 2 → RattleType
@@ -274,4 +274,4 @@ read-spec 𝓤 H 𝓜 𝓖 𝓡 =
     (read-meets 𝓤 H (𝓖 .A) (givenOf 𝓤 H 𝓜 𝓖) (𝓜 .mem) (𝓡 .run) (tablesOf 𝓤 H 𝓜 (tables 𝓤 H 𝓜 𝓡 code.env))
     (cited 𝓤 H (Replies 𝓤 H (𝓖 .A) (𝓜 .mem) (𝓡 .run)) 𝓜 𝓡 code.env #read-reply reply-def.routine code.calls-reading·read-reply (reply-thm.met 𝓤 H 𝓜 𝓖 𝓡))
     (cited 𝓤 H (Parts 𝓤 H (𝓖 .A) (𝓜 .mem) (𝓡 .run)) 𝓜 𝓡 code.env #entries-shown part-def.routine code.calls-reading·entries-shown (part-thm.met 𝓤 H 𝓜 𝓖 𝓡))
-    (cited 𝓤 H (With 𝓤 H (𝓖 .A) (𝓜 .mem) (𝓡 .run)) 𝓜 𝓡 code.env #show-with with-def.routine code.calls-reader·show-with (with-thm.met 𝓤 H 𝓜 𝓖 𝓡)))
+    (cited 𝓤 H (With 𝓤 H (𝓖 .A) (𝓜 .mem) (𝓡 .run)) 𝓜 𝓡 code.env #show-with with-def.routine code.calls-reading·show-with (with-thm.met 𝓤 H 𝓜 𝓖 𝓡)))

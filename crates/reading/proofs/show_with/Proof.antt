@@ -1,4 +1,4 @@
--- `reader::show_with` meets its contract: a walk of its MIR, by hand. A `Shown` is made of the part and the reply passed, in the result's local.
+-- `reading::show_with` meets its contract: a walk of its MIR, by hand. A `Shown` is made of the part and the reply passed, in the result's local.
 -- A `&[u64]` is Copy and an enum of plain data owns facts alone, so each is had twice.
 use mathlib.Core.Path.{refl}
 use Prim.Native.Nat.{ℕ}
@@ -34,16 +34,16 @@ use denote.Triple.Spec.{Meets, tripleOf}
 use denote.Triple.Table.{entered}
 use denote.Triple.Walked.{says, Stays, stay-none, stay-none-slice, walkOf, goes-none, goes-none-slice, Walks, ends-at, walked, walk-meets}
 use denote.Exit.{yes}
 use Rattle.reading.specs.declared.ReadReply.{ReadReply}
 use Rattle.reading.proofs.ReadReply as S
 use Rattle.reading.proofs.ReadReply.Laws as S′
-use Rattle.reader.specs.declared.Shown.{Shown}
-use Rattle.reader.proofs.Shown as T
-use Rattle.reader.proofs.Shown.Laws as T′
-use Rattle.reader.proofs.show_with.Key.{name as #reader·show-with}
-use Rattle.reader.proofs.show_with as show-with
-use Rattle.reader.proofs.show_with.Statement as stated
-use Rattle.reader.proofs.show_with.Code as code
+use Rattle.reading.specs.declared.Shown.{Shown}
+use Rattle.reading.proofs.Shown as T
+use Rattle.reading.proofs.Shown.Laws as T′
+use Rattle.reading.proofs.show_with.Key.{name as #show-with}
+use Rattle.reading.proofs.show_with as show-with
+use Rattle.reading.proofs.show_with.Statement as stated
+use Rattle.reading.proofs.show_with.Code as code
 
 abbrev stayed : Stays (show-with.ended .signature .params) (show-with.ended .kept)
 stayed = (stay-none-slice (0 ∷ []) tt (plain (λ _. u64)) yes, (stay-none (λ _. S.the-row) yes, tt))
@@ -106,5 +106,5 @@ pub show-with-spec : {M : Type 1} → stated.statement M
 unfolding code.routine tablesOf
 show-with-spec 𝓤 H 𝓜 𝓖 𝓡 =
     entered 𝓤 H (tripleOf 𝓤 H (𝓖 .A) show-with.signature (show-with.spec 𝓤 H (𝓖 .A) (𝓜 .mem) (𝓡 .run)))
-    (tables 𝓤 H 𝓜 𝓡 code.env .C) (tables 𝓤 H 𝓜 𝓡 code.env .Λ) #reader·show-with code.function (code.unfolded 𝓤 H 𝓜 𝓡)
+    (tables 𝓤 H 𝓜 𝓡 code.env .C) (tables 𝓤 H 𝓜 𝓡 code.env .Λ) #show-with code.function (code.unfolded 𝓤 H 𝓜 𝓡)
     (show-with-meets 𝓤 H (𝓖 .A) (givenOf 𝓤 H 𝓜 𝓖) (𝓜 .mem) (𝓡 .run) (tablesOf 𝓤 H 𝓜 (tables 𝓤 H 𝓜 𝓡 code.env)))

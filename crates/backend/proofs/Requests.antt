@@ -14,7 +14,7 @@ use Rattle.words.specs.All.{allOf}
 use Rattle.words.proofs.Tests.{and-left, and-right, both-true}
 use Rattle.words.proofs.Alls.{all-turn}
 use Rattle.words.proofs.CodedLaws.{entries-length}
-use Rattle.entry.specs.Limits.{snapshotWords}
+use Rattle.entry.specs.Limits.{snapshotWords, mostOps}
 use Rattle.entry.specs.Change.{changeCode, formed, entriesOf, entriesIn, wholeIn, sliceFormed}
 use Rattle.entry.specs.Sign.{signFormed}
 use Rattle.entry.specs.Guards.{refused}
@@ -54,7 +54,7 @@ module _ (b : CodeLent) (entries incoming : List ℕ) (f : Lends b entries incom
   long-incoming = eqb-true (length incoming) snapshotWords (and-left (eqb (length incoming) snapshotWords) (not (b .«snapshot_lent») || snapshotFormed (b .keys) incoming) (f .shot))
 
 -- the operations of a list by value, one after the other
-module _ (ops : List CodeOp) (n : ℕ) (few : n ≤ 8) (eight : length ops ≡ 8) where
+module _ (ops : List CodeOp) (n : ℕ) (few : n ≤ mostOps) (eight : length ops ≡ mostOps) where
   pub ops-length : length (map opOf (take n ops)) ≡ n
   ops-length = length-map (take n ops) opOf ∙ length-take-le n ops (omega arith)
 
@@ -64,7 +64,7 @@ module _ (ops : List CodeOp) (n : ℕ) (few : n ≤ 8) (eight : length ops ≡ 8
       ∙ ap (λ (o : Op). o ∷ drop (suc i) (map opOf (take n ops))) (List·getD-map opOf (take n ops) i d ∙ ap opOf (getD-take n ops i d h))
 
 -- one turn of the test that each operation is supplied
-pub supplied-turn : (b : CodeLent) (ops : List CodeOp) (n : ℕ) → n ≤ 8 → length ops ≡ 8 → (i : ℕ) → i < n → (ok t asked : Bool)
+pub supplied-turn : (b : CodeLent) (ops : List CodeOp) (n : ℕ) → n ≤ mostOps → length ops ≡ mostOps → (i : ℕ) → i < n → (ok t asked : Bool)
     → t ≡ supplied (lentOf b [] []) (opOf (getD ops i noOp)) → (ok && allOf (supplied (lentOf b [] [])) (drop i (map opOf (take n ops)))) ≡ asked
     → (ok && t && allOf (supplied (lentOf b [] [])) (drop (i + 1) (map opOf (take n ops)))) ≡ asked
 supplied-turn b ops n few eight i h ok t asked e inv =
@@ -127,21 +127,21 @@ module _ (b : CodeLent) (entries incoming : List ℕ) (list : OpList) where
   whole = wholeList b entries incoming list
 
   -- over eight operations
-  pub too-many : 8 < list .count → false ≡ (whole && opsFormed lent (opsIn list))
-  too-many h = rw (lt-leb (list .count) 8 h) (sym (go (wholeLent b entries incoming)))
+  pub too-many : mostOps < list .count → false ≡ (whole && opsFormed lent (opsIn list))
+  too-many h = rw (lt-leb (list .count) mostOps h) (sym (go (wholeLent b entries incoming)))
     where
       go : (t : Bool) → (t && false && opsFormed lent (opsIn list)) ≡ false
       go true = refl
       go false = refl
 
-  module _ (few : list .count ≤ 8) (eight : length (list .ops) ≡ 8) where
+  module _ (few : list .count ≤ mostOps) (eight : length (list .ops) ≡ mostOps) where
     pub request-is : (sliceFormed entries && (incomingFormed b incoming && ((not (b .«stop_lent») || signFormed (b .stop)) && (leb 1 (list .count) && allOf (supplied (lentOf b [] [])) (opsIn list)))))
         ≡ (whole && opsFormed lent (opsIn list))
     unfolding sliceFormed wholeLent opsFormed
     request-is =
         rw (
           ops-length (list .ops) (list .count) few eight,
-          le-leb (list .count) 8 few,
+          le-leb (list .count) mostOps few,
           all-same (supplied (lentOf b [] [])) (supplied lent) (supplied-any b entries incoming) (opsIn list),
           sign-lent (b .«stop_lent») (b .stop),
         )
@@ -152,7 +152,7 @@ module _ (b : CodeLent) (entries incoming : List ℕ) (list : OpList) where
   lends-of : wholeLent b entries incoming ≡ true → opsFormed lent (opsIn list) ≡ true → Lends b entries incoming
   unfolding wholeLent opsFormed sliceFormed
   lends-of p f =
-      let f₁ = and-right (leb 1 (length (opsIn list)) && leb (length (opsIn list)) 8) _ f in
+      let f₁ = and-right (leb 1 (length (opsIn list)) && leb (length (opsIn list)) mostOps) _ f in
       let f₂ = and-right (formed (entriesIn entries)) _ f₁ in
       let f₃ = and-right (ifGiven shotFormed (lent .snapshot)) _ f₂ in
       record {
@@ -166,11 +166,11 @@ module _ (b : CodeLent) (entries incoming : List ℕ) (list : OpList) where
     listed-of e =
         let w = and-left whole (opsFormed lent (opsIn list)) e in
         let f = and-right whole (opsFormed lent (opsIn list)) e in
-        let p = and-left (wholeLent b entries incoming) (leb (list .count) 8) w in
+        let p = and-left (wholeLent b entries incoming) (leb (list .count) mostOps) w in
         record {
           ready = ready-of r ok;
           lends = lends-of p f;
-          few = leb-true (list .count) 8 (and-right (wholeLent b entries incoming) (leb (list .count) 8) w);
+          few = leb-true (list .count) mostOps (and-right (wholeLent b entries incoming) (leb (list .count) mostOps) w);
           okay = f;
         }
 

@@ -10,6 +10,7 @@ use lib.ListN.{length, take, drop, getD, drop-of-length-le}
 use Rattle.words.specs.All.{allOf}
 use Rattle.words.proofs.Tests.{and-right}
 use Rattle.words.proofs.Alls.{all-head, all-drop}
+use Rattle.entry.specs.Limits.{mostOps}
 use Rattle.entry.specs.Guards.{Verdict, passes, refuses, first, Answer, refused, replied, refusedBy, settle}
 use Rattle.entry.specs.Change.{formed as entriesFormed}
 use Rattle.entry.specs.Sign.{signFormed}
@@ -50,7 +51,7 @@ pub record Left (n : Numbers) (l : Lent) (ops : List Op) (m : Midst) (asked : Ve
   pub verdict : first (opGuards n l ops m) ≡ asked
   pub after : steps l ops m ≡ end
 
-module _ (n : Numbers) (l : Lent) (codes : List CodeOp) (count : ℕ) (few : count ≤ 8) (eight : length codes ≡ 8) (asked : Verdict) (end : Midst) where
+module _ (n : Numbers) (l : Lent) (codes : List CodeOp) (count : ℕ) (few : count ≤ mostOps) (eight : length codes ≡ mostOps) (asked : Verdict) (end : Midst) where
   abbrev ops : List Op
   ops = map opOf (take count codes)
 
@@ -131,7 +132,7 @@ module _ (r : Raw) (l : Lent) (ops : List Op) where
 pub ops-supplied : (l : Lent) (ops : List Op) → opsFormed l ops ≡ true → allOf (supplied l) ops ≡ true
 unfolding opsFormed
 ops-supplied l ops e =
-    let e₁ = and-right (leb 1 (length ops) && leb (length ops) 8) _ e in
+    let e₁ = and-right (leb 1 (length ops) && leb (length ops) mostOps) _ e in
     let e₂ = and-right (entriesFormed (l .entries)) _ e₁ in
     let e₃ = and-right (ifGiven shotFormed (l .snapshot)) _ e₂ in
     and-right (ifGiven signFormed (l .sign)) _ e₃

@@ -8,7 +8,7 @@ use mathlib.Core.Option.{none}
 use lib.Dec.{ltb, eqb}
 use lib.ListN.{length, take, set, replicate}
 use Rattle.words.specs.If.{if_then_else_}
-use Rattle.entry.specs.Limits.{entryRoom, logWords, snapshotWords}
+use Rattle.entry.specs.Limits.{entryRoom, logWords, snapshotWords, mostOps}
 use Rattle.entry.specs.Change.{Change, entriesIn, sliceFormed, Laid}
 use Rattle.entry.specs.Sign.{signFormed}
 use Rattle.entry.specs.Guards.{Guard, guard, first, replied, settle}
@@ -76,7 +76,7 @@ pub record Lends (b : CodeLent) (entries incoming : List ℕ) : Type 0 where
 pub record Listed (r : Raw) (b : CodeLent) (entries incoming : List ℕ) (list : OpList) : Type 0 where
   pub ready : Ready r
   pub lends : Lends b entries incoming
-  pub few : list .count ≤ 8
+  pub few : list .count ≤ mostOps
   pub okay : opsFormed (lentOf b entries incoming) (opsIn list) ≡ true
 
 -- what it comes to: the first refusal that applies; and where none does a well-formed state that stands for what the list wrote
@@ -88,14 +88,14 @@ pub record Wrote (r : Raw) (l : Lent) (ops : List Op) (answer : Settled) (x : Ra
 abbrev pub noOp : CodeOp
 noOp = record { kind = AppendEntries; index = record { 0 = 0 }; ballot = noBallot; given = false }
 
--- a lent slice of operations as a list by value: each is put in turn, and the ninth is counted and not kept
+-- a lent slice of operations as a list by value: each is put in turn, and one too many is counted and not kept
 abbrev pub noOps : OpList
-noOps = record { count = 0; ops = replicate 8 noOp }
+noOps = record { count = 0; ops = replicate mostOps noOp }
 
 unfoldable pub putOf : OpList → CodeOp → OpList
 putOf l o =
-    if ltb (l .count) 8 then record { count = l .count + 1; ops = set (l .ops) (l .count) o }
-    else record { count = 9; ops = l .ops }
+    if ltb (l .count) mostOps then record { count = l .count + 1; ops = set (l .ops) (l .count) o }
+    else record { count = mostOps + 1; ops = l .ops }
 
 unfoldable pub putAll : OpList → List CodeOp → OpList
 putAll l [] = l

@@ -6,7 +6,7 @@ use mathlib.Core.Option.{none, some}
 use lib.Dec.{ltb, leb, eqb}
 use lib.ListN.{length, take, set, replicate}
 use Rattle.words.specs.If.{if_then_else_}
-use Rattle.entry.specs.Limits.{snapshotWords}
+use Rattle.entry.specs.Limits.{snapshotWords, mostOps}
 use Rattle.entry.specs.Change.{entriesOf, entriesIn, wholeIn}
 use Rattle.entry.specs.Sign.{noSign}
 use Rattle.entry.specs.declared.StopSign.{StopSign}
@@ -48,9 +48,9 @@ lentOf b entries incoming = record {
 unfoldable pub incomingFormed : CodeLent → List ℕ → Bool
 incomingFormed b ws = eqb (length ws) snapshotWords && (not (b .«snapshot_lent») || snapshotFormed (b .keys) ws)
 
--- the words make a request; and a list by value does where it has no ninth operation
+-- the words make a request; and a list by value does where it has no operation too many
 unfoldable pub wholeLent : CodeLent → List ℕ → List ℕ → Bool
 wholeLent b entries incoming = wholeIn entries && incomingFormed b incoming
 
 abbrev pub wholeList : CodeLent → List ℕ → List ℕ → OpList → Bool
-wholeList b entries incoming l = wholeLent b entries incoming && leb (l .count) 8
+wholeList b entries incoming l = wholeLent b entries incoming && leb (l .count) mostOps

@@ -16,6 +16,11 @@ ghost use Rattle.backend.specs.Ops.{opOf, opsIn, lentOf, wholeLent, whol
 
 pub mod inner;
 
+// Operations of a list at most, and the count of one that had more.
+pub const OPERATIONS: usize = 8;
+
+pub const TOO_MANY: usize = OPERATIONS + 1;
+
 // The Rust's `StorageOp` but `AppendEntry`.
 pub enum OpKind {
     AppendEntries,
@@ -37,10 +42,10 @@ pub struct Op {
     pub given: bool,
 }
 
-// Up to eight operations by value. A larger count says that there were more.
+// Operations by value. A count above OPERATIONS says that there were more.
 pub struct OpList {
     pub count: usize,
-    pub ops: [Op; 8],
+    pub ops: [Op; OPERATIONS],
 }
 
 // What is lent beside the operations and the entries: a snapshot, with its number of keys, and a stop-sign, or none.

@@ -29,6 +29,10 @@ mostNodes = 7
 abbrev pub mostMetadata : ℕ
 mostMetadata = 32
 
+-- operations of a list
+abbrev pub mostOps : ℕ
+mostOps = 8
+
 -- a block place is below this
 abbrev pub places : ℕ
 places = 2 ^ 48

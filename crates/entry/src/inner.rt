@@ -137,10 +137,10 @@ pub fn no_sign() -> StopSign
     StopSign {
         config_id: 0,
         node_count: 0,
-        nodes: [0; 7],
+        nodes: [0; super::NODES],
         metadata_held: false,
         metadata_len: 0,
-        metadata: [0; 32],
+        metadata: [0; super::METADATA],
     }
 }
 

@@ -13,16 +13,21 @@ pub const WIDTH: usize = 2;
 // Entries that a log holds, and the words of its slice.
 pub const ENTRIES: usize = 1024;
 
-pub const LOG_WORDS: usize = 2048;
+pub const LOG_WORDS: usize = ENTRIES * WIDTH;
 
 // Keys that a snapshot holds, and the words of its slice.
 pub const KEYS: usize = 512;
 
-pub const SNAPSHOT_WORDS: usize = 1024;
+pub const SNAPSHOT_WORDS: usize = KEYS * WIDTH;
 
 pub const LAST_INDEX: u64 = 4_294_967_295;
 
 pub const LARGEST_BATCH: u64 = 64;
+
+// Nodes and bytes of metadata that a stop-sign holds.
+pub const NODES: usize = 7;
+
+pub const METADATA: usize = 32;
 
 pub const PLACES: u64 = 0x1_0000_0000_0000;
 
@@ -110,10 +115,10 @@ impl Ballot {
 pub struct StopSign {
     pub config_id: u32,
     pub node_count: usize,
-    pub nodes: [u64; 7],
+    pub nodes: [u64; NODES],
     pub metadata_held: bool,
     pub metadata_len: usize,
-    pub metadata: [u8; 32],
+    pub metadata: [u8; METADATA],
 }
 
 // Document 01's refusals, in its order; each holds the number that it carries.
@@ -200,6 +205,6 @@ pub fn sign_formed(s: StopSign) -> bool
     let nodes_end = words::zero_from(&nodes, count);
     let bytes_end = inner::zero_bytes_from(&bytes, used);
     (1 <= count)
-        & ((count <= 7)
-            & ((used <= 32) & ((s.metadata_held | (used == 0)) & (nodes_end & bytes_end))))
+        & ((count <= NODES)
+            & ((used <= METADATA) & ((s.metadata_held | (used == 0)) & (nodes_end & bytes_end))))
 }

@@ -7,7 +7,7 @@ use lib.Dec.{ltb, leb, eqb}
 use lib.ListN.{length, take, drop}
 use Rattle.words.specs.If.{if_then_else_}
 use Rattle.words.specs.All.{allOf}
-use Rattle.entry.specs.Limits.{entryRoom, lastIndex}
+use Rattle.entry.specs.Limits.{entryRoom, lastIndex, mostOps}
 use Rattle.entry.specs.Change.{Change, formed}
 use Rattle.entry.specs.Sign.{signFormed}
 use Rattle.entry.specs.Guards.{Guard, guard}
@@ -44,7 +44,7 @@ supplied l (setSnapshot t) = not t || given (l .snapshot)
 
 unfoldable pub opsFormed : Lent → List Op → Bool
 opsFormed l ops =
-    (leb 1 (length ops) && leb (length ops) 8)
+    (leb 1 (length ops) && leb (length ops) mostOps)
     && (formed (l .entries)
     && (ifGiven shotFormed (l .snapshot) && (ifGiven signFormed (l .sign) && allOf (supplied l) ops)))
 

@@ -19,7 +19,8 @@ use Rattle.text.specs.Feeding.{come, fitting, joined, nextAt}
 use Rattle.text.proofs.Long.{too-long}
 use Rattle.text.proofs.LineLaws.{joined-fitting}
 use Rattle.replay.specs.Answering.{Told, told, answering}
-use Rattle.replay.specs.Feeding.{meaning, lineRoom, lastStart, after}
+use Rattle.text.specs.Rooms.{inputLine}
+use Rattle.replay.specs.Feeding.{meaning, lastStart, after}
 use Rattle.replay.specs.Input.{replayed, start, Reached}
 
 -- before the first byte
@@ -37,12 +38,12 @@ handed-over ls x line waits st = record {
 }
 
 -- a line kept as its buffer keeps it means what it means whole
-meaning-whole : (l : List ℕ) → meaning (fitting lineRoom l) ≡ parseOf l
-meaning-whole l = go (leb (length l) lineRoom) refl
+meaning-whole : (l : List ℕ) → meaning (fitting inputLine l) ≡ parseOf l
+meaning-whole l = go (leb (length l) inputLine) refl
   where
-    go : (t : Bool) → leb (length l) lineRoom ≡ t → meaning (if t then some l else none) ≡ parseOf l
+    go : (t : Bool) → leb (length l) inputLine ≡ t → meaning (if t then some l else none) ≡ parseOf l
     go true e = refl
-    go false e = sym (too-long l (leb-false (length l) lineRoom e))
+    go false e = sym (too-long l (leb-false (length l) inputLine e))
 
 -- one line more
 replayed-more : (ls : List (List ℕ)) (l : List ℕ) (t : Told) → replayed (ls ++ (l ∷ [])) t ≡ after (replayed ls t .text) (answering (parseOf l) (replayed ls t .after))
@@ -90,11 +91,11 @@ module _ (ls : Lines) (x : Raw) (line : Option (List ℕ)) (used : ℕ) (out : L
 
 -- bytes that join the line, in a buffer of the size it has
 pub kept : (ls : Lines) (x y : IndexRecord) (log snapshot : List ℕ) (line line′ : Option (List ℕ)) (used used′ room : ℕ) (out bytes : List ℕ)
-    → y ≡ x → used′ ≡ used → room ≡ lineRoom → line′ ≡ joined room line bytes
+    → y ≡ x → used′ ≡ used → room ≡ inputLine → line′ ≡ joined room line bytes
     → Reached ls (raw x log snapshot) line (take used out) → Reached (restWith bytes ls) (raw y log snapshot) line′ (take used′ out)
 kept ls x y log snapshot line line′ used used′ room out bytes i u r e st = rw (i, u) (record {
   state = st .state;
-  unended = e ∙ rw (r, st .unended) (joined-fitting lineRoom (ls .rest) bytes);
+  unended = e ∙ rw (r, st .unended) (joined-fitting inputLine (ls .rest) bytes);
   written = st .written;
   answers = st .answers;
 })
@@ -116,15 +117,15 @@ kept-cut room bs = go (leb (length bs) room) refl
 
 -- the last line has a byte exactly if one has come
 module _ (ls : Lines) (len : ℕ) (line : List ℕ) where
-  some-rest : (over : Bool) → come over len line ≡ fitting lineRoom (ls .rest) → (over || ltb 0 len) ≡ true → len ≤ length line → 0 < length (ls .rest)
-  some-rest true e t h = omega (arith, kept-cut lineRoom (ls .rest) e)
-  some-rest false e t h = omega (arith, ap length (kept-whole lineRoom (ls .rest) (take len line) e), length-take-le len line h, ltb-true 0 len t)
+  some-rest : (over : Bool) → come over len line ≡ fitting inputLine (ls .rest) → (over || ltb 0 len) ≡ true → len ≤ length line → 0 < length (ls .rest)
+  some-rest true e t h = omega (arith, kept-cut inputLine (ls .rest) e)
+  some-rest false e t h = omega (arith, ap length (kept-whole inputLine (ls .rest) (take len line) e), length-take-le len line h, ltb-true 0 len t)
 
-  no-rest : (over : Bool) → come over len line ≡ fitting lineRoom (ls .rest) → (over || ltb 0 len) ≡ false → length (ls .rest) ≡ 0
+  no-rest : (over : Bool) → come over len line ≡ fitting inputLine (ls .rest) → (over || ltb 0 len) ≡ false → length (ls .rest) ≡ 0
   no-rest true e t = absurd (true≢false t)
   no-rest false e t =
       let z : len ≡ 0 = omega (arith, ltb-false 0 len t) in
-      ap length (kept-whole lineRoom (ls .rest) (take len line) e ∙ ap (λ (n : ℕ). take n line) z)
+      ap length (kept-whole inputLine (ls .rest) (take len line) e ∙ ap (λ (n : ℕ). take n line) z)
 
   by-rest : (rest : List ℕ) → 0 < length rest → _≡_ {A = Lines} (elim rest [ [] ↦ ls | b ∷ bs ↦ lineEnded ls ]) (lineEnded ls)
   by-rest [] h = absurd (omega arith)

@@ -6,10 +6,11 @@ use mathlib.Core.Option.{Option}
 use Rattle.model.specs.Log.{freshLog}
 use Rattle.state_cache.specs.State.{Raw, rawOf}
 use Rattle.text.specs.Parse.{parseOf}
+use Rattle.text.specs.Rooms.{inputLine}
 use Rattle.text.specs.Lines.{Lines}
 use Rattle.text.specs.Feeding.{fitting}
 use Rattle.replay.specs.Answering.{Told, told, answering}
-use Rattle.replay.specs.Feeding.{lineRoom, after}
+use Rattle.replay.specs.Feeding.{after}
 
 unfoldable pub replayed : List (List ℕ) → Told → Told
 replayed [] t = t
@@ -23,6 +24,6 @@ start = told [] (rawOf (freshLog 0))
 -- has not is kept as its buffer keeps it; and the answers that wait come after those handed over to be written
 pub record Reached (ls : Lines) (x : Raw) (line : Option (List ℕ)) (waits : List ℕ) : Type 0 where
   pub state : x ≡ replayed (ls .ended) start .after
-  pub unended : line ≡ fitting lineRoom (ls .rest)
+  pub unended : line ≡ fitting inputLine (ls .rest)
   pub written : List ℕ
   pub answers : written ++ waits ≡ replayed (ls .ended) start .text

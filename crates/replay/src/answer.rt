@@ -171,13 +171,15 @@ fn snap(index: IndexRecord, log: &mut [u64], snapshot: &mut [u64], upto: Upto) -
 fn stop_sign(c: u32) -> StopSign
     ensures { λ r. ⌜ r ≡ stopOf c ⌝ }
 {
+    let mut nodes = [0u64; entry::NODES];
+    nodes[0] = 1;
     StopSign {
         config_id: c,
         node_count: 1,
-        nodes: [1, 0, 0, 0, 0, 0, 0],
+        nodes,
         metadata_held: false,
         metadata_len: 0,
-        metadata: [0; 32],
+        metadata: [0; entry::METADATA],
     }
 }
 

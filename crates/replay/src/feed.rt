@@ -14,9 +14,6 @@ ghost use Rattle.text.specs.Feeding.{come, joined};
 ghost use Rattle.replay.specs.Feeding.{meaning, outRoom, Fed};
 ghost use Rattle.replay.specs.Input.{Reached};
 
-// Where more answers wait than this, one more might not fit.
-const LAST_START: usize = 65344;
-
 // What is kept from one part to the next: the record, the line, how many bytes of answers wait, and whether there may be more input.
 pub struct Feed {
     pub index: IndexRecord,
@@ -66,7 +63,7 @@ fn finish(st: Feed, line: &[u8], log: &mut [u64], snapshot: &mut [u64], out: &mu
 {
     let used = st.used;
     let index = st.index;
-    let at = text::inner::room(out, used, LAST_START);
+    let at = text::inner::room(out, used, super::LAST_START);
     let command = command_of(st.held, line);
     let done = super::answer::step(index, log, snapshot, command, out, at);
     let next = done.index;

@@ -6,30 +6,35 @@ ghost use Prim.Native.Nat.{ℕ, _≤_};
 ghost use mathlib.Core.List.{List};
 ghost use lib.ListN.{take};
 ghost use Rattle.state_cache.specs.State.{raw};
+ghost use Rattle.text.specs.Rooms.{inputLine};
 ghost use Rattle.text.specs.Lines.{Lines, linesFrom, linesOf};
 ghost use Rattle.text.specs.Feeding.{come};
-ghost use Rattle.replay.specs.Feeding.{lineRoom, outRoom};
+ghost use Rattle.replay.specs.Feeding.{outRoom};
 ghost use Rattle.replay.specs.Input.{Reached};
 
 mod answer;
 mod feed;
 mod shown;
 
-// A line longer than this is a bad line, whatever it says.
-const LINE_ROOM: usize = 48;
+// The most bytes that an answer may have: a line for each entry, the count before them, a marker and a stop-sign.
+const ANSWER_ROOM: usize = (entry::ENTRIES + 3) * text::OUTPUT_LINE;
 
-const OUT_ROOM: usize = 131072;
+// The bytes in which answers wait to be written.
+const OUT_ROOM: usize = 2 * ANSWER_ROOM;
+
+// Where more of them wait than this, one more answer might not fit.
+const LAST_START: usize = OUT_ROOM - ANSWER_ROOM;
 
 // Writes the answers that wait, so that none is kept back while more input is awaited; then reads once, and does what came.
 fn take_turn(
     st: Feed,
-    line: &mut [u8; LINE_ROOM],
+    line: &mut [u8; text::INPUT_LINE],
     log: &mut [u64; entry::LOG_WORDS],
     snapshot: &mut [u64; entry::SNAPSHOT_WORDS],
     out: &mut [u8; OUT_ROOM],
 ) -> Feed
-    requires { ⌜ (st .held .len ≤ lineRoom) × (st .used ≤ outRoom) ⌝ }
-    ensures { λ r. ⌜ (r .held .len ≤ lineRoom) × (r .used ≤ outRoom) ⌝ }
+    requires { ⌜ (st .held .len ≤ inputLine) × (st .used ≤ outRoom) ⌝ }
+    ensures { λ r. ⌜ (r .held .len ≤ inputLine) × (r .used ≤ outRoom) ⌝ }
     ensures { λ r. ⌜ ((ls : Lines) → Reached ls (raw (st .index) (now (log .entry)) (now (snapshot .entry))) (come (st .held .over) (st .held .len) (now (line .entry))) (take (st .used) (now (out .entry)))
         → ((part : List ℕ) × Reached (linesFrom ls part) (raw (r .index) (now (log .exit)) (now (snapshot .exit))) (come (r .held .over) (r .held .len) (now (line .exit))) (take (r .used) (now (out .exit))))) ⌝ }
 {
@@ -51,12 +56,12 @@ fn take_turn(
 // The end of the input, and the answers that wait. What has come by then is some input's lines, answered from the start.
 fn last(
     st: Feed,
-    line: &[u8; LINE_ROOM],
+    line: &[u8; text::INPUT_LINE],
     log: &mut [u64; entry::LOG_WORDS],
     snapshot: &mut [u64; entry::SNAPSHOT_WORDS],
     out: &mut [u8; OUT_ROOM],
 )
-    requires { ⌜ (st .held .len ≤ lineRoom) × (st .used ≤ outRoom) ⌝ }
+    requires { ⌜ (st .held .len ≤ inputLine) × (st .used ≤ outRoom) ⌝ }
     requires { ⌜ ((input : List ℕ) × Reached (linesOf input) (raw (st .index) (now log) (now snapshot)) (come (st .held .over) (st .held .len) (now line)) (take (st .used) (now out))) ⌝ }
 {
     let s = feed::end(st, line, log, snapshot, out);
@@ -66,7 +71,7 @@ fn last(
 }
 
 fn main() {
-    let mut line = [0u8; LINE_ROOM];
+    let mut line = [0u8; text::INPUT_LINE];
     let mut log = [0u64; entry::LOG_WORDS];
     let mut snapshot = [0u64; entry::SNAPSHOT_WORDS];
     let mut out = [0u8; OUT_ROOM];

@@ -14,14 +14,15 @@ ghost use Rattle.words.specs.If.{if_then_else_};
 ghost use Rattle.entry.specs.Limits.{logWords};
 ghost use Rattle.model.specs.Log.{given};
 ghost use Rattle.state_cache.specs.State.{raw, oneIf};
+ghost use Rattle.text.specs.Rooms.{outputLine};
 ghost use Rattle.reading.specs.Replies.{markerSaid, shownSaid, readSaid};
 ghost use Rattle.replay.specs.Answering.{markerText, stopText, shownText, inLog, readTextIn, replyText};
 ghost use Rattle.replay.specs.Feeding.{answerRoom};
 
 // A marker's line, or none.
 fn put_marker(out: &mut [u8], at: usize, marker: Marker) -> usize
-    requires { ⌜ at + 64 ≤ length (now out) ⌝ }
-    ensures { λ r. ⌜ r ≤ at + 64 ⌝ }
+    requires { ⌜ at + outputLine ≤ length (now out) ⌝ }
+    ensures { λ r. ⌜ r ≤ at + outputLine ⌝ }
     ensures { λ r. ⌜ ((snapshot : List ℕ) → take r (now (out .exit)) ≡ take at (now (out .entry)) ++ markerText (markerSaid snapshot marker)) ⌝ }
 {
     match marker {
@@ -35,8 +36,8 @@ fn put_marker(out: &mut [u8], at: usize, marker: Marker) -> usize
 
 // A stop-sign's line, or none.
 fn put_stop(out: &mut [u8], at: usize, run: ShownRun, index: IndexRecord) -> usize
-    requires { ⌜ at + 64 ≤ length (now out) ⌝ }
-    ensures { λ r. ⌜ r ≤ at + 64 ⌝ }
+    requires { ⌜ at + outputLine ≤ length (now out) ⌝ }
+    ensures { λ r. ⌜ r ≤ at + outputLine ⌝ }
     ensures { λ r. ⌜ take r (now (out .exit)) ≡ take at (now (out .entry)) ++ stopText (if run .stop then some (index .stop) else none) (run .«stop_decided») ⌝ }
 {
     let stop = index.stop;

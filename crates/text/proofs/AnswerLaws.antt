@@ -15,6 +15,7 @@ use Rattle.words.proofs.CodedLaws.{entries-length}
 use Rattle.entry.specs.Change.{changeCode, entriesOf}
 use Rattle.entry.specs.Inner.{changeAt}
 use Rattle.entry.proofs.ChangeLaws.{entry-cons}
+use Rattle.text.specs.Rooms.{mostDigits}
 use Rattle.text.specs.Answers.{digitsUpTo, decimalOf, entryLine, entryLines}
 
 -- below 10 there is one digit
@@ -61,10 +62,10 @@ digits-most (suc fuel) n = go (ltb n 10) (digits-most fuel (n / 10))
 module _ (n k : ℕ) (h : n < 2 ^ 64) (f : Fewest 10 1 n k) where
   pub decimal-is : digits 10 k n ≡ decimalOf n
   unfolding decimalOf
-  decimal-is = ap (λ (j : ℕ). digits 10 j n) (digits-are 19 n k (omega arith) f)
+  decimal-is = ap (λ (j : ℕ). digits 10 j n) (digits-are (mostDigits - 1) n k (omega arith) f)
 
-  pub decimal-most : k ≤ 20
-  decimal-most = omega (arith, digits-are 19 n k (omega arith) f, digits-most 19 n)
+  pub decimal-most : k ≤ mostDigits
+  decimal-most = omega (arith, digits-are (mostDigits - 1) n k (omega arith) f, digits-most (mostDigits - 1) n)
 
 -- three pieces put one after the other
 pub glue : {t u v : List ℕ} (a l d e : List ℕ) → t ≡ u ++ e → u ≡ v ++ d → v ≡ a ++ l → t ≡ a ++ (l ++ d ++ e)

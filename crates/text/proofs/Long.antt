@@ -1,4 +1,4 @@
--- A line of more than 48 bytes is a bad line, whatever it says: a buffer of that size cuts nothing off that means something.
+-- A line of more than `inputLine` bytes is a bad line, whatever it says: a buffer of that size cuts nothing off that means something.
 use Prim.Native.Nat.{ℕ, _+_, _-_, _*_, _^_, _≤_, _<_}
 use Prim.Native.String.{String}
 use mathlib.Core.Path.{_≡_, refl, sym, ap, _∙_}
@@ -14,6 +14,7 @@ use Rattle.words.specs.All.{allOf}
 use Rattle.words.proofs.Tests.{Reach, reached, short, reach, and-left, and-right}
 use Rattle.words.proofs.Alls.{all-head}
 use Rattle.text.specs.Bytes.{bytes}
+use Rattle.text.specs.Rooms.{mostDigits, inputLine}
 use Rattle.text.specs.Number.{isDigit, value, plain, numberOf}
 use Rattle.text.specs.Parse.{_is_, words, onto, bareOf, snapOf, numberedOf, withNumber, withOne, pairedOf, withNumbers, withTwo, commandOf, parseOf}
 use Rattle.text.specs.declared.Parsed.{Parsed}
@@ -40,11 +41,11 @@ total-words (b ∷ bs) = go (eqb b 32) (total-words bs)
     go true e = omega arith
     go false e = omega (arith, total-onto b (words bs) (omega arith))
 
--- no name has more than six letters
+-- no name is longer than `decide`, and of those before two numbers none than `read`
 off : (w : List ℕ) (t : String) → length (bytes t) < length w → (w is t) ≡ false
 off w t h = same-lengths w (bytes t) (λ e. omega arith)
 
-module _ (w : List ℕ) (h : 6 < length w) where
+module _ (w : List ℕ) (h : length (bytes "decide") < length w) where
   long-bare : bareOf w ≡ BadLine
   unfolding bareOf
   long-bare = rw (off w "flush" (omega arith))
@@ -64,6 +65,7 @@ module _ (w : List ℕ) (h : 6 < length w) where
   long-number (Value n) = long-numbered n
   long-number NoNumber = refl
 
+module _ (w : List ℕ) (h : length (bytes "read") < length w) where
   long-paired : (m n : ℕ) → pairedOf w m n ≡ BadLine
   unfolding pairedOf
   long-paired m n = rw (off w "put" (omega arith), off w "read" (omega arith))
@@ -73,7 +75,7 @@ module _ (w : List ℕ) (h : 6 < length w) where
   long-numbers (Value m) NoNumber = refl
   long-numbers NoNumber q = refl
 
--- no number has more than twenty digits
+-- no number has more than `mostDigits` digits
 tens : ℕ → List ℕ → ℕ
 tens m [] = m
 tens m (b ∷ bs) = tens (m * 10) bs
@@ -92,7 +94,7 @@ not-true : (t : Bool) → not t ≡ true → t ≡ false
 not-true true e = sym e
 not-true false e = refl
 
-value-long : (xs : List ℕ) → 20 < length xs → plain xs ≡ true → 2 ^ 64 ≤ value 0 xs
+value-long : (xs : List ℕ) → mostDigits < length xs → plain xs ≡ true → 2 ^ 64 ≤ value 0 xs
 value-long [] h p = absurd (omega arith)
 value-long (b ∷ []) h p = absurd (omega arith)
 value-long (b ∷ c ∷ bs) h p =
@@ -101,10 +103,10 @@ value-long (b ∷ c ∷ bs) h p =
     let z = eqb-false b 48 (not-true (eqb b 48) (and-left (not (eqb b 48)) (allOf isDigit (b ∷ c ∷ bs)) p)) in
     let g = tens-least 1 (0 * 10 + (b - 48)) (c ∷ bs) (omega arith) in
     let t = tens-power 1 (c ∷ bs) in
-    let q = pow-le-pow-right {n = 10} (lit< tt) {i = 20} {j = length (c ∷ bs)} (omega arith) in
+    let q = pow-le-pow-right {n = 10} (lit< tt) {i = mostDigits} {j = length (c ∷ bs)} (omega arith) in
     omega (arith, g, t, q, one-mul (10 ^ length (c ∷ bs)))
 
-number-long : (xs : List ℕ) → 20 < length xs → numberOf xs ≡ NoNumber
+number-long : (xs : List ℕ) → mostDigits < length xs → numberOf xs ≡ NoNumber
 unfolding numberOf
 number-long xs h = go (plain xs) (value-long xs h)
   where
@@ -112,12 +114,12 @@ number-long xs h = go (plain xs) (value-long xs h)
     go false f = refl
     go true f = rw (le-ltb (value 0 xs) (2 ^ 64) (f refl))
 
--- so a line of more bytes than a name, two numbers and two spaces is none of the nine
+-- so a line of more bytes than such a name, two numbers and two spaces is none of the nine
 second-long : (w : List ℕ) (p : Parsed) → withNumbers w p NoNumber ≡ BadLine
 second-long w (Value m) = refl
 second-long w NoNumber = refl
 
-one-long : (w a : List ℕ) → 20 < length a → withOne w a ≡ BadLine
+one-long : (w a : List ℕ) → mostDigits < length a → withOne w a ≡ BadLine
 unfolding withOne snapOf
 one-long w a h = go (w is "snap")
   where
@@ -125,26 +127,26 @@ one-long w a h = go (w is "snap")
     go true = rw (off a "all" (omega arith), number-long a h)
     go false = rw (number-long a h)
 
-one-other : (w a : List ℕ) → 6 < length w → withOne w a ≡ BadLine
+one-other : (w a : List ℕ) → length (bytes "decide") < length w → withOne w a ≡ BadLine
 unfolding withOne
 one-other w a h = rw (off w "snap" (omega arith)) (long-number w h (numberOf a))
 
-long-one : (w a : List ℕ) → 27 < length w + 1 + length a → withOne w a ≡ BadLine
-long-one w a h = go (reach (length w) 6)
+long-one : (w a : List ℕ) → length (bytes "decide") + 1 + mostDigits < length w + 1 + length a → withOne w a ≡ BadLine
+long-one w a h = go (reach (length w) (length (bytes "decide")))
   where
-    go : Reach (length w) 6 → withOne w a ≡ BadLine
+    go : Reach (length w) (length (bytes "decide")) → withOne w a ≡ BadLine
     go (reached l) = one-long w a (omega arith)
     go (short l) = one-other w a l
 
-long-two : (w a b : List ℕ) → 48 < length w + 1 + length a + 1 + length b → withTwo w a b ≡ BadLine
-long-two w a b h = go (reach (length w) 6) (reach (length a) 20)
+long-two : (w a b : List ℕ) → inputLine < length w + 1 + length a + 1 + length b → withTwo w a b ≡ BadLine
+long-two w a b h = go (reach (length w) (length (bytes "read"))) (reach (length a) mostDigits)
   where
-    go : Reach (length w) 6 → Reach (length a) 20 → withTwo w a b ≡ BadLine
+    go : Reach (length w) (length (bytes "read")) → Reach (length a) mostDigits → withTwo w a b ≡ BadLine
     go (short l) r = long-numbers w l (numberOf a) (numberOf b)
     go (reached l) (short k) = rw (number-long a k)
     go (reached l) (reached k) = rw (number-long b (omega arith)) (second-long w (numberOf a))
 
-long-words : (ws : List (List ℕ)) → 49 < total ws → commandOf ws ≡ BadLine
+long-words : (ws : List (List ℕ)) → inputLine + 1 < total ws → commandOf ws ≡ BadLine
 unfolding total
 long-words [] h = refl
 long-words (w ∷ []) h = long-bare w (omega arith)
@@ -152,6 +154,6 @@ long-words (w ∷ a ∷ []) h = long-one w a (omega arith)
 long-words (w ∷ a ∷ b ∷ []) h = long-two w a b (omega arith)
 long-words (w ∷ a ∷ b ∷ c ∷ ws) h = refl
 
-pub too-long : (line : List ℕ) → 48 < length line → parseOf line ≡ BadLine
+pub too-long : (line : List ℕ) → inputLine < length line → parseOf line ≡ BadLine
 unfolding parseOf
 too-long line h = long-words (words line) (omega (arith, total-words line))

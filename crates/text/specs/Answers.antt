@@ -7,6 +7,7 @@ use Rattle.io.specs.Digits.{digits}
 use Rattle.words.specs.If.{if_then_else_}
 use Rattle.entry.specs.Change.{Said, place, removed, Change}
 use Rattle.text.specs.Bytes.{bytes}
+use Rattle.text.specs.Rooms.{mostDigits}
 use Rattle.text.specs.declared.Line.{Line}
 use Rattle.text.specs.declared.Line.the-variants.{Done, Held, Nothing, BadLine, Accepted, Refused, Run, Trimmed, Snapshot, Stop}
 
@@ -15,9 +16,9 @@ abbrev pub digitsUpTo : ℕ → ℕ → ℕ
 digitsUpTo zero n = 1
 digitsUpTo (suc fuel) n = if ltb n 10 then 1 else suc (digitsUpTo fuel (n / 10))
 
--- a number below 10^20 in decimal
+-- a 64-bit number in decimal
 unfoldable pub decimalOf : ℕ → List ℕ
-decimalOf n = digits 10 (digitsUpTo 19 n) n
+decimalOf n = digits 10 (digitsUpTo (mostDigits - 1) n) n
 
 unfoldable pub lineOf : Line → List ℕ
 lineOf Done = bytes "ok\n"

@@ -1,4 +1,5 @@
 pub mod Bytes
+pub mod Rooms
 pub mod Number
 pub mod Parse
 pub mod Answers

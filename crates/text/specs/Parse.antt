@@ -11,7 +11,8 @@ use Rattle.text.specs.Number.{numberOf}
 use Rattle.text.specs.declared.Parsed.{Parsed}
 use Rattle.text.specs.declared.Parsed.the-variants.{Value, NoNumber}
 use Rattle.text.specs.declared.Command.{Command}
-use Rattle.text.specs.declared.Command.the-variants.{Batch, Put, Del, Read, Flush, Decide, Snap, Stop, Trim, BadLine}
+use Rattle.text.specs.declared.Command.the-variants.{Batch, Put, Del, Read, Flush, Decide, Snap, Stop}
+use Rattle.text.specs.declared.Command.the-variants.{Trim, BadLine}
 
 -- whether two lists of bytes are one
 abbrev pub sameOf : List ℕ → List ℕ → Bool

@@ -12,6 +12,7 @@ ghost use Rattle.entry.specs.Limits.{width};
 ghost use Rattle.entry.specs.Change.{saidIs, entriesOf};
 ghost use Rattle.io.specs.Counts.{Counts};
 ghost use Rattle.text.specs.Bytes.{bytes, gapOf};
+ghost use Rattle.text.specs.Rooms.{mostDigits, outputLine};
 ghost use Rattle.text.specs.Feeding.{come, joined, nextAt};
 ghost use Rattle.text.specs.Number.{numberOf};
 ghost use Rattle.text.specs.Answers.{decimalOf, lineOf, entryText, entryLine, entryLines};
@@ -80,19 +81,19 @@ pub fn put(out: &mut [u8], at: usize, src: &[u8]) -> usize
 
 // n in decimal.
 pub fn put_number(out: &mut [u8], at: usize, n: u64) -> usize
-    requires { ⌜ at + 20 ≤ length (now out) ⌝ }
-    ensures { λ r. ⌜ r ≤ at + 20 ⌝ }
+    requires { ⌜ at + mostDigits ≤ length (now out) ⌝ }
+    ensures { λ r. ⌜ r ≤ at + mostDigits ⌝ }
     ensures { λ r. ⌜ take r (now (out .exit)) ≡ take at (now (out .entry)) ++ decimalOf n ⌝ }
 {
-    let mut text = [0u8; 20];
+    let mut text = [0u8; super::DIGITS];
     let k = io::decimal(n, &mut text);
     put(out, at, &text[..k])
 }
 
 // label, n in decimal and tail.
 fn put_one(out: &mut [u8], at: usize, label: &[u8], n: u64, tail: &[u8]) -> usize
-    requires { ⌜ at + length (now label) + 20 + length (now tail) ≤ length (now out) ⌝ }
-    ensures { λ r. ⌜ r ≤ at + length (now (label .entry)) + 20 + length (now (tail .entry)) ⌝ }
+    requires { ⌜ at + length (now label) + mostDigits + length (now tail) ≤ length (now out) ⌝ }
+    ensures { λ r. ⌜ r ≤ at + length (now (label .entry)) + mostDigits + length (now (tail .entry)) ⌝ }
     ensures { λ r. ⌜ take r (now (out .exit)) ≡ take at (now (out .entry)) ++ (now (label .entry) ++ decimalOf n ++ now (tail .entry)) ⌝ }
 {
     let a = put(out, at, label);
@@ -102,8 +103,8 @@ fn put_one(out: &mut [u8], at: usize, label: &[u8], n: u64, tail: &[u8]) -> usiz
 
 // label, n and a line end.
 fn put_count(out: &mut [u8], at: usize, label: &[u8], n: u64) -> usize
-    requires { ⌜ at + length (now label) + 21 ≤ length (now out) ⌝ }
-    ensures { λ r. ⌜ r ≤ at + length (now (label .entry)) + 21 ⌝ }
+    requires { ⌜ at + length (now label) + (mostDigits + 1) ≤ length (now out) ⌝ }
+    ensures { λ r. ⌜ r ≤ at + length (now (label .entry)) + (mostDigits + 1) ⌝ }
     ensures { λ r. ⌜ take r (now (out .exit)) ≡ take at (now (out .entry)) ++ (now (label .entry) ++ decimalOf n ++ bytes "\n") ⌝ }
 {
     put_one(out, at, label, n, b"\n")
@@ -111,8 +112,8 @@ fn put_count(out: &mut [u8], at: usize, label: &[u8], n: u64) -> usize
 
 // label, m, a space, n and a line end.
 fn put_two(out: &mut [u8], at: usize, label: &[u8], m: u64, n: u64) -> usize
-    requires { ⌜ at + length (now label) + 42 ≤ length (now out) ⌝ }
-    ensures { λ r. ⌜ r ≤ at + length (now (label .entry)) + 42 ⌝ }
+    requires { ⌜ at + length (now label) + 2 * (mostDigits + 1) ≤ length (now out) ⌝ }
+    ensures { λ r. ⌜ r ≤ at + length (now (label .entry)) + 2 * (mostDigits + 1) ⌝ }
     ensures { λ r. ⌜ take r (now (out .exit)) ≡ take at (now (out .entry)) ++ (now (label .entry) ++ decimalOf m ++ bytes " " ++ decimalOf n ++ bytes "\n") ⌝ }
 {
     let a = put_one(out, at, label, m, b" ");
@@ -121,8 +122,8 @@ fn put_two(out: &mut [u8], at: usize, label: &[u8], m: u64, n: u64) -> usize
 
 // A stop-sign's line.
 fn put_stop(out: &mut [u8], at: usize, c: u32, decided: bool) -> usize
-    requires { ⌜ at + 64 ≤ length (now out) ⌝ }
-    ensures { λ r. ⌜ r ≤ at + 64 ⌝ }
+    requires { ⌜ at + outputLine ≤ length (now out) ⌝ }
+    ensures { λ r. ⌜ r ≤ at + outputLine ⌝ }
     ensures { λ r. ⌜ take r (now (out .exit)) ≡ take at (now (out .entry)) ++ lineOf (Stop c decided) ⌝ }
 {
     if decided {
@@ -133,8 +134,8 @@ fn put_stop(out: &mut [u8], at: usize, c: u32, decided: bool) -> usize
 
 // A line.
 pub fn put_line(out: &mut [u8], at: usize, line: Line) -> usize
-    requires { ⌜ at + 64 ≤ length (now out) ⌝ }
-    ensures { λ r. ⌜ r ≤ at + 64 ⌝ }
+    requires { ⌜ at + outputLine ≤ length (now out) ⌝ }
+    ensures { λ r. ⌜ r ≤ at + outputLine ⌝ }
     ensures { λ r. ⌜ take r (now (out .exit)) ≡ take at (now (out .entry)) ++ lineOf line ⌝ }
 {
     match line {
@@ -153,8 +154,8 @@ pub fn put_line(out: &mut [u8], at: usize, line: Line) -> usize
 
 // label, a key, a space, the key's place or `-`, and a line end.
 fn put_change(out: &mut [u8], at: usize, label: &[u8], k: u64, said: Said) -> usize
-    requires { ⌜ at + length (now label) + 42 ≤ length (now out) ⌝ }
-    ensures { λ r. ⌜ r ≤ at + length (now (label .entry)) + 42 ⌝ }
+    requires { ⌜ at + length (now label) + 2 * (mostDigits + 1) ≤ length (now out) ⌝ }
+    ensures { λ r. ⌜ r ≤ at + length (now (label .entry)) + 2 * (mostDigits + 1) ⌝ }
     ensures { λ r. ⌜ take r (now (out .exit))
         ≡ take at (now (out .entry)) ++ (now (label .entry) ++ entryText (record { key = k; said = saidIs said })) ⌝ }
 {
@@ -166,8 +167,8 @@ fn put_change(out: &mut [u8], at: usize, label: &[u8], k: u64, said: Said) -> us
 
 // An entry's line.
 fn put_entry(out: &mut [u8], at: usize, decided: bool, k: u64, said: Said) -> usize
-    requires { ⌜ at + 64 ≤ length (now out) ⌝ }
-    ensures { λ r. ⌜ r ≤ at + 64 ⌝ }
+    requires { ⌜ at + outputLine ≤ length (now out) ⌝ }
+    ensures { λ r. ⌜ r ≤ at + outputLine ⌝ }
     ensures { λ r. ⌜ take r (now (out .exit))
         ≡ take at (now (out .entry)) ++ entryLine decided (record { key = k; said = saidIs said }) ⌝ }
 {
@@ -180,8 +181,8 @@ fn put_entry(out: &mut [u8], at: usize, decided: bool, k: u64, said: Said) -> us
 // The lines of the first n entries, the first `decided` of them as decided.
 pub fn put_run(out: &mut [u8], at: usize, entries: &[u64], n: usize, decided: usize) -> usize
     requires { ⌜ n * width ≤ length (now entries) ⌝ }
-    requires { ⌜ at + 64 * n ≤ length (now out) ⌝ }
-    ensures { λ r. ⌜ r ≤ at + 64 * n ⌝ }
+    requires { ⌜ at + outputLine * n ≤ length (now out) ⌝ }
+    ensures { λ r. ⌜ r ≤ at + outputLine * n ⌝ }
     ensures { λ r. ⌜ take r (now (out .exit)) ≡ take at (now (out .entry)) ++ entryLines decided (entriesOf n (now (entries .entry))) ⌝ }
 {
     let mut o = at;

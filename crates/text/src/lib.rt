@@ -6,6 +6,16 @@ ghost use Rattle.text.specs.Parse.{sameOf, bareOf, snapOf, numberedOf, w
 
 pub mod inner;
 
+// The most digits of a 64-bit number.
+pub const DIGITS: usize = 20;
+
+// The longest line of input that is no bad line: `read`, and two numbers, each after a space.
+pub const INPUT_LINE: usize = 4 + 2 * (1 + DIGITS);
+
+// The longest line of output: `undecided` and a space, and two numbers, with a space after the first and a line feed
+// after the second.
+pub const OUTPUT_LINE: usize = 10 + 2 * (DIGITS + 1);
+
 // What a word is when it is read as a number.
 pub enum Parsed {
     Value(u64),

@@ -22,21 +22,24 @@ pub fn empty() -> OpList
         ballot,
         given: false,
     };
-    let ops = [o; 8];
+    let ops = [o; super::super::OPERATIONS];
     OpList { count: 0, ops }
 }
 
-// One operation more; the ninth is counted and not kept.
+// One operation more; one too many is counted and not kept.
 pub fn put(list: OpList, o: Op) -> OpList
     ensures { λ r. ⌜ r ≡ putOf list o ⌝ }
 {
     let n = list.count;
     let mut ops = list.ops;
-    if n < 8 {
+    if n < super::super::OPERATIONS {
         ops[n] = o;
         return OpList { count: n + 1, ops };
     }
-    OpList { count: 9, ops }
+    OpList {
+        count: super::super::TOO_MANY,
+        ops,
+    }
 }
 
 // The lent operations as a value: each is put in turn.

@@ -8,6 +8,7 @@ ghost use mathlib.Core.Bool.{_&&_};
 ghost use mathlib.Core.List.{[]};
 ghost use Prim.Native.Nat.{_≤_};
 ghost use Rattle.words.specs.All.{allOf};
+ghost use Rattle.entry.specs.Limits.{mostOps};
 ghost use Rattle.model.specs.Backend.{supplied, opsFormed};
 ghost use Rattle.backend.specs.Ops.{opOf, opsIn, lentOf, incomingFormed, wholeList};
 
@@ -31,7 +32,7 @@ fn supplied(lent: Lent, o: Op) -> bool
 
 // Whether what each operation needs is lent.
 fn all_supplied(lent: Lent, list: OpList) -> bool
-    requires { ⌜ list .count ≤ 8 ⌝ }
+    requires { ⌜ list .count ≤ mostOps ⌝ }
     ensures { λ r. ⌜ r ≡ allOf (supplied (lentOf lent [] [])) (opsIn list) ⌝ }
 {
     let n = list.count;
@@ -63,7 +64,7 @@ pub fn request_formed(entries: &[u64], incoming: &[u64], lent: Lent, list: OpLis
 {
     let count = list.count;
     let stop = lent.stop;
-    if 8 < count {
+    if super::super::OPERATIONS < count {
         return false;
     }
     let fine = entry::entries_formed(entries);

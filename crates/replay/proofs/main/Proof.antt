@@ -8,7 +8,8 @@ use Rattle.state_cache.specs.State.{raw}
 use Rattle.text.specs.Lines.{noLine, linesOf}
 use Rattle.text.specs.Feeding.{come}
 use Rattle.text.proofs.LineLaws.{lines-append}
-use Rattle.replay.specs.Feeding.{lineRoom, outRoom}
+use Rattle.text.specs.Rooms.{inputLine}
+use Rattle.replay.specs.Feeding.{outRoom}
 use Rattle.replay.specs.Input.{Reached}
 use Rattle.replay.proofs.Inputs.{begun}
 use Rattle.replay.proofs.main.Statement.{statement}
@@ -16,7 +17,7 @@ use Rattle.replay.proofs.main.Tie as tie
 
 abbrev Inv-loop : tie.InvT-loop
 Inv-loop line₀ log₀ snapshot₀ out₀ s₀ turns₀ line log snapshot out s turns =
-    ((s .held .len ≤ lineRoom) × (s .used ≤ outRoom))
+    ((s .held .len ≤ inputLine) × (s .used ≤ outRoom))
     × ((input : List ℕ) × Reached (linesOf input) (raw (s .index) log snapshot) (come (s .held .over) (s .held .len) line) (take (s .used) out))
 
 abbrev μ-loop : tie.MeasureT-loop

@@ -2,6 +2,7 @@
 use mathlib.Core.Path.{_≡_}
 use lib.ListN.{length}
 use borrow.Author.Tests.{eq-eqb}
+use Rattle.entry.specs.Limits.{mostNodes, mostMetadata}
 use Rattle.entry.specs.Sign.{blank, signBlank}
 use borrow.Author.Needs.{needs}
 use Rattle.entry.proofs.inner.sign_blank.Statement.{statement}
@@ -23,9 +24,9 @@ returns : tie.Need-returns
 unfolding signBlank blank
 returns c =
     let st = c .before .before .before .before .before .before .before .before .before .before in
-    let n : length (st .args .s .nodes) ≡ 7 = search needs in
-    let m : length (st .args .s .metadata) ≡ 32 = search needs in
-    rw (eq-eqb (length (st .args .s .nodes)) 7 n, eq-eqb (length (st .args .s .metadata)) 32 m) cc
+    let n : length (st .args .s .nodes) ≡ mostNodes = search needs in
+    let m : length (st .args .s .metadata) ≡ mostMetadata = search needs in
+    rw (eq-eqb (length (st .args .s .nodes)) mostNodes n, eq-eqb (length (st .args .s .metadata)) mostMetadata m) cc
 
 pub sign-blank-spec : {M : Type 1} → statement M
 sign-blank-spec =

@@ -10,14 +10,15 @@ use Rattle.state_cache.specs.State.{raw}
 use Rattle.text.specs.Lines.{Lines, linesFrom}
 use Rattle.text.specs.Feeding.{come}
 use Rattle.text.proofs.LineLaws.{lines-part}
-use Rattle.replay.specs.Feeding.{lineRoom, outRoom}
+use Rattle.text.specs.Rooms.{inputLine}
+use Rattle.replay.specs.Feeding.{outRoom}
 use Rattle.replay.specs.Input.{Reached}
 use Rattle.replay.proofs.feed.take_part.Statement.{statement}
 use Rattle.replay.proofs.feed.take_part.Tie as tie
 
 abbrev Inv-loop : tie.InvT-loop
 Inv-loop part line₀ log₀ snapshot₀ out₀ s₀ at₀ line log snapshot out s at =
-    ((at ≤ length part + 1) × (s .held .len ≤ length line) × (s .used ≤ outRoom) × (length out ≡ outRoom) × (length log ≡ logWords) × (length line ≡ lineRoom)
+    ((at ≤ length part + 1) × (s .held .len ≤ length line) × (s .used ≤ outRoom) × (length out ≡ outRoom) × (length log ≡ logWords) × (length line ≡ inputLine)
     × (length line ≡ length line₀) × (length log ≡ length log₀) × (length snapshot ≡ length snapshot₀) × (length out ≡ length out₀))
     × ((ls : Lines) → Reached ls (raw (s₀ .index) log₀ snapshot₀) (come (s₀ .held .over) (s₀ .held .len) line₀) (take (s₀ .used) out₀)
     → Reached (linesFrom ls (take at part)) (raw (s .index) log snapshot) (come (s .held .over) (s .held .len) line) (take (s .used) out))

@@ -8,13 +8,14 @@ use lib.ListN.{length, take, drop}
 use denote.Ref.{now}
 use Rattle.entry.specs.Change.{Said, entriesOf}
 use Rattle.entry.specs.Inner.{changeAt}
+use Rattle.text.specs.Rooms.{outputLine}
 use Rattle.text.specs.Answers.{entryLine, entryLines}
 use Rattle.text.proofs.AnswerLaws.{lines-next, lines-end, turn}
 use Rattle.text.proofs.inner.put_run.Statement.{statement}
 use Rattle.text.proofs.inner.put_run.Tie as tie
 
 abbrev Inv-loop : tie.InvT-loop
-Inv-loop out₀ at entries n decided o₀ i₀ out o i = (i ≤ n) × (o ≤ at + 64 * i) × (length out ≡ length out₀) × (take o out ++ entryLines (decided - i) (drop i (entriesOf n entries)) ≡ take at out₀ ++ entryLines decided (entriesOf n entries))
+Inv-loop out₀ at entries n decided o₀ i₀ out o i = (i ≤ n) × (o ≤ at + outputLine * i) × (length out ≡ length out₀) × (take o out ++ entryLines (decided - i) (drop i (entriesOf n entries)) ≡ take at out₀ ++ entryLines decided (entriesOf n entries))
 
 abbrev μ-loop : tie.MeasureT-loop
 μ-loop out₀ at entries n decided o₀ i₀ out o i = n - i

@@ -5,6 +5,7 @@ use mathlib.Core.List.{map}
 use native.Mathlib.Omega.{arith}
 use denote.Ref.{now}
 use lib.ListN.{length, take, drop, length-map}
+use Rattle.entry.specs.Limits.{mostOps}
 use Rattle.model.specs.Backend.{Lent}
 use Rattle.state_cache.specs.State.{Raw, raw, numbersIn}
 use Rattle.state_cache.proofs.Small.{sound-small}
@@ -34,7 +35,7 @@ stateAt c = raw (c .args .before) (now (c .args .log)) (now (c .args .shot))
 abbrev lentAt : S → Lent
 lentAt c = lentOf (c .args .lent) (now (c .args .entries)) (now (c .args .incoming))
 
-eight : (st : S) → length (st .args .list .ops) ≡ 8
+eight : (st : S) → length (st .args .list .ops) ≡ mostOps
 eight st = simp length-map at (st .good .1 .1 .1 .1 .1 .1 .0 .1 .1 .1 .0 .1 .0 .1)
 
 abbrev startOf : tie.At-loop Inv-loop μ-loop → S

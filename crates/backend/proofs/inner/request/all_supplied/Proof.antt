@@ -5,6 +5,7 @@ use mathlib.Core.Bool.{_&&_}
 use mathlib.Core.List.{[], map}
 use native.Mathlib.Omega.{arith}
 use lib.ListN.{length, take, drop, length-map}
+use Rattle.entry.specs.Limits.{mostOps}
 use Rattle.words.specs.All.{allOf}
 use Rattle.words.proofs.Alls.{all-end}
 use Rattle.model.specs.Backend.{supplied}
@@ -21,7 +22,7 @@ Inv-loop lent n ops ok₀ i₀ ok i =
 abbrev μ-loop : tie.MeasureT-loop
 μ-loop lent n ops ok₀ i₀ ok i = n - i
 
-eight : (st : tie.Start Inv-loop μ-loop) → length (st .args .list .ops) ≡ 8
+eight : (st : tie.Start Inv-loop μ-loop) → length (st .args .list .ops) ≡ mostOps
 eight st = simp length-map at (st .good .1 .0 .1 .1 .1 .0 .1 .0 .1)
 
 loop-holds : tie.Need-loop-holds Inv-loop μ-loop

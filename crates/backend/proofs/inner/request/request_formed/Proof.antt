@@ -2,12 +2,13 @@
 use mathlib.Core.Path.{_≡_}
 use lib.ListN.{length, length-map}
 use denote.Ref.{now}
+use Rattle.entry.specs.Limits.{mostOps}
 use Rattle.backend.proofs.Requests.{too-many, request-is}
 use borrow.Author.Needs.{needs}
 use Rattle.backend.proofs.inner.request.request_formed.Statement.{statement}
 use Rattle.backend.proofs.inner.request.request_formed.Tie as tie
 
-eight : (st : tie.Start) → length (st .args .list .ops) ≡ 8
+eight : (st : tie.Start) → length (st .args .list .ops) ≡ mostOps
 eight st = simp length-map at (st .good .1 .1 .1 .0 .1 .1 .1 .0 .1 .0 .1)
 
 returns : tie.Need-returns

@@ -19,8 +19,9 @@ use Rattle.entry.proofs.SliceLaws.{laid-of, stored-laid, slice-whole, slice-fin
 use Rattle.snapshot.specs.Calls.{snapshotFormed}
 use Rattle.model.specs.Numbers.{numbersFormed}
 use Rattle.model.specs.Log.{Log, retaining, withRun}
-use Rattle.state_cache.specs.State.{Raw, raw, numbersIn, signHeld, shotHeld, formed, logOf, Ready}
-use Rattle.state_cache.specs.Fields.{withEntries}
+use Rattle.state_cache.specs.State.{Raw, raw, numbersIn, signHeld, formed, logOf}
+use Rattle.state_cache.specs.Inner.{Ready, withEntries}
+use Rattle.state_cache.proofs.Stands.{shot-tests}
 use Rattle.backend.specs.Inner.{Held}
 
 -- the words of an entry slice are its entries'
@@ -39,11 +40,11 @@ drop-least k l = elim (reach k (length l)) [
 
 -- before the first operation
 pub ready-held : (r : Raw) → Ready r → Held r
-unfolding formed shotHeld
+unfolding formed
 ready-held r g =
     let e₁ = and-right (numbersFormed (numbersIn (r .index))) _ (g .okay) in
     let e₂ = and-right (signHeld (r .index)) _ e₁ in
-    let e₃ = and-right (storedIn logWords (r .index .retained + r .index .batched) (r .log)) _ e₂ in
+    let e₃ = sym (shot-tests (r .index) (r .snapshot)) ∙ and-right (storedIn logWords (r .index .retained + r .index .batched) (r .log)) _ e₂ in
     record { log = g .log; snapshot = g .snapshot; none-held = and-right (snapshotFormed (r .index .keys) (r .snapshot)) _ e₃; sign = and-left (signHeld (r .index)) _ e₁ }
 
 module _ (r : Raw) (h : Held r) where

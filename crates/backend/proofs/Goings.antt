@@ -35,7 +35,7 @@ use Rattle.model.specs.Numbers.{Numbers, endOf}
 use Rattle.model.specs.Log.{given, ifGiven, retaining, withRun as logWithRun}
 use Rattle.model.specs.Backend.{Op, appendEntries, appendOnPrefix, setDecided, setCompacted, trim, setPromise, setRound, setSign, setSnapshot, Lent, supplied, Midst, step, stepGuards}
 use Rattle.state_cache.specs.State.{Raw, raw, signHeld, logOf}
-use Rattle.state_cache.specs.Fields.{withEntries, withStop, withDecided, withPromise, withRun}
+use Rattle.state_cache.specs.Inner.{withEntries, withStop, withDecided, withPromise, withRun}
 use Rattle.state_cache.specs.declared.IndexRecord.{IndexRecord}
 use Rattle.state_cache.specs.declared.Settled.{Settled}
 use Rattle.state_cache.specs.declared.Settled.the-variants.{Done, Refused}

@@ -20,9 +20,10 @@ use Rattle.snapshot.specs.Calls.{snapshotFormed}
 use Rattle.model.specs.Numbers.{Numbers, endOf, acceptedOf, numbersFormed}
 use Rattle.model.specs.Log.{numbersOf, wellFormed}
 use Rattle.model.specs.Backend.{lastGuards}
-use Rattle.state_cache.specs.State.{Raw, numbersIn, oneIf, signHeld, shotHeld, formed, logOf, Small}
+use Rattle.state_cache.specs.State.{Raw, numbersIn, oneIf, signHeld, shotHeld, formed, logOf}
+use Rattle.state_cache.specs.Inner.{Small}
 use Rattle.state_cache.specs.declared.IndexRecord.{IndexRecord}
-use Rattle.state_cache.proofs.Stands.{log-formed, given-by}
+use Rattle.state_cache.proofs.Stands.{shot-tests, log-formed, given-by}
 use Rattle.backend.specs.Inner.{midstOf, Held}
 
 -- the numbers of the log that a record and words stand for are the record's
@@ -50,14 +51,15 @@ stored-of words n ws l =
 
 -- the words are in form, so the numbers decide
 pub formed-numbers : (r : Raw) → Held r → numbersFormed (numbersIn (r .index)) ≡ formed r
-unfolding formed shotHeld snapshotFormed
+unfolding formed snapshotFormed
 formed-numbers r h = sym (and-true (numbersFormed (numbersIn (r .index)))) ∙ ap (λ (t : Bool). numbersFormed (numbersIn (r .index)) && t) (sym rest)
   where
     rest : (signHeld (r .index) && (storedIn logWords (r .index .retained + r .index .batched) (r .log) && shotHeld (r .index) (r .snapshot))) ≡ true
     rest =
         both-true (signHeld (r .index)) _ (h .sign)
         (both-true (storedIn logWords (r .index .retained + r .index .batched) (r .log)) _ (stored-of logWords _ (r .log) (h .log))
-        (both-true (storedIn snapshotWords (r .index .keys) (r .snapshot) && rising (entriesOf (r .index .keys) (r .snapshot))) _
+        (shot-tests (r .index) (r .snapshot)
+        ∙ both-true (storedIn snapshotWords (r .index .keys) (r .snapshot) && rising (entriesOf (r .index .keys) (r .snapshot))) _
         (both-true (storedIn snapshotWords (r .index .keys) (r .snapshot)) _ (stored-of snapshotWords _ (r .snapshot) (h .snapshot .laid)) (h .snapshot .rises))
         (h .none-held)))
 

@@ -15,7 +15,8 @@ use Rattle.entry.specs.Guards.{Guard, guard, first, replied, settle}
 use Rattle.snapshot.specs.Inner.{Holds}
 use Rattle.model.specs.Log.{ifGiven, retaining, noBallot}
 use Rattle.model.specs.Backend.{Op, Lent, opsFormed, Midst, onRun, writeGuards, written}
-use Rattle.state_cache.specs.State.{Raw, raw, signHeld, formed, logOf, Ready}
+use Rattle.state_cache.specs.State.{Raw, raw, signHeld, formed, logOf}
+use Rattle.state_cache.specs.Inner.{Ready}
 use Rattle.state_cache.specs.Run.{settled}
 use Rattle.state_cache.specs.declared.IndexRecord.{IndexRecord}
 use Rattle.state_cache.specs.declared.Settled.{Settled}

@@ -16,7 +16,8 @@ use Rattle.model.specs.Numbers.{Numbers}
 use Rattle.model.specs.Log.{Log, numbersOf, foldedTo}
 use Rattle.model.specs.Compact.{target, pastDecided, foldedUpto, createGuards, created}
 use Rattle.model.specs.Calls.{Call, query, create, malformed, further, queryGuards, effect, replyOf, queryReply}
-use Rattle.model.proofs.Forms.{Sound, ranges}
+use Rattle.model.proofs.Forms.{ranges}
+use Rattle.model.specs.Inner.{Sound}
 use Rattle.model.proofs.Keeps.{target-least}
 use Rattle.state_cache.specs.State.{Raw, numbersIn, formed, logOf}
 use Rattle.state_cache.specs.Run.{Outcome, run}

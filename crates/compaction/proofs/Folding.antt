@@ -14,8 +14,10 @@ use Rattle.snapshot.specs.Folds.{foldOnto, merge}
 use Rattle.snapshot.specs.Inner.{Aside}
 use Rattle.model.specs.Numbers.{Numbers, endOf, logDecided}
 use Rattle.model.specs.Log.{Log, orEmpty, foldedTo}
-use Rattle.model.proofs.Forms.{Sound, ranges, formed-of, shot-held}
-use Rattle.state_cache.specs.State.{Raw, formed, logOf, Ready}
+use Rattle.model.proofs.Forms.{ranges, formed-of, shot-held}
+use Rattle.model.specs.Inner.{Sound}
+use Rattle.state_cache.specs.State.{Raw, formed, logOf}
+use Rattle.state_cache.specs.Inner.{Ready}
 use Rattle.state_cache.proofs.Stands.{stands-of, log-formed, ready-of}
 
 -- log-decided is in the run

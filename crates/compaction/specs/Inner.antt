@@ -15,7 +15,7 @@ use Rattle.state_cache.specs.State.{numbersIn}
 use Rattle.state_cache.specs.declared.IndexRecord.{IndexRecord}
 use Rattle.state_cache.specs.declared.Settled.{Settled}
 use Rattle.state_cache.specs.declared.Settled.the-variants.{Done, Refused}
-use Rattle.state_cache.specs.Fields.{withRun}
+use Rattle.state_cache.specs.Inner.{withRun}
 use Rattle.compaction.specs.declared.inner.Reach.{Reach}
 use Rattle.compaction.specs.declared.inner.Reach.the-variants.{Stays, To}
 

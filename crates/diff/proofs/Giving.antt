@@ -26,7 +26,8 @@ use Rattle.model.specs.Log.{Run, Log, given, orEmpty, foldedTo}
 use Rattle.model.specs.Read.{between}
 use Rattle.model.specs.Diff.{Given, plain, complete, delta, diffOf}
 use Rattle.model.proofs.Forms.{formed-of, shot-folded}
-use Rattle.state_cache.specs.State.{Raw, numbersIn, formed, logOf, Ready}
+use Rattle.state_cache.specs.State.{Raw, numbersIn, formed, logOf}
+use Rattle.state_cache.specs.Inner.{Ready}
 use Rattle.state_cache.proofs.Stands.{Stands, stands-of, log-formed, ready-of}
 use Rattle.internal_storage.proofs.Effects.{numbers}
 use Rattle.compaction.proofs.Folding.{decided-low, decided-high}

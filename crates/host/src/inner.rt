@@ -21,14 +21,12 @@ ghost use Rattle.entry.specs.Limits.{lastWord};
 ghost use Rattle.entry.specs.Change.{entriesIn, wholeIn};
 ghost use Rattle.model.specs.Numbers.{acceptedOf, stopDecided, logDecided};
 ghost use Rattle.model.specs.Read.{included, excluded};
-ghost use Rattle.model.specs.Calls.{query, read, readDecided, getEntries, getSuffix, lookup as lookupCall};
-ghost use Rattle.model.specs.Calls.{append, appendNow, flush, flushEntries, appendStop, setStop};
-ghost use Rattle.model.specs.Calls.{setPromise, decide, trim};
-ghost use Rattle.state_cache.specs.State.{raw, Ready};
+ghost use Rattle.model.specs.Calls.{query, read, readDecided, getEntries, getSuffix, lookup as lookupCall, append, appendNow, flush, flushEntries, appendStop, setStop, setPromise, decide, trim};
+ghost use Rattle.state_cache.specs.State.{raw};
+ghost use Rattle.state_cache.specs.Inner.{Ready};
 ghost use Rattle.state_cache.specs.Run.{run, ofNumbers};
 ghost use Rattle.internal_storage.specs.Replies.{asked as askedSign, withIndexOnly};
-ghost use Rattle.host.specs.Plain.{plain, left, plainly};
-ghost use Rattle.host.specs.Plain.{nothing, aNumber, aFlag, maybeNumber, maybeFlushed, aSpan};
+ghost use Rattle.host.specs.Plain.{plain, left, plainly, nothing, aNumber, aFlag, maybeNumber, maybeFlushed, aSpan};
 ghost use Rattle.host.specs.Requests.{endAt, lentSaid};
 ghost use Rattle.host.specs.Reads.{shownAs};
 

@@ -17,7 +17,7 @@ use Rattle.state_cache.specs.State.{Raw, formed}
 use Rattle.state_cache.specs.Run.{outcome, run}
 use Rattle.state_cache.proofs.Stands.{ready-of}
 use Rattle.state_cache.proofs.Runs.{ill-formed, not-whole, bad-call}
-use Rattle.internal_storage.specs.Replies.{Appends}
+use Rattle.internal_storage.specs.Inner.{Appends}
 
 pub slice-refused : (c : Call) (ws : List ℕ) (r : Raw) → malformed c ≡ not (entriesFormed (entriesIn ws)) → formed r ≡ true → sliceFormed ws ≡ false
     → outcome (refused 11 0) r ≡ run c (wholeIn ws) r

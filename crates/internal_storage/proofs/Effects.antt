@@ -25,16 +25,17 @@ use Rattle.model.specs.Numbers.{Numbers, acceptedOf}
 use Rattle.model.specs.Log.{Log, ifGiven, numbersOf, waiting, withTail}
 use Rattle.model.specs.Append.{Flushed, appendGuards, appendStopGuards, setStopGuards, joined, batchWith, fills, appended, appendedNow, flushed, stopAppended, stopSet, appendReply, flushReply}
 use Rattle.model.specs.Calls.{Call, Reply, append, appendNow, flush, flushEntries, appendStop, setStop, setPromise, decide, malformed, further, effect, replyOf}
-use Rattle.model.proofs.Forms.{Sound}
-use Rattle.state_cache.specs.State.{Raw, raw, numbersIn, formed, logOf, Small}
+use Rattle.model.specs.Inner.{Sound}
+use Rattle.state_cache.specs.State.{Raw, raw, numbersIn, formed, logOf}
+use Rattle.state_cache.specs.Inner.{Small, withEntries, withStop, withDecided, withPromise}
 use Rattle.state_cache.proofs.Small.{sound-small}
 use Rattle.state_cache.specs.Run.{Outcome, outcome, run}
 use Rattle.state_cache.specs.declared.IndexRecord.{IndexRecord}
-use Rattle.state_cache.specs.Fields.{withEntries, withStop, withDecided, withPromise}
 use Rattle.state_cache.proofs.Stands.{Stands, stands-of, numbers-are, log-formed, given-by, sign-by}
 use Rattle.state_cache.proofs.Runs.{bad-call, call-refused, call-stands}
 use Rattle.state_cache.proofs.Changes.{held-length, log-spliced}
-use Rattle.internal_storage.specs.Replies.{appended as appendedIs, Indexed, indexed, byNumbers, flushedAt, heldAt, batchedWith, allFlushed, flushSays, asked, indexOnly, withIndexOnly}
+use Rattle.internal_storage.specs.Replies.{appended as appendedIs, asked, indexOnly, withIndexOnly}
+use Rattle.internal_storage.specs.Inner.{Indexed, indexed, byNumbers, flushedAt, heldAt, batchedWith, allFlushed, flushSays}
 
 module _ (r : Raw) (ok : formed r ≡ true) where
   abbrev s : Log

@@ -2,7 +2,6 @@
 // state that is known to be well formed: the calls of a user judge it first.
 use super::Appended;
 use super::AppendedAt;
-use super::Check;
 use entry::LogIndex;
 use entry::Refusal;
 use state_cache::Accepted;
@@ -16,15 +15,22 @@ ghost use mathlib.Core.Bool.{true};
 ghost use Rattle.entry.specs.Change.{entriesOf};
 ghost use Rattle.model.specs.Append.{appendGuards};
 ghost use Rattle.model.specs.Calls.{append, appendNow};
-ghost use Rattle.model.proofs.Forms.{Sound};
+ghost use Rattle.model.specs.Inner.{Sound};
 ghost use Rattle.state_cache.specs.State.{raw, numbersIn};
 ghost use Rattle.state_cache.specs.Run.{outcome, run, accepted};
-ghost use Rattle.internal_storage.specs.Replies.{verdictOf, appended, batchedWith, Appends};
+ghost use Rattle.internal_storage.specs.Replies.{appended};
+ghost use Rattle.internal_storage.specs.Inner.{verdictOf, batchedWith, Appends};
 
 pub mod append;
 pub mod decide;
 pub mod flush;
 pub mod stop;
+
+// What a call's refusals come to: the first that applies, or none.
+pub enum Check {
+    Passed,
+    Refused(Refusal),
+}
 
 // Refusals 4, 9 and 1, of n entries more.
 pub fn check_append(index: IndexRecord, n: usize) -> Check

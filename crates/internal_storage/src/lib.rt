@@ -45,9 +45,3 @@ pub struct AcceptedIdxAt {
     pub answer: AcceptedIdx,
     pub index: IndexRecord,
 }
-
-// What a call's refusals come to: the first that applies, or none.
-pub enum Check {
-    Passed,
-    Refused(Refusal),
-}

@@ -18,6 +18,7 @@ use Rattle.entry.specs.Sign.{signFormed}
 use Rattle.snapshot.specs.Folds.{merge, rising}
 use Rattle.snapshot.proofs.Algebra.{merge-rises}
 use Rattle.snapshot.proofs.Forming.{formed-merge}
+use Rattle.model.specs.Inner.{Sound}
 use Rattle.model.specs.Numbers.{Numbers, endOf, acceptedOf, stopDecided, logDecided, numbersFormed}
 use Rattle.model.specs.Log.{Log, ifGiven, numbersOf, orEmpty, foldedTo, shotFormed, wellFormed}
 
@@ -36,15 +37,6 @@ log-min n h = go (n .stop) h
     go false k = omega arith
 
 -- ---- numbers
-
-pub record Sound (n : Numbers) : Type 0 where
-  pub low : n .compacted ≤ n .decided
-  pub high : n .decided ≤ acceptedOf n
-  pub inside : acceptedOf n + n .batched ≤ lastIndex
-  pub small : n .batched ≤ n .size - 1
-  pub quiet : n .stop ≡ true → n .batched ≡ 0
-  pub sized : n .size ≤ largestBatch
-  pub room : n .retained + n .batched ≤ entryRoom
 
 small-of : (b n : ℕ) → (eqb b 0 || ltb b n) ≡ true → b ≤ n - 1
 small-of b n e = go (eqb b 0) refl

@@ -11,3 +11,4 @@ pub mod Calls
 pub mod Orders
 pub mod History
 pub mod Cases
+pub mod Inner

@@ -22,7 +22,8 @@ use Rattle.model.specs.Log.{numbersOf, orEmpty}
 use Rattle.model.specs.Lookup.{lookupReply}
 use Rattle.model.specs.Calls.{query, lookup, queryReply, queryGuards}
 use Rattle.model.proofs.Forms.{log-min}
-use Rattle.state_cache.specs.State.{Raw, numbersIn, logOf, Ready}
+use Rattle.state_cache.specs.State.{Raw, numbersIn, logOf}
+use Rattle.state_cache.specs.Inner.{Ready}
 use Rattle.state_cache.specs.Run.{run}
 use Rattle.state_cache.proofs.Stands.{stands-of, numbers-are}
 use Rattle.reading.specs.Newest.{NewestIs}

@@ -19,7 +19,8 @@ use Rattle.entry.specs.declared.StopSign.{StopSign}
 use Rattle.model.specs.Numbers.{Numbers, endOf, acceptedOf, stopDecided}
 use Rattle.model.specs.Read.{Bound, startAt, stopAt, startPast, stopPast, Marker, trimmed, snapshotted, markerOf, Span, span, noSpan, Shown, shown, emptyRun, spanBetween, fullRun, readFrom, readReply, decidedSuffix}
 use Rattle.model.specs.Calls.{query, read, readDecided, getEntries, getSuffix, queryReply, queryGuards}
-use Rattle.state_cache.specs.State.{Raw, numbersIn, logOf, Ready}
+use Rattle.state_cache.specs.State.{Raw, numbersIn, logOf}
+use Rattle.state_cache.specs.Inner.{Ready}
 use Rattle.state_cache.specs.Run.{run}
 use Rattle.state_cache.specs.declared.IndexRecord.{IndexRecord}
 use Rattle.state_cache.proofs.Small.{accepted-le, end-le}

@@ -20,7 +20,8 @@ use Rattle.model.specs.Numbers.{Numbers, endOf}
 use Rattle.model.specs.Log.{numbersOf}
 use Rattle.model.specs.Read.{span, noSpan, spanBetween, entriesBetween, suffixFrom}
 use Rattle.model.specs.Calls.{query, getEntries, getSuffix, queryReply, queryGuards}
-use Rattle.state_cache.specs.State.{Raw, numbersIn, logOf, Ready}
+use Rattle.state_cache.specs.State.{Raw, numbersIn, logOf}
+use Rattle.state_cache.specs.Inner.{Ready}
 use Rattle.state_cache.specs.Run.{run}
 use Rattle.state_cache.proofs.Stands.{stands-of, numbers-are}
 use Rattle.reading.specs.Parts.{part, wordAt, partAt}

@@ -27,7 +27,7 @@ use Rattle.model.specs.Calls.{reload, malformed, further, effect, replyOf}
 use Rattle.model.proofs.Forms.{formed-of}
 use Rattle.state_cache.specs.State.{Raw, raw, numbersIn, formed, logOf, indexOf, rawOf}
 use Rattle.state_cache.specs.Run.{outcome, run, freshCall}
-use Rattle.state_cache.specs.Fields.{withEntries}
+use Rattle.state_cache.specs.Inner.{withEntries}
 use Rattle.state_cache.proofs.Stands.{Stands, stands-of, numbers-are, log-formed}
 use Rattle.state_cache.proofs.Runs.{call-stands}
 

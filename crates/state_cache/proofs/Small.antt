@@ -8,8 +8,10 @@ use lib.Dec.{ltb, leb}
 use Rattle.words.proofs.Tests.{Reach, reached, short, reach, and-left, and-right, both-true}
 use Rattle.entry.specs.Limits.{entryRoom, lastIndex}
 use Rattle.model.specs.Numbers.{Numbers, endOf, acceptedOf, numbersFormed}
-use Rattle.model.proofs.Forms.{Sound, sound-of}
-use Rattle.state_cache.specs.State.{oneIf, sizesFormed, Small}
+use Rattle.model.proofs.Forms.{sound-of}
+use Rattle.model.specs.Inner.{Sound}
+use Rattle.state_cache.specs.State.{oneIf}
+use Rattle.state_cache.specs.Inner.{sizesFormed, Small}
 
 pub one-le : (b : Bool) → oneIf b ≤ 1
 one-le true = omega arith

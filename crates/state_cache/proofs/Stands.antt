@@ -1,7 +1,7 @@
 -- When a lent state stands for a log: number by number and word by word. It is then the one that `rawOf` gives.
 use Prim.Native.Nat.{ℕ, _+_, _*_, _≤_}
 use mathlib.Core.Path.{_≡_, refl, sym, ap, _∙_}
-use mathlib.Core.Bool.{Bool, true, false, _&&_, _||_, not}
+use mathlib.Core.Bool.{Bool, true, false, _&&_, _||_, not, and-true}
 use mathlib.Core.List.{List, _++_}
 use mathlib.Core.Option.{Option, none, some}
 use native.Mathlib.Omega.{arith}
@@ -28,7 +28,9 @@ use Rattle.snapshot.proofs.Calling.{snapshot-holds, snapshot-stored}
 use Rattle.model.specs.Numbers.{Numbers, numbersFormed}
 use Rattle.model.specs.Log.{Run, Tail, Marks, Log, given, ifGiven, numbersOf, orEmpty, shotFormed, wellFormed}
 use Rattle.model.proofs.Forms.{sound-of, Formed, formed-of, of-formed}
-use Rattle.state_cache.specs.State.{Raw, numbersIn, signHeld, shotHeld, formed, logOf, signOr, indexOf, rawOf, Ready}
+use Rattle.state_cache.specs.State.{Raw, numbersIn, signHeld, shotHeld, formed, logOf, signOr, indexOf, rawOf}
+use Rattle.state_cache.specs.Inner.{Ready}
+use Rattle.state_cache.specs.declared.IndexRecord.{IndexRecord}
 
 -- ---- a record's numbers and words against a log's parts
 
@@ -92,12 +94,36 @@ record Facts (r : Raw) : Type 0 where
   sign : signHeld (r .index) ≡ true
   none-held : (r .index .«snapshot_held» || eqb (r .index .keys) 0) ≡ true
 
+-- a snapshot that is not held is in form with no key
+none-formed : (ws : List ℕ) → blank snapshotWords ws ≡ snapshotFormed 0 ws
+unfolding blank snapshotFormed storedIn entriesAt rising allOf
+none-formed ws = sym (and-true (eqb (length ws) snapshotWords && allZero ws))
+
+pub shot-tests : (x : IndexRecord) (ws : List ℕ) → shotHeld x ws ≡ (snapshotFormed (x .keys) ws && (x .«snapshot_held» || eqb (x .keys) 0))
+unfolding shotHeld
+shot-tests x ws = go (x .«snapshot_held») (eqb (x .keys) 0) refl
+  where
+    kept : (a : Bool) → (a || false) ≡ (a && true)
+    kept true = refl
+    kept false = refl
+
+    none : (a : Bool) → (a && false) ≡ false
+    none true = refl
+    none false = refl
+
+    go : (h k : Bool) → eqb (x .keys) 0 ≡ k
+        → ((h && snapshotFormed (x .keys) ws) || (not h && (k && blank snapshotWords ws))) ≡ (snapshotFormed (x .keys) ws && (h || k))
+    go true k e = kept (snapshotFormed (x .keys) ws)
+    go false true e =
+        none-formed ws ∙ sym (ap (λ (n : ℕ). snapshotFormed n ws && true) (eqb-true (x .keys) 0 e) ∙ and-true (snapshotFormed 0 ws))
+    go false false e = sym (none (snapshotFormed (x .keys) ws))
+
 facts-of : (r : Raw) → formed r ≡ true → Facts r
-unfolding formed shotHeld
+unfolding formed
 facts-of r e =
     let e₁ = and-right (numbersFormed (numbersIn (r .index))) _ e in
     let e₂ = and-right (signHeld (r .index)) _ e₁ in
-    let e₃ = and-right (storedIn logWords (r .index .retained + r .index .batched) (r .log)) _ e₂ in
+    let e₃ = sym (shot-tests (r .index) (r .snapshot)) ∙ and-right (storedIn logWords (r .index .retained + r .index .batched) (r .log)) _ e₂ in
     record {
       ready = record {
         okay = e;
@@ -288,13 +314,14 @@ module _ (s : Log) (w : wellFormed s ≡ true) where
       (stored-laid logWords (s .run .retained ++ s .tail .batched) (omega (arith, h .numbers .room)) (all-join changeFormed (s .run .retained) (s .tail .batched) (h .entries) (h .batch)))
 
   pub raw-formed : formed (rawOf s) ≡ true
-  unfolding formed rawOf indexOf signHeld shotHeld wellFormed
+  unfolding formed rawOf indexOf signHeld wellFormed
   raw-formed =
       both-true (numbersFormed (numbersOf s)) _ (and-left (numbersFormed (numbersOf s)) _ w)
       (both-true ((given (s .tail .sign) && signFormed (signOr (s .tail .sign))) || (not (given (s .tail .sign)) && signBlank (signOr (s .tail .sign)))) _
       (sign-held (s .tail .sign) (h .stop))
       (both-true (storedIn logWords (length (s .run .retained) + length (s .tail .batched)) (stored logWords (s .run .retained ++ s .tail .batched))) _ log-stored
-      (both-true (snapshotFormed (length (orEmpty (s .run .held))) (stored snapshotWords (orEmpty (s .run .held)))) _
+      (shot-tests (indexOf s) (stored snapshotWords (orEmpty (s .run .held)))
+      ∙ both-true (snapshotFormed (length (orEmpty (s .run .held))) (stored snapshotWords (orEmpty (s .run .held)))) _
       (snapshot-stored (orEmpty (s .run .held)) (shot .few) (shot .fine) (shot .rises))
       (keys-held (s .run .held)))))
 

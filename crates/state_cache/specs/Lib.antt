@@ -1,4 +1,4 @@
 pub mod State
-pub mod Fields
 pub mod Run
 pub mod Chain
+pub mod Inner

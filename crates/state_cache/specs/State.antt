@@ -1,21 +1,18 @@
 -- The state as a caller lends it: when it is well formed, the log that it stands for, and the state that stands for a log.
-use Prim.Native.Nat.{ℕ, _+_, _*_, _≤_}
-use mathlib.Core.Path.{_≡_}
-use mathlib.Core.Bool.{Bool, true, _&&_, _||_, not}
+use Prim.Native.Nat.{ℕ, _+_, _*_}
+use mathlib.Core.Bool.{Bool, _&&_, _||_, not}
 use mathlib.Core.List.{List, _++_}
 use mathlib.Core.Option.{Option, none, some}
-use lib.Dec.{leb, eqb}
+use lib.Dec.{eqb}
 use lib.ListN.{length, drop}
 use Rattle.words.specs.If.{if_then_else_}
-use Rattle.entry.specs.Limits.{width, entryRoom, logWords, snapshotWords, lastIndex}
-use Rattle.entry.specs.Change.{entriesOf, stored, storedIn, Laid}
-use Rattle.entry.specs.Sign.{signFormed, signBlank, noSign}
+use Rattle.entry.specs.Limits.{width, logWords, snapshotWords}
+use Rattle.entry.specs.Change.{entriesOf, stored, storedIn}
+use Rattle.entry.specs.Sign.{signFormed, signBlank, noSign, blank}
 use Rattle.entry.specs.declared.StopSign.{StopSign}
 use Rattle.snapshot.specs.Calls.{snapshotFormed}
-use Rattle.snapshot.specs.Inner.{Holds}
 use Rattle.model.specs.Numbers.{Numbers, numbersFormed}
 use Rattle.model.specs.Log.{Log, given, orEmpty}
-use Rattle.model.proofs.Forms.{Sound}
 use Rattle.state_cache.specs.declared.IndexRecord.{IndexRecord}
 
 -- the record, and the words of the log and of the snapshot
@@ -45,23 +42,17 @@ oneIf b = if b then 1 else 0
 unfoldable pub signHeld : IndexRecord → Bool
 signHeld r = (r .«stop_held» && signFormed (r .stop)) || (not (r .«stop_held») && signBlank (r .stop))
 
+-- no snapshot held: no key, and every word zero
 unfoldable pub shotHeld : IndexRecord → List ℕ → Bool
-shotHeld r ws = snapshotFormed (r .keys) ws && (r .«snapshot_held» || eqb (r .keys) 0)
+shotHeld r ws =
+    (r .«snapshot_held» && snapshotFormed (r .keys) ws)
+    || (not (r .«snapshot_held») && (eqb (r .keys) 0 && blank snapshotWords ws))
 
 unfoldable pub formed : Raw → Bool
 formed r =
     numbersFormed (numbersIn (r .index))
     && (signHeld (r .index)
     && (storedIn logWords (r .index .retained + r .index .batched) (r .log) && shotHeld (r .index) (r .snapshot)))
-
--- the bounds within which the sums of the numbers fit a word, as a test and as facts
-unfoldable pub sizesFormed : Numbers → Bool
-sizesFormed n = leb (n .retained) entryRoom && (leb (n .batched) entryRoom && leb (n .compacted) lastIndex)
-
-pub record Small (n : Numbers) : Type 0 where
-  pub few : n .retained ≤ entryRoom
-  pub waiting : n .batched ≤ entryRoom
-  pub low : n .compacted ≤ lastIndex
 
 -- ---- the log that it stands for, and back
 
@@ -109,11 +100,3 @@ rawOf s = record {
   log = stored logWords (s .run .retained ++ s .tail .batched);
   snapshot = stored snapshotWords (orEmpty (s .run .held));
 }
-
--- ---- what is known of a well-formed state, each fact with its name
-
-pub record Ready (r : Raw) : Type 0 where
-  pub okay : formed r ≡ true
-  pub numbers : Sound (numbersIn (r .index))
-  pub log : Laid logWords (r .index .retained + r .index .batched) (r .log)
-  pub snapshot : Holds snapshotWords (r .index .keys) (r .snapshot)

@@ -13,7 +13,8 @@ ghost use Rattle.entry.specs.Limits.{lastIndex};
 ghost use Rattle.model.specs.Log.{freshLog};
 ghost use Rattle.model.specs.Calls.{reload};
 ghost use Rattle.model.specs.Numbers.{endOf, acceptedOf, stopDecided, logDecided, numbersFormed};
-ghost use Rattle.state_cache.specs.State.{raw, numbersIn, oneIf, Small, sizesFormed, signHeld, shotHeld, indexOf, Ready};
+ghost use Rattle.state_cache.specs.State.{raw, numbersIn, oneIf, signHeld, shotHeld, indexOf};
+ghost use Rattle.state_cache.specs.Inner.{Small, sizesFormed, Ready};
 ghost use Rattle.state_cache.specs.Run.{outcome, run, accepted as acceptedIs};
 
 pub fn one_if(b: bool) -> u64

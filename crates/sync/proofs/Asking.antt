@@ -29,7 +29,8 @@ use Rattle.state_cache.specs.Run.{outcome, run}
 use Rattle.state_cache.specs.declared.IndexRecord.{IndexRecord}
 use Rattle.state_cache.proofs.Stands.{Stands, stands-of, numbers-are, ready-of}
 use Rattle.state_cache.proofs.Runs.{not-whole, bad-call}
-use Rattle.internal_storage.specs.Replies.{indexed, byNumbers, asked}
+use Rattle.internal_storage.specs.Replies.{asked}
+use Rattle.internal_storage.specs.Inner.{indexed, byNumbers}
 use Rattle.internal_storage.proofs.Effects.{numbers-run}
 use Rattle.sync.specs.Requests.{givenBy, plainBy, partBy, partOf, lentWhole, requestFormed}
 use Rattle.sync.specs.Inner.{marked, Syncs}

@@ -13,10 +13,10 @@ use Rattle.entry.specs.declared.Ballot.{Ballot}
 use Rattle.entry.proofs.GuardLaws.{clear-all, passing, stopping}
 use Rattle.model.specs.Numbers.{Numbers, endOf, acceptedOf}
 use Rattle.model.specs.Sync.{decidedThen, roundGuards}
-use Rattle.model.proofs.Forms.{Sound}
+use Rattle.model.specs.Inner.{Sound}
 use Rattle.state_cache.specs.State.{numbersIn, oneIf}
 use Rattle.state_cache.specs.declared.IndexRecord.{IndexRecord}
-use Rattle.internal_storage.specs.Replies.{Indexed, indexed, byNumbers}
+use Rattle.internal_storage.specs.Inner.{Indexed, indexed, byNumbers}
 use Rattle.internal_storage.proofs.Numbered.{told-by}
 use Rattle.sync.specs.Inner.{marked}
 

@@ -14,7 +14,8 @@ use Rattle.snapshot.specs.Calls.{Outcome, outcome as shotOutcome}
 use Rattle.snapshot.specs.Inner.{Holds, Shows, foldWritten}
 use Rattle.snapshot.proofs.Calling.{over-written}
 use Rattle.model.specs.Numbers.{logDecided}
-use Rattle.state_cache.specs.State.{Raw, numbersIn, Ready}
+use Rattle.state_cache.specs.State.{Raw, numbersIn}
+use Rattle.state_cache.specs.Inner.{Ready}
 use Rattle.sync.specs.Inner.{shotThen}
 use Rattle.sync.specs.declared.SnapshotType.{SnapshotType}
 use Rattle.sync.specs.declared.SnapshotType.the-variants.{Plain, Complete, Delta}

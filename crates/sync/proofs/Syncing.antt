@@ -30,7 +30,8 @@ use Rattle.model.specs.Numbers.{Numbers, acceptedOf, logDecided}
 use Rattle.model.specs.Log.{Log, given, orEmpty, foldedTo}
 use Rattle.model.specs.Sync.{Part, PartNumbers, partNumbers, plain?, partNumberGuards, partGuards, foldThen, deltaOnto, runThen, partSynced}
 use Rattle.model.specs.Calls.{Call, sync, malformed, further, syncGuards, synced, effect, replyOf}
-use Rattle.state_cache.specs.State.{Raw, raw, numbersIn, formed, logOf, Small}
+use Rattle.state_cache.specs.State.{Raw, raw, numbersIn, formed, logOf}
+use Rattle.state_cache.specs.Inner.{Small}
 use Rattle.state_cache.specs.Run.{outcome, run}
 use Rattle.state_cache.specs.declared.IndexRecord.{IndexRecord}
 use Rattle.state_cache.proofs.Stands.{Stands, stands-of, numbers-are, log-formed, given-by, sign-by}

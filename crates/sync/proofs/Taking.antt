@@ -12,7 +12,7 @@ use Rattle.entry.specs.declared.LogIndex.{LogIndex}
 use Rattle.entry.specs.declared.StopSign.{StopSign}
 use Rattle.entry.specs.Sign.{signIf}
 use Rattle.state_cache.specs.declared.IndexRecord.{IndexRecord}
-use Rattle.state_cache.specs.Fields.{withRun, withStop}
+use Rattle.state_cache.specs.Inner.{withRun, withStop}
 use Rattle.sync.specs.Requests.{plainBy}
 use Rattle.sync.specs.Inner.{keptBy, syncedIndex, Fits, Taken}
 use Rattle.sync.specs.declared.LogSync.{LogSync}

@@ -14,9 +14,9 @@ use Rattle.entry.specs.declared.Ballot.{Ballot}
 use Rattle.snapshot.specs.Folds.{foldOnto}
 use Rattle.snapshot.specs.Inner.{Holds}
 use Rattle.model.specs.Sync.{partFormed, decidedThen, keptThen}
-use Rattle.state_cache.specs.State.{Raw, numbersIn, Ready}
+use Rattle.state_cache.specs.State.{Raw, numbersIn}
+use Rattle.state_cache.specs.Inner.{Ready, withRun, withStop}
 use Rattle.state_cache.specs.declared.IndexRecord.{IndexRecord}
-use Rattle.state_cache.specs.Fields.{withRun, withStop}
 use Rattle.sync.specs.Requests.{plainBy, numbersBy, partBy}
 use Rattle.sync.specs.declared.LogSync.{LogSync}
 use Rattle.sync.specs.declared.SnapshotType.{SnapshotType}

@@ -14,7 +14,8 @@ ghost use lib.ListN.{length};
 ghost use Rattle.entry.specs.Limits.{snapshotWords};
 ghost use Rattle.entry.specs.Change.{entriesIn, sliceFormed};
 ghost use Rattle.model.specs.Backend.{appendOnPrefix, trim, supplied, stepGuards, step};
-ghost use Rattle.state_cache.specs.State.{raw, numbersIn, Small};
+ghost use Rattle.state_cache.specs.State.{raw, numbersIn};
+ghost use Rattle.state_cache.specs.Inner.{Small};
 ghost use Rattle.backend.specs.Ops.{opOf, lentOf};
 ghost use Rattle.backend.specs.Inner.{onlyEntries, askedKeys, askedWords, midstOf, Held, doneAt, rejoined, roomGuards, Goes, Lends};
 

@@ -13,7 +13,8 @@ ghost use mathlib.Core.Bool.{true};
 ghost use mathlib.Core.List.{[], _∷_};
 ghost use Rattle.entry.specs.Change.{saidIs, entriesIn, wholeIn};
 ghost use Rattle.model.specs.Calls.{append, appendNow};
-ghost use Rattle.state_cache.specs.State.{raw, Ready};
+ghost use Rattle.state_cache.specs.State.{raw};
+ghost use Rattle.state_cache.specs.Inner.{Ready};
 ghost use Rattle.state_cache.specs.Run.{outcome, run, accepted};
 ghost use Rattle.internal_storage.specs.Replies.{appended, acceptedIdx, indexOnly, withIndexOnly};
 

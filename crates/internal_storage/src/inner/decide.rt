@@ -9,10 +9,10 @@ ghost use mathlib.Core.Path.{_≡_};
 ghost use mathlib.Core.Bool.{true};
 ghost use Rattle.entry.specs.Guards.{first};
 ghost use Rattle.model.specs.Calls.{decide, setPromise, decideGuards};
-ghost use Rattle.state_cache.specs.State.{raw, numbersIn, Small, Ready};
+ghost use Rattle.state_cache.specs.State.{raw, numbersIn};
+ghost use Rattle.state_cache.specs.Inner.{Small, Ready, withDecided};
 ghost use Rattle.state_cache.specs.Run.{outcome, run, settled};
-ghost use Rattle.state_cache.specs.Fields.{withDecided};
-ghost use Rattle.internal_storage.specs.Replies.{indexed, byNumbers};
+ghost use Rattle.internal_storage.specs.Inner.{indexed, byNumbers};
 
 // Refusals 5 and 6, or the index moved.
 fn decide_at(index: IndexRecord, idx: LogIndex) -> SettledAt

@@ -9,10 +9,12 @@ ghost use mathlib.Core.Path.{_≡_};
 ghost use mathlib.Core.Bool.{true};
 ghost use Rattle.entry.specs.Guards.{replied};
 ghost use Rattle.model.specs.Calls.{flush as flushCall, flushEntries};
-ghost use Rattle.model.proofs.Forms.{Sound};
-ghost use Rattle.state_cache.specs.State.{raw, numbersIn, Ready};
+ghost use Rattle.model.specs.Inner.{Sound};
+ghost use Rattle.state_cache.specs.State.{raw, numbersIn};
+ghost use Rattle.state_cache.specs.Inner.{Ready};
 ghost use Rattle.state_cache.specs.Run.{outcome, run, accepted};
-ghost use Rattle.internal_storage.specs.Replies.{appended, flushSays, allFlushed};
+ghost use Rattle.internal_storage.specs.Replies.{appended};
+ghost use Rattle.internal_storage.specs.Inner.{flushSays, allFlushed};
 
 // The record once the batch is flushed, all of it. No word moves.
 pub fn flush(index: IndexRecord) -> IndexRecord

@@ -13,11 +13,12 @@ ghost use Rattle.entry.specs.Guards.{first};
 ghost use Rattle.model.specs.Numbers.{acceptedOf};
 ghost use Rattle.model.specs.Append.{appendStopGuards, setStopGuards};
 ghost use Rattle.model.specs.Calls.{appendStop, setStop};
-ghost use Rattle.model.proofs.Forms.{Sound};
-ghost use Rattle.state_cache.specs.State.{raw, numbersIn, Ready};
+ghost use Rattle.model.specs.Inner.{Sound};
+ghost use Rattle.state_cache.specs.State.{raw, numbersIn};
+ghost use Rattle.state_cache.specs.Inner.{Ready, withStop};
 ghost use Rattle.state_cache.specs.Run.{outcome, run, accepted};
-ghost use Rattle.state_cache.specs.Fields.{withStop};
-ghost use Rattle.internal_storage.specs.Replies.{appended, indexed, byNumbers, flushSays, allFlushed, asked};
+ghost use Rattle.internal_storage.specs.Replies.{appended, asked};
+ghost use Rattle.internal_storage.specs.Inner.{indexed, byNumbers, flushSays, allFlushed};
 
 // Refusals 4 and 9, or the batch flushed and the stop-sign after it.
 fn append_stop_at(index: IndexRecord, ss: StopSign) -> AppendedAt

@@ -2,7 +2,8 @@
 use mathlib.Core.Path.{sym, _∙_}
 use native.Mathlib.Omega.{arith}
 use borrow.Author.Tests.{not-true, not-false}
-use Rattle.state_cache.specs.State.{numbersIn, formed, Small}
+use Rattle.state_cache.specs.State.{numbersIn, formed}
+use Rattle.state_cache.specs.Inner.{Small}
 use Rattle.state_cache.proofs.Small.{small-of, sizes-fail}
 use borrow.Author.Needs.{needs}
 use Rattle.state_cache.proofs.well_formed.Statement.{statement}

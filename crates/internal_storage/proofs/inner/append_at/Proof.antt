@@ -7,7 +7,7 @@ use Rattle.entry.specs.Limits.{entryRoom}
 use Rattle.entry.specs.Guards.{passes, first}
 use Rattle.model.specs.Append.{appendGuards}
 use Rattle.state_cache.specs.State.{Raw, raw, numbersIn}
-use Rattle.internal_storage.specs.Replies.{verdictOf}
+use Rattle.internal_storage.specs.Inner.{verdictOf}
 use Rattle.internal_storage.proofs.Effects.{append-run, append-refused, append-room}
 use borrow.Author.Needs.{needs}
 use Rattle.internal_storage.proofs.inner.append_at.Statement.{statement}

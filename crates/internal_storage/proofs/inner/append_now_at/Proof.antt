@@ -8,7 +8,7 @@ use Rattle.entry.specs.Guards.{passes, first}
 use Rattle.model.specs.Append.{appendGuards}
 use Rattle.state_cache.specs.State.{Raw, raw, numbersIn}
 use Rattle.state_cache.proofs.Small.{sound-small}
-use Rattle.internal_storage.specs.Replies.{verdictOf}
+use Rattle.internal_storage.specs.Inner.{verdictOf}
 use Rattle.internal_storage.proofs.Effects.{now-run, now-refused, append-room}
 use borrow.Author.Needs.{needs}
 use Rattle.internal_storage.proofs.inner.append_now_at.Statement.{statement}

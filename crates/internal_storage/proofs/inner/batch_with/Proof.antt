@@ -2,7 +2,7 @@
 use native.Mathlib.Omega.{arith}
 use borrow.Author.Tests.{le-leb, lt-leb}
 use Rattle.state_cache.proofs.Small.{sound-small}
-use Rattle.internal_storage.specs.Replies.{batchedWith}
+use Rattle.internal_storage.specs.Inner.{batchedWith}
 use Rattle.internal_storage.proofs.inner.batch_with.Statement.{statement}
 use Rattle.internal_storage.proofs.inner.batch_with.Tie as tie
 

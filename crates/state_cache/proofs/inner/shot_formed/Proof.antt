@@ -1,15 +1,18 @@
 -- `state_cache::inner::shot_formed` meets its contract: the callee says its own test.
-use Rattle.state_cache.specs.State.{shotHeld}
+use mathlib.Core.Path.{sym, ap, _∙_}
+use mathlib.Core.Bool.{Bool, _&&_, _||_}
+use denote.Ref.{now}
+use lib.Dec.{eqb}
+use Rattle.state_cache.proofs.Stands.{shot-tests}
 use borrow.Author.Needs.{needs}
 use Rattle.state_cache.proofs.inner.shot_formed.Statement.{statement}
 use Rattle.state_cache.proofs.inner.shot_formed.Tie as tie
 
-snapshot-formed-requires : tie.Need-snapshot-formed-requires
-snapshot-formed-requires c κs = search needs
-
 returns : tie.Need-returns
-unfolding shotHeld
-returns c = cc
+returns c =
+    let k = c .before .before in
+    let a = k .before .before .args in
+    ap (λ (t : Bool). t && (a .index .«snapshot_held» || eqb (a .index .keys) 0)) (k .snapshot-formed .ensures) ∙ sym (shot-tests (a .index) (now (a .snapshot)))
 
 pub shot-formed-spec : {M : Type 1} → statement M
-shot-formed-spec = tie.close (tie.spec snapshot-formed-requires returns)
+shot-formed-spec = tie.close (tie.spec (λ c κs. search needs) returns)

@@ -6,7 +6,7 @@ use Rattle.entry.specs.Limits.{width}
 use Rattle.entry.specs.Guards.{passes, first}
 use Rattle.model.specs.Sync.{partNumberGuards}
 use Rattle.state_cache.specs.State.{Raw, raw, numbersIn}
-use Rattle.internal_storage.specs.Replies.{verdictOf}
+use Rattle.internal_storage.specs.Inner.{verdictOf}
 use Rattle.sync.specs.Requests.{numbersBy}
 use Rattle.sync.specs.Inner.{marked, Taken}
 use Rattle.sync.proofs.Syncing.{sync-refused, fits, fits-small, sync-over, sync-stands}

@@ -5,7 +5,8 @@ use Prim.Native.Nat.{ℕ}
 use denote.Ref.{now}
 use Rattle.entry.specs.Guards.{replied}
 use Rattle.model.specs.Backend.{Lent}
-use Rattle.state_cache.specs.State.{Raw, raw, Ready}
+use Rattle.state_cache.specs.State.{Raw, raw}
+use Rattle.state_cache.specs.Inner.{Ready}
 use Rattle.state_cache.specs.Run.{outcome, settled}
 use Rattle.state_cache.proofs.Stands.{ready-of}
 use Rattle.backend.specs.Ops.{opsIn, lentOf}

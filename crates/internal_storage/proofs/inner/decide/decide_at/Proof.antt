@@ -5,7 +5,7 @@ use Rattle.entry.specs.Guards.{passes, refuses}
 use Rattle.entry.proofs.GuardLaws.{clear-all, passing, stopping}
 use Rattle.model.specs.Calls.{decideGuards}
 use Rattle.state_cache.specs.State.{numbersIn}
-use Rattle.state_cache.specs.Fields.{withDecided}
+use Rattle.state_cache.specs.Inner.{withDecided}
 use Rattle.internal_storage.proofs.Numbered.{told-by}
 use borrow.Author.Needs.{needs}
 use Rattle.internal_storage.proofs.inner.decide.decide_at.Statement.{statement}

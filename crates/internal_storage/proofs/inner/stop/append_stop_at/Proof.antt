@@ -12,9 +12,9 @@ use Rattle.model.specs.Numbers.{acceptedOf}
 use Rattle.model.specs.Append.{Flushed, appendStopGuards}
 use Rattle.state_cache.specs.State.{numbersIn}
 use Rattle.state_cache.specs.declared.IndexRecord.{IndexRecord}
-use Rattle.state_cache.specs.Fields.{withStop}
+use Rattle.state_cache.specs.Inner.{withStop}
 use Rattle.state_cache.proofs.Small.{sound-small}
-use Rattle.internal_storage.specs.Replies.{indexed, flushSays, allFlushed}
+use Rattle.internal_storage.specs.Inner.{indexed, flushSays, allFlushed}
 use Rattle.internal_storage.proofs.Numbered.{told-by}
 use Rattle.internal_storage.proofs.inner.stop.append_stop_at.Statement.{statement}
 use Rattle.internal_storage.proofs.inner.stop.append_stop_at.Tie as tie

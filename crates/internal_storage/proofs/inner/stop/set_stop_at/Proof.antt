@@ -9,7 +9,7 @@ use Rattle.entry.proofs.GuardLaws.{clear-all, passing, stopping}
 use Rattle.model.specs.Numbers.{endOf, acceptedOf}
 use Rattle.model.specs.Append.{setStopGuards}
 use Rattle.state_cache.specs.State.{numbersIn}
-use Rattle.state_cache.specs.Fields.{withStop}
+use Rattle.state_cache.specs.Inner.{withStop}
 use Rattle.state_cache.proofs.Small.{sound-small, accepted-le}
 use Rattle.internal_storage.proofs.Numbered.{told-by}
 use Rattle.internal_storage.proofs.inner.stop.set_stop_at.Statement.{statement}

@@ -1,11 +1,37 @@
--- An index record with some of its fields set.
-use Prim.Native.Nat.{ℕ}
-use mathlib.Core.Bool.{Bool}
+-- What the inner functions of this crate and of those above say and require.
+use Prim.Native.Nat.{ℕ, _+_, _≤_}
+use mathlib.Core.Path.{_≡_}
+use mathlib.Core.Bool.{Bool, true, _&&_}
+use lib.Dec.{leb}
+use Rattle.entry.specs.Limits.{entryRoom, logWords, snapshotWords, lastIndex}
+use Rattle.entry.specs.Change.{Laid}
 use Rattle.entry.specs.declared.Ballot.{Ballot}
 use Rattle.entry.specs.declared.LogIndex.{LogIndex}
 use Rattle.entry.specs.declared.StopSign.{StopSign}
+use Rattle.snapshot.specs.Inner.{Holds}
+use Rattle.model.specs.Numbers.{Numbers}
+use Rattle.model.specs.Inner.{Sound}
+use Rattle.state_cache.specs.State.{Raw, numbersIn, formed}
 use Rattle.state_cache.specs.declared.IndexRecord.{IndexRecord}
 
+-- the bounds within which the sums of the numbers fit a word, as a test and as facts
+unfoldable pub sizesFormed : Numbers → Bool
+sizesFormed n = leb (n .retained) entryRoom && (leb (n .batched) entryRoom && leb (n .compacted) lastIndex)
+
+pub record Small (n : Numbers) : Type 0 where
+  pub few : n .retained ≤ entryRoom
+  pub waiting : n .batched ≤ entryRoom
+  pub low : n .compacted ≤ lastIndex
+
+-- what is known of a well-formed state, each fact with its name
+
+pub record Ready (r : Raw) : Type 0 where
+  pub okay : formed r ≡ true
+  pub numbers : Sound (numbersIn (r .index))
+  pub log : Laid logWords (r .index .retained + r .index .batched) (r .log)
+  pub snapshot : Holds snapshotWords (r .index .keys) (r .snapshot)
+
+-- an index record with some of its fields set
 abbrev pub withEntries : ℕ → ℕ → IndexRecord → IndexRecord
 withEntries kept waiting x = record {
   «batch_size» = x .«batch_size»;

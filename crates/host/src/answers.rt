@@ -24,7 +24,6 @@ ghost use mathlib.Core.Path.{_≡_};
 ghost use mathlib.Core.List.{List};
 ghost use Prim.Native.Nat.{ℕ};
 ghost use Rattle.entry.specs.Guards.{refusedBy};
-ghost use Rattle.entry.specs.Refusals.{numberOf, carriedOf};
 ghost use Rattle.snapshot.specs.Calls.{found, folded};
 ghost use Rattle.state_cache.specs.State.{Raw};
 ghost use Rattle.state_cache.specs.Run.{settled, accepted, flag};
@@ -251,18 +250,12 @@ fn run_said(r: ShownRun) -> ShownSaid
     }
 }
 
-fn refusal_said(x: Refusal) -> ShownSaid
-    ensures { λ s. ⌜ s ≡ noneShown (numberOf x) (carriedOf x) ⌝ }
-{
-    show_none(entry::number(x), entry::carried(x))
-}
-
 pub(crate) fn read_said(a: ReadReply) -> ShownSaid
     ensures { λ s. ⌜ ((x : Raw) → s ≡ shownAs (readSaid x a)) ⌝ }
 {
     match a {
         ReadReply::Nothing => show_none(0, 0),
         ReadReply::Run(r) => run_said(r),
-        ReadReply::Refused(x) => refusal_said(x),
+        ReadReply::Refused(x) => show_none(entry::number(x), entry::carried(x)),
     }
 }

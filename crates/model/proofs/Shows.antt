@@ -2,7 +2,7 @@
 -- among those shown.
 use Prim.Native.Nat.{ℕ, _+_, _-_, _<_, min, max}
 use native.Mathlib.Omega.{arith}
-use mathlib.Core.Path.{_≡_, refl, ap, _∙_}
+use mathlib.Core.Path.{_≡_, refl, sym, ap, _∙_}
 use mathlib.Core.Bool.{Bool, true, false, _||_}
 use mathlib.Core.List.{List, []}
 use mathlib.Core.Option.{none, some}
@@ -14,7 +14,7 @@ use Rattle.words.specs.If.{if_then_else_}
 use Rattle.entry.specs.Change.{Change}
 use Rattle.model.specs.Numbers.{endOf, acceptedOf}
 use Rattle.model.specs.Log.{Log, numbersOf}
-use Rattle.model.specs.Read.{noSpan, Shown, shown, markerOf, emptyRun, fullRun, readFrom, shownAt}
+use Rattle.model.specs.Read.{noSpan, Shown, shown, markerOf, emptyRun, fullRun, readFrom}
 
 -- a read that shows an entry shows a full run
 full : (from to : ℕ) (s : Log) (v : Shown) → readFrom from to s ≡ some v → 0 < length (v .part .entries) → v ≡ fullRun from to s
@@ -58,18 +58,21 @@ module _ (from to : ℕ) (s : Log) (v : Shown) (e : readFrom from to s ≡ some 
       let t : List Change = drop (first - s .run .compacted) (s .run .retained) in
       omega (arith, ap (λ (x : Shown). length (x .part .entries)) run, length-take (last - first) t)
 
-  pub each-held : (d : Change) → getD (v .part .entries) j d ≡ getD (s .run .retained) (shownAt from (s .run) j - s .run .compacted) d
+  -- it is the retained entry that the part names
+  pub each-held : (d : Change) → getD (v .part .entries) j d ≡ getD (s .run .retained) (v .part .first + j) d
   unfolding fullRun
   each-held d =
-      let i : first - s .run .compacted + j ≡ shownAt from (s .run) j - s .run .compacted = omega arith in
       ap (λ (x : Shown). getD (x .part .entries) j d) run
       ∙ getD-take (last - first) (drop (first - s .run .compacted) (s .run .retained)) j d (omega (arith, inside))
       ∙ getD-drop (first - s .run .compacted) (s .run .retained) j d
-      ∙ ap (λ (k : ℕ). getD (s .run .retained) k d) i
+      ∙ sym (ap (λ (x : Shown). getD (s .run .retained) (x .part .first + j) d) run)
 
-  pub each-decided : ltb j (v .decided) ≡ ltb (shownAt from (s .run) j) (s .marks .decided)
+  pub each-decided : ltb j (v .decided) ≡ ltb (s .run .compacted + v .part .first + j) (s .marks .decided)
   unfolding fullRun
-  each-decided = ap (λ (x : Shown). ltb j (x .decided)) run ∙ same (shownAt from (s .run) j) (s .marks .decided) refl
+  each-decided =
+      ap (λ (x : Shown). ltb j (x .decided)) run
+      ∙ same (s .run .compacted + (first - s .run .compacted) + j) (s .marks .decided) (omega arith)
+      ∙ sym (ap (λ (x : Shown). ltb (s .run .compacted + x .part .first + j) (s .marks .decided)) run)
     where
       same : (i d : ℕ) → i ≡ first + j → ltb j (min last d - first) ≡ ltb i d
       same i d q = go (ltb i d) refl

@@ -90,10 +90,6 @@ fullRun from to s =
     (if eqb to (acceptedOf (numbersOf s)) then s .tail .sign else none)
     (eqb to (acceptedOf (numbersOf s)) && stopDecided (numbersOf s))
 
--- the index of the j-th entry that it shows
-abbrev pub shownAt : ℕ → Run → ℕ → ℕ
-shownAt from r j = max from (r .compacted) + j
-
 -- "to = 0, nothing. 0 < to ≤ compacted: one marker, from not looked at. to > accepted or from ≥ accepted: nothing.
 -- from ≥ to otherwise: an empty run"
 unfoldable pub readFrom : ℕ → ℕ → Log → Option Shown

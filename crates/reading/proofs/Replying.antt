@@ -17,7 +17,7 @@ use Rattle.entry.specs.Guards.{Answer, refused, replied}
 use Rattle.entry.specs.declared.LogIndex.{LogIndex}
 use Rattle.entry.specs.declared.StopSign.{StopSign}
 use Rattle.model.specs.Numbers.{Numbers, endOf, acceptedOf, stopDecided}
-use Rattle.model.specs.Read.{Bound, startAt, stopAt, startPast, stopPast, Marker, trimmed, snapshotted, markerOf, Span, span, noSpan, Shown, shown, emptyRun, spanBetween, fullRun, readFrom, readReply, decidedSuffix}
+use Rattle.model.specs.Read.{Bound, startAt, stopAt, startPast, stopPast, Marker, trimmed, snapshotted, markerOf, Span, span, Shown, shown, fullRun, readFrom, readReply, decidedSuffix}
 use Rattle.model.specs.Calls.{query, read, readDecided, getEntries, getSuffix, queryReply, queryGuards}
 use Rattle.state_cache.specs.State.{Raw, numbersIn, logOf}
 use Rattle.state_cache.specs.Inner.{Ready}
@@ -37,7 +37,7 @@ use Rattle.reading.specs.declared.ReadReply.the-variants.{Nothing, Run}
 use Rattle.reading.specs.declared.inner.IndexEntry.{IndexEntry}
 use Rattle.reading.specs.declared.inner.IndexEntry.the-variants.{Compacted, Entry, StopSign as StopEntry}
 use Rattle.reading.proofs.Answers.{answer-is, answered}
-use Rattle.reading.proofs.Showing.{part-entries, lent-count, shown-is, held, room, numbers, entries-answer, suffix-answer as end-answer}
+use Rattle.reading.proofs.Showing.{both-by, part-entries, lent-count, shown-is, held, room, numbers, entries-answer, suffix-answer as end-answer}
 
 -- ---- the cases as the code takes them
 
@@ -47,13 +47,6 @@ unfolding endOf
 marker-at x from Compacted h = sym (rw (lt-ltb from (x .compacted .0) h))
 marker-at x from Entry h = sym (rw (le-ltb from (x .compacted .0) (h .0)))
 marker-at x from StopEntry h = sym (rw (le-ltb from (x .compacted .0) (omega arith)))
-
--- a marker where a snapshot is held, and where none is
-pub marker-held : (x : IndexRecord) → x .«snapshot_held» ≡ true → Snapshot (x .compacted) (x .keys) ≡ markerIn x
-marker-held x e = sym (ap (λ (b : Bool). if b then Snapshot (x .compacted) (x .keys) else Trimmed (x .compacted)) e)
-
-pub marker-bare : (x : IndexRecord) → x .«snapshot_held» ≡ false → Trimmed (x .compacted) ≡ markerIn x
-marker-bare x e = sym (ap (λ (b : Bool). if b then Snapshot (x .compacted) (x .keys) else Trimmed (x .compacted)) e)
 
 -- a run from the numbers that the code finds one after another
 module _ (x : IndexRecord) (from to : ℕ) (m : CodeMarker) (start far end near known last count decided : ℕ) (stopped : Bool) where
@@ -69,18 +62,6 @@ held-below n i Compacted h = omega (arith, end-le n)
 held-below n i Entry h = omega (arith, end-le n)
 held-below n i StopEntry h = h .1
 
-low-accepted : (n : Numbers) → n .compacted ≤ acceptedOf n
-unfolding endOf
-low-accepted n = omega (arith, end-le n)
-
--- the last index is an entry or the stop-sign
-pub entry-inside : (n : Numbers) (to : ℕ) → (to ≡ 0 → ⊥) → entryIs n (to - 1) Entry → (n .compacted < to) × (to ≤ acceptedOf n)
-entry-inside n to z h = (omega arith, omega (arith, end-le n))
-
-pub stop-inside : (n : Numbers) (to : ℕ) → (to ≡ 0 → ⊥) → entryIs n (to - 1) StopEntry → (n .compacted < to) × (to ≤ acceptedOf n)
-unfolding endOf
-stop-inside n to z h = (omega arith, omega arith)
-
 module _ (x : IndexRecord) (from to : ℕ) where
   abbrev n : Numbers
   n = numbersIn x
@@ -95,8 +76,8 @@ module _ (x : IndexRecord) (from to : ℕ) where
     case-marker h = sym (rw (ne-eqb to 0 z, le-leb to (x .compacted .0) (omega arith)))
 
     pub case-past : acceptedOf n ≤ to - 1 → Nothing ≡ readIn from to x
-    unfolding readIn
-    case-past h = sym (rw (ne-eqb to 0 z, lt-leb to (x .compacted .0) (omega (arith, low-accepted n)), lt-ltb (acceptedOf n) to (omega arith)))
+    unfolding readIn endOf
+    case-past h = sym (rw (ne-eqb to 0 z, lt-leb to (x .compacted .0) (omega (arith, end-le n)), lt-ltb (acceptedOf n) to (omega arith)))
 
   module _ (h₁ : x .compacted .0 < to) (h₂ : to ≤ acceptedOf n) where
     pub case-nothing : acceptedOf n ≤ from → Nothing ≡ readIn from to x
@@ -104,16 +85,10 @@ module _ (x : IndexRecord) (from to : ℕ) where
     case-nothing h =
         sym (rw (ne-eqb to 0 (omega arith), lt-leb to (x .compacted .0) h₁, le-ltb (acceptedOf n) to h₂, le-leb (acceptedOf n) from h))
 
-    module _ (h : from < acceptedOf n) where
-      pub case-empty : to ≤ from → Run (runOfNone None) ≡ readIn from to x
-      unfolding readIn
-      case-empty k =
-          sym (rw (ne-eqb to 0 (omega arith), lt-leb to (x .compacted .0) h₁, le-ltb (acceptedOf n) to h₂, lt-leb (acceptedOf n) from h, le-leb to from k))
-
-      pub case-run : from < to → Run (runOf from to x) ≡ readIn from to x
-      unfolding readIn
-      case-run k =
-          sym (rw (ne-eqb to 0 (omega arith), lt-leb to (x .compacted .0) h₁, le-ltb (acceptedOf n) to h₂, lt-leb (acceptedOf n) from h, lt-leb to from k))
+    pub case-run : from < acceptedOf n → (t : Bool) → leb to from ≡ t → (if t then Run (runOfNone None) else Run (runOf from to x)) ≡ readIn from to x
+    unfolding readIn
+    case-run h t e =
+        sym (rw (ne-eqb to 0 (omega arith), lt-leb to (x .compacted .0) h₁, le-ltb (acceptedOf n) to h₂, lt-leb (acceptedOf n) from h, e))
 
 -- ---- what the reply says
 
@@ -174,33 +149,10 @@ module _ (r : Raw) (g : Ready r) where
   marker-if true = marker-said
   marker-if false = refl
 
-  -- the model's read, by other numbers
-  fullBy : Numbers → ℕ → ℕ → Shown
-  fullBy n from to =
-      let first : ℕ = max from low in
-      let last : ℕ = min to (endOf n) in
-      shown
-      (if ltb from low then some (markerOf (logOf r .run)) else none)
-      (spanBetween first last (logOf r .run))
-      (min last (x .decided .0) - first)
-      (if eqb to (acceptedOf n) then logOf r .tail .sign else none)
-      (eqb to (acceptedOf n) && stopDecided n)
-
-  readBy : Numbers → ℕ → ℕ → Option Shown
-  readBy n from to =
-      if eqb to 0 then none
-      else if leb to low then some (shown (some (markerOf (logOf r .run))) noSpan 0 none false)
-      else if ltb (acceptedOf n) to || leb (acceptedOf n) from then none
-      else if leb to from then some emptyRun
-      else some (fullBy n from to)
-
-  read-by : (from to : ℕ) → readBy (numbersIn x) from to ≡ readFrom from to (logOf r)
-  unfolding readBy fullBy readFrom fullRun logOf
-  read-by from to = ap (λ (n : Numbers). readBy n from to) (sym (numbers r g))
-
-  full-said : (from to : ℕ) → low < to → to ≤ acceptedOf (numbersIn x) → from < to → shownSaid r (runOf from to x) ≡ fullBy (numbersIn x) from to
-  unfolding fullBy logOf endOf
+  full-said : (from to : ℕ) → low < to → to ≤ acceptedOf (numbersIn x) → from < to → shownSaid r (runOf from to x) ≡ fullRun from to (logOf r)
+  unfolding fullRun logOf endOf
   full-said from to h₁ h₂ h =
+      rw (ap endOf (numbers r g), ap acceptedOf (numbers r g), ap stopDecided (numbers r g)) (
       let a = accepted-le (numbersIn x) in
       let n : ℕ = x .retained in
       let m : ℕ = min (to - low) n in
@@ -210,28 +162,23 @@ module _ (r : Raw) (g : Ready r) where
       ∙ ap₂ (λ (i j : ℕ). span j (take i (drop j (entriesOf n (r .log))))) (offset from low m ∙ ap (λ (k : ℕ). k - max from low) last) (past from low))
       (offset from low (min m (x .decided .0 - low))
       ∙ ap (λ (k : ℕ). k - max from low) (from-low′ (x .decided .0) low m (g .numbers .low) ∙ ap (λ (k : ℕ). min k (x .decided .0)) last))
-      (stop-by (eqb to (acceptedOf (numbersIn x))) (x .«stop_held») (x .stop))
+      (stop-by (eqb to (acceptedOf (numbersIn x))) (x .«stop_held») (x .stop)))
 
-  by-test : (t : Bool) (a b : ReadReply) (u v : Option Shown) → (t ≡ true → readSaid r a ≡ replied u) → (t ≡ false → readSaid r b ≡ replied v)
-      → readSaid r (if t then a else b) ≡ replied (if t then u else v)
-  by-test true a b u v f h = f refl
-  by-test false a b u v f h = h refl
-
-  reply-said : (from to : ℕ) → readSaid r (readIn from to x) ≡ replied (readBy (numbersIn x) from to)
-  unfolding readIn readBy entriesAt
+  reply-said : (from to : ℕ) → readSaid r (readIn from to x) ≡ replied (readFrom from to (logOf r))
+  unfolding readIn readFrom logOf entriesAt
   reply-said from to =
-      by-test (eqb to 0) _ _ _ _ (λ _. refl) (λ _.
-      by-test (leb to low) _ _ _ _ (λ _. ap (λ (s : Shown). replied (some s)) (shown-eq false marker-said refl refl refl)) (λ e₁.
-      by-test (ltb (acceptedOf (numbersIn x)) to || leb (acceptedOf (numbersIn x)) from) _ _ _ _ (λ _. refl) (λ e₂.
-      by-test (leb to from) _ _ _ _ (λ _. refl) (λ e₃.
-      ap (λ (s : Shown). replied (some s)) (full-said from to (leb-false to low e₁) (ltb-false (acceptedOf (numbersIn x)) to (or-left _ (leb (acceptedOf (numbersIn x)) from) e₂)) (leb-false to from e₃))))))
+      rw (ap acceptedOf (numbers r g)) (
+      both-by (readSaid r) replied (eqb to 0) _ _ _ _ (λ _. refl) (λ _.
+      both-by (readSaid r) replied (leb to low) _ _ _ _ (λ _. ap (λ (s : Shown). replied (some s)) (shown-eq false marker-said refl refl refl)) (λ e₁.
+      both-by (readSaid r) replied (ltb (acceptedOf (numbersIn x)) to || leb (acceptedOf (numbersIn x)) from) _ _ _ _ (λ _. refl) (λ e₂.
+      both-by (readSaid r) replied (leb to from) _ _ _ _ (λ _. refl) (λ e₃.
+      ap (λ (s : Shown). replied (some s)) (full-said from to (leb-false to low e₁) (ltb-false (acceptedOf (numbersIn x)) to (or-left _ (leb (acceptedOf (numbersIn x)) from) e₂)) (leb-false to from e₃)))))))
 
   pub read-answer : (a b : Bound) (from to last : ℕ) → startPast a || stopPast b ≡ false → from ≡ startAt a → to ≡ stopAt b last → last ≡ acceptedOf (numbersIn x)
       → readSaid r (readIn from to x) ≡ run (query (read a b)) true r .answer
   unfolding queryReply queryGuards readReply
   read-answer a b from to last m p q e =
       reply-said from to
-      ∙ ap replied (read-by from to)
       ∙ ap₂ (λ (i j : ℕ). replied (readFrom i j (logOf r))) p (q ∙ ap (stopAt b) (e ∙ ap acceptedOf (sym (numbers r g))))
       ∙ answer-is (read a b) r (g .okay) m refl (readReply a b (logOf r)) refl
 
@@ -240,7 +187,7 @@ module _ (r : Raw) (g : Ready r) where
     unfolding queryReply queryGuards decidedSuffix logOf
     suffix-answer h =
         reply-said from (x .decided .0)
-        ∙ ap replied (read-by from (x .decided .0) ∙ sym (rw (lt-ltb from (x .decided .0) h)))
+        ∙ ap replied (sym (rw (lt-ltb from (x .decided .0) h)))
         ∙ answer-is (readDecided from) r (g .okay) refl refl (decidedSuffix from (logOf r)) refl
 
     pub suffix-none : x .decided .0 ≤ from → replied none ≡ run (query (readDecided from)) true r .answer

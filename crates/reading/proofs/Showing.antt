@@ -18,7 +18,7 @@ use Rattle.entry.specs.Change.{Change, changeCode, entriesOf, entriesIn}
 use Rattle.entry.specs.Guards.{replied}
 use Rattle.model.specs.Numbers.{Numbers, endOf}
 use Rattle.model.specs.Log.{numbersOf}
-use Rattle.model.specs.Read.{span, noSpan, spanBetween, entriesBetween, suffixFrom}
+use Rattle.model.specs.Read.{span, entriesBetween, suffixFrom}
 use Rattle.model.specs.Calls.{query, getEntries, getSuffix, queryReply, queryGuards}
 use Rattle.state_cache.specs.State.{Raw, numbersIn, logOf}
 use Rattle.state_cache.specs.Inner.{Ready}
@@ -67,15 +67,10 @@ part-entries first count ws h =
     (ap (λ (j : ℕ). entriesOf j (take (count * width) (drop (first * width) ws))) half ∙ front count (drop (first * width) ws) room)
 
 pub no-part : (ws : List ℕ) (p : ℕ × ℕ) → (part 0 0 ws ≡ []) × (partAt 0 0 ws p ≡ p)
-unfolding part partAt
-no-part ws p = go (leb ((0 + 0) * width) (length ws))
-  where
-    at-start : wordAt (0 * width) p ≡ p
-    at-start = let z : 0 * width * 8 + p .1 ≡ p .1 = omega arith in ap {B = ℕ × ℕ} (λ (o : ℕ). (p .0, o)) z
-
-    go : (b : Bool) → ((if b then take (0 * width) (drop (0 * width) ws) else []) ≡ []) × ((if b then wordAt (0 * width) p else p) ≡ p)
-    go true = (refl, at-start)
-    go false = (refl, refl)
+no-part ws p =
+    let cut = part-cut 0 0 ws p (omega arith) in
+    let z : 0 * width * 8 + p .1 ≡ p .1 = omega arith in
+    (sym (cut .0), sym (cut .1) ∙ ap {B = ℕ × ℕ} (λ (o : ℕ). (p .0, o)) z)
 
 -- so many of the first n entries of some words, from the first-th on
 pub shown-is : (n first count : ℕ) (ws : List ℕ) → first + count ≤ n
@@ -99,6 +94,12 @@ pub span-by : (from to last : ℕ) (n : Numbers) → last ≡ endOf n → (t : B
 unfolding spanIn
 span-by from to last n q t e = sym (rw (← q, e))
 
+-- two choices by one test
+pub both-by : {A B C : Type 0} (f : A → C) (g : B → C) (t : Bool) (a b : A) (u v : B) → (t ≡ true → f a ≡ g u) → (t ≡ false → f b ≡ g v)
+    → f (if t then a else b) ≡ g (if t then u else v)
+both-by f g true a b u v h k = h refl
+both-by f g false a b u v h k = k refl
+
 -- the entries of an interval
 module _ (r : Raw) (g : Ready r) where
   abbrev c : ℕ
@@ -110,20 +111,12 @@ module _ (r : Raw) (g : Ready r) where
   pub numbers : numbersOf (logOf r) ≡ numbersIn (r .index)
   numbers = numbers-are (logOf r) r (stands-of r (g .okay))
 
-  by-test : (t : Bool) (from to : ℕ) → (t ≡ true → (c ≤ from) × ((from ≤ to) × (to ≤ endOf (numbersIn (r .index)))))
-      → spanSays (r .log) (if t then Run (from - c) (to - from) else Run 0 0)
-      ≡ replied (if t then span (from - c) (take (to - from) (drop (from - c) (entriesOf (r .index .retained) (r .log)))) else noSpan)
-  unfolding entriesAt endOf
-  by-test true from to f =
-      let h = f refl in
-      ap (λ (es : List Change). replied (span (from - c) es)) (shown-is (r .index .retained) (from - c) (to - from) (r .log) (omega (arith, h .0, h .1 .0, h .1 .1)))
-  by-test false from to f = refl
-
   says-between : (from to : ℕ) → spanSays (r .log) (spanIn from to (numbersIn (r .index))) ≡ replied (entriesBetween from to (logOf r))
-  unfolding spanIn entriesBetween logOf
+  unfolding spanIn entriesBetween logOf entriesAt endOf
   says-between from to =
-      by-test (leb c from && (leb from to && leb to (endOf (numbersIn (r .index))))) from to (held c from to (endOf (numbersIn (r .index))))
-      ∙ ap (λ (n : Numbers). replied (if leb c from && (leb from to && leb to (endOf n)) then spanBetween from to (logOf r .run) else noSpan)) (sym numbers)
+      rw (ap endOf numbers) (both-by (spanSays (r .log)) replied (leb c from && (leb from to && leb to (endOf (numbersIn (r .index))))) _ _ _ _ (λ e.
+      let h = held c from to (endOf (numbersIn (r .index))) e in
+      ap (λ (es : List Change). replied (span (from - c) es)) (shown-is (r .index .retained) (from - c) (to - from) (r .log) (omega (arith, h .0, h .1 .0, h .1 .1)))) (λ _. refl))
 
   pub entries-answer : (from to : ℕ) → spanSays (r .log) (spanIn from to (numbersIn (r .index))) ≡ run (query (getEntries from to)) true r .answer
   unfolding queryReply queryGuards

@@ -2,7 +2,7 @@
 -- has and how many are decided, and its stop-sign.
 use Prim.Native.Nat.{ℕ}
 use native.Mathlib.Omega.{arith}
-use mathlib.Core.Path.{_≡_, refl, sym, ap, _∙_}
+use mathlib.Core.Path.{_≡_, refl, sym, ap, ap₂, _∙_}
 use mathlib.Core.List.{List}
 use mathlib.Core.Option.{Option, none, some}
 use lib.ListN.{length}
@@ -15,7 +15,6 @@ use Rattle.state_cache.specs.State.{Raw}
 use Rattle.state_cache.proofs.Stands.{given-by}
 use Rattle.state_cache.proofs.Unique.{Known, apart}
 use Rattle.reading.specs.Replies.{lentSpan, spanSays, markerSaid, shownSaid, readSaid}
-use Rattle.reading.specs.declared.Span.{Span as CodeSpan}
 use Rattle.reading.specs.declared.Span.the-variants.{Run as SpanRun, Refused as SpanRefused}
 use Rattle.reading.specs.declared.Marker.{Marker as CodeMarker}
 use Rattle.reading.specs.declared.Marker.the-variants.{None, Trimmed, Snapshot}
@@ -24,9 +23,6 @@ use Rattle.reading.specs.declared.ReadReply.the-variants.{Nothing, Run, 
 use Rattle.reading.proofs.Showing.{lent-count}
 
 -- the replies that say what is shown
-abbrev spanOf : Span → CodeSpan
-spanOf p = SpanRun (p .first) (length (p .entries))
-
 abbrev markerOf : Option Marker → CodeMarker
 markerOf none = None
 markerOf (some (trimmed i)) = Trimmed (record { 0 = i })
@@ -42,9 +38,6 @@ runOf v = record {
   «stop_decided» = v .stopDecided;
 }
 
-span-back : (log : List ℕ) (first count : ℕ) → spanOf (lentSpan log first count) ≡ SpanRun first count
-span-back log first count = ap (SpanRun first) (lent-count log first count)
-
 marker-back : (ws : List ℕ) (m : CodeMarker) → markerOf (markerSaid ws m) ≡ m
 marker-back ws None = refl
 marker-back ws (Trimmed i) = refl
@@ -56,7 +49,7 @@ run-back x r = rw (marker-back (x .snapshot) (r .marker), lent-count (x .log) (r
 pub span-unique : (log : List ℕ) → Known (spanSays log)
 span-unique log (SpanRun i n) (SpanRun j m) e =
     let p : lentSpan log i n ≡ lentSpan log j m = cc in
-    sym (span-back log i n) ∙ ap spanOf p ∙ span-back log j m
+    ap₂ SpanRun (ap (λ (s : Span). s .first) p) (sym (lent-count log i n) ∙ ap (λ (s : Span). length (s .entries)) p ∙ lent-count log j m)
 span-unique log (SpanRun i n) (SpanRefused y) e = apart _ _ _ e
 span-unique log (SpanRefused x) (SpanRun j m) e = apart _ _ _ (sym e)
 span-unique log (SpanRefused x) (SpanRefused y) e = ap SpanRefused (refusal-known x y e)

@@ -103,9 +103,6 @@ module _ {M : Type 1} (𝓤 : URA M) (H : Heap 𝓤) (A : Atoms 𝓤) (W : Given
   abbrev ev : Bound → Val
   ev b = EL.val E.the-type E′.the-laws b
 
-  abbrev rv : ReadReply → Val
-  rv r = EL.val S.the-type S′.the-laws r
-
   abbrev at : Vals read.signature (κ₁, (κ₂, tt))
   at = (m ∷ [], (sv log ∷ [], (sv snapshot ∷ [], (ev f ∷ [], (ev t ∷ [], tt)))))
 

@@ -18,8 +18,14 @@ run-said-requires c κs = search needs
 enum-known-a-2 : tie.Need-enum-known-a-2
 enum-known-a-2 c = search needs
 
-refusal-said-requires : tie.Need-refusal-said-requires
-refusal-said-requires c κs = search needs
+number-requires : tie.Need-number-requires
+number-requires c κs = search needs
+
+carried-requires : tie.Need-carried-requires
+carried-requires c κs = search needs
+
+show-none-requires-2 : tie.Need-show-none-requires-2
+show-none-requires-2 c κs = search needs
 
 returns : tie.Need-returns
 returns c = λ (x : Raw). rw (c .before .enum-told .given .1) (c .show-none .ensures)
@@ -28,7 +34,8 @@ returns-2 : tie.Need-returns-2
 returns-2 c = λ (x : Raw). rw (c .before .before .a .given .1) (c .run-said .ensures x)
 
 returns-3 : tie.Need-returns-3
-returns-3 c = λ (x : Raw). rw (c .before .before .a2 .given .1) (c .refusal-said .ensures)
+returns-3 c = λ (x : Raw).
+    rw (c .before .before .before .before .a2 .given .1, ← c .before .before .number .ensures, ← c .before .carried .ensures) (c .show-none2 .ensures)
 
 pub read-said-spec : {M : Type 1} → statement M
 read-said-spec =
@@ -39,7 +46,9 @@ read-said-spec =
     enum-known-a
     run-said-requires
     enum-known-a-2
-    refusal-said-requires
+    number-requires
+    carried-requires
+    show-none-requires-2
     returns
     returns-2
     returns-3)

@@ -1,12 +1,15 @@
 -- `reading::inner::read_at` meets its contract: the kind of the last index decides.
 use Prim.Native.Nat.{_-_}
+use native.Mathlib.Omega.{arith}
 use mathlib.Core.Path.{ap, _∙_}
+use Rattle.model.specs.Numbers.{endOf}
 use Rattle.state_cache.specs.State.{numbersIn}
+use Rattle.state_cache.proofs.Small.{end-le}
 use Rattle.reading.specs.Inner.{kindIs, entryIs, runOfNone}
 use Rattle.reading.specs.declared.ReadReply.the-variants.{Run}
 use Rattle.reading.specs.declared.inner.IndexEntry.the-variants.{Compacted, Entry, StopSign}
 use Rattle.reading.specs.declared.inner.Kind.the-variants.{Nothing, Held}
-use Rattle.reading.proofs.Replying.{entry-inside, stop-inside, case-zero, case-marker, case-past}
+use Rattle.reading.proofs.Replying.{case-zero, case-marker, case-past}
 use borrow.Author.Needs.{needs}
 use Rattle.reading.proofs.inner.read_at.Statement.{statement}
 use Rattle.reading.proofs.inner.read_at.Tie as tie
@@ -60,18 +63,19 @@ read-from-requires c κs =
     let f = e .before .before .before .before in
     let a = f .before .args in
     let h : entryIs (numbersIn (a .index)) (a .to - 1) Entry = rw (c .enum-told3 .given .1) at (held e) in
-    (f .before .pre, entry-inside (numbersIn (a .index)) (a .to) (f .if1 .left) h)
+    (f .before .pre, (omega (arith, h .0), omega (arith, h .1, end-le (numbersIn (a .index)), f .if1 .left)))
 
 enum-told-4 : tie.Need-enum-told-4
 enum-told-4 c = search needs
 
 read-from-requires-2 : tie.Need-read-from-requires-2
+unfolding endOf
 read-from-requires-2 c κs =
     let e = c .before .before in
     let f = e .before .before .before .before in
     let a = f .before .args in
     let h : entryIs (numbersIn (a .index)) (a .to - 1) StopSign = rw (c .enum-told4 .given .1) at (held e) in
-    (f .before .pre, stop-inside (numbersIn (a .index)) (a .to) (f .if1 .left) h)
+    (f .before .pre, (omega (arith, h .0, f .if1 .left), omega (arith, h .1, f .if1 .left)))
 
 returns-3 : tie.Need-returns-3
 returns-3 c =

@@ -1,10 +1,12 @@
 -- `reading::inner::read_from` meets its contract: the kind of the first index decides.
 use mathlib.Core.Path.{ap, _∙_}
+use mathlib.Core.Bool.{true, false}
+use borrow.Author.Tests.{le-leb, lt-leb}
 use Rattle.state_cache.specs.State.{numbersIn}
 use Rattle.reading.specs.Inner.{kindIs, entryIs}
 use Rattle.reading.specs.declared.ReadReply.the-variants.{Run}
 use Rattle.reading.specs.declared.inner.Kind.the-variants.{Nothing, Held}
-use Rattle.reading.proofs.Replying.{held-below, case-nothing, case-empty, case-run}
+use Rattle.reading.proofs.Replying.{held-below, case-nothing, case-run}
 use borrow.Author.Needs.{needs}
 use Rattle.reading.proofs.inner.read_from.Statement.{statement}
 use Rattle.reading.proofs.inner.read_from.Tie as tie
@@ -42,7 +44,7 @@ returns-2 c =
     let st = e .before .before .before .before in
     let a = st .args in
     ap Run (c .no-entries .ensures)
-    ∙ case-empty (a .index) (a .from) (a .to) (st .pre .1 .0) (st .pre .1 .1) (held-below (numbersIn (a .index)) (a .from) (e .before .kind .given .0 .0) (held e)) (c .before .if1 .taken)
+    ∙ case-run (a .index) (a .from) (a .to) (st .pre .1 .0) (st .pre .1 .1) (held-below (numbersIn (a .index)) (a .from) (e .before .kind .given .0 .0) (held e)) true (le-leb _ _ (c .before .if1 .taken))
 
 run-of-requires : tie.Need-run-of-requires
 run-of-requires c κs = (c .before .before .before .before .before .pre .0, held (c .before))
@@ -53,7 +55,7 @@ returns-3 c =
     let st = e .before .before .before .before in
     let a = st .args in
     ap Run (c .run-of .ensures)
-    ∙ case-run (a .index) (a .from) (a .to) (st .pre .1 .0) (st .pre .1 .1) (held-below (numbersIn (a .index)) (a .from) (e .before .kind .given .0 .0) (held e)) (c .before .if1 .left)
+    ∙ case-run (a .index) (a .from) (a .to) (st .pre .1 .0) (st .pre .1 .1) (held-below (numbersIn (a .index)) (a .from) (e .before .kind .given .0 .0) (held e)) false (lt-leb _ _ (c .before .if1 .left))
 
 pub read-from-spec : {M : Type 1} → statement M
 read-from-spec =

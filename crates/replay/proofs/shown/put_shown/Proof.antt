@@ -1,17 +1,13 @@
 -- `replay::shown::put_shown` meets its contract: the lines one after another, and no more entries than a log has.
-use mathlib.Core.List.{[], List}
-use Prim.Native.Nat.{_≤_}
+use Prim.Native.Nat.{ℕ, _+_, _/_, _≤_}
+use native.Mathlib.Omega.{arith}
+use mathlib.Core.Path.{ap}
+use mathlib.Core.List.{List, []}
+use denote.Ref.{now}
 use lib.ListN.{length, take}
 use Rattle.model.specs.Log.{given}
 use Rattle.reading.specs.Replies.{markerSaid}
 use Rattle.replay.proofs.Telling.{one-few, part-few, shown-is}
-use Prim.Native.Nat.{ℕ, _+_, _/_}
-use mathlib.Core.Path.{ap}
-use mathlib.Core.List.{List}
-use native.Mathlib.Omega.{arith}
-use lib.ListN.{length}
-use denote.Ref.{now}
-use Rattle.replay.proofs.Telling.{part-few, shown-is}
 use borrow.Author.Needs.{needs}
 use Rattle.replay.proofs.shown.put_shown.Statement.{statement}
 use Rattle.replay.proofs.shown.put_shown.Tie as tie

@@ -16,6 +16,7 @@ pub extern "C" fn kotuseraw_ballot_cmp(a: Ballot, b: Ballot) -> u64
     super::answers::order_said(a.cmp(b))
 }
 
+// Whether two ballots are the same, config_id included.
 #[no_mangle]
 pub extern "C" fn kotuseraw_ballot_eq(a: Ballot, b: Ballot) -> bool
     ensures { λ r. ⌜ r ≡ sameBallot a b ⌝ }
@@ -23,6 +24,7 @@ pub extern "C" fn kotuseraw_ballot_eq(a: Ballot, b: Ballot) -> bool
     a.eq(b)
 }
 
+// Whether an entry's second word is in form: a place below 2^48, or removed.
 #[no_mangle]
 pub extern "C" fn kotuseraw_place_formed(w: u64) -> bool
     ensures { λ r. ⌜ r ≡ wordFormed w ⌝ }
@@ -30,6 +32,7 @@ pub extern "C" fn kotuseraw_place_formed(w: u64) -> bool
     entry::place_formed(w)
 }
 
+// Whether an entry slice is in form: no odd word, and every entry in form.
 #[no_mangle]
 pub extern "C" fn kotuseraw_entries_formed(s: &[u64]) -> bool
     ensures { λ r. ⌜ r ≡ sliceFormed (now (s .entry)) ⌝ }
@@ -37,6 +40,7 @@ pub extern "C" fn kotuseraw_entries_formed(s: &[u64]) -> bool
     entry::entries_formed(s)
 }
 
+// Whether a stop-sign is in form: at least one node, and zeros where its arrays are unused.
 #[no_mangle]
 pub extern "C" fn kotuseraw_sign_formed(s: StopSign) -> bool
     ensures { λ r. ⌜ r ≡ signFormed s ⌝ }
@@ -44,6 +48,7 @@ pub extern "C" fn kotuseraw_sign_formed(s: StopSign) -> bool
     entry::sign_formed(s)
 }
 
+// Whether a slice is a snapshot in form of so many keys.
 #[no_mangle]
 pub extern "C" fn kotuseraw_snapshot_formed(s: &[u64], keys: usize) -> bool
     ensures { λ r. ⌜ r ≡ snapshotFormed keys (now (s .entry)) ⌝ }

@@ -30,6 +30,7 @@ ghost use Rattle.host.specs.Plain.{plain, left, plainly, nothing, aNumbe
 ghost use Rattle.host.specs.Requests.{endAt, lentSaid};
 ghost use Rattle.host.specs.Reads.{shownAs};
 
+// A key's place: its newest word among the retained entries below log-decided, else the snapshot's.
 #[no_mangle]
 pub extern "C" fn kotuseraw_inner_lookup(
     index: IndexRecord,
@@ -43,6 +44,7 @@ pub extern "C" fn kotuseraw_inner_lookup(
     answers::found_said(reading::inner::look(index, log, snapshot, key))
 }
 
+// Reads a range of the log.
 #[no_mangle]
 pub extern "C" fn kotuseraw_inner_read(
     index: IndexRecord,
@@ -61,6 +63,7 @@ pub extern "C" fn kotuseraw_inner_read(
     answers::read_said(reading::inner::read_reply(index, log, snapshot, start, stop))
 }
 
+// Reads from an index up to the decided index.
 #[no_mangle]
 pub extern "C" fn kotuseraw_inner_read_decided_suffix(
     index: IndexRecord,
@@ -76,6 +79,7 @@ pub extern "C" fn kotuseraw_inner_read_decided_suffix(
     answers::read_said(reading::inner::read_decided_suffix_reply(index, log, snapshot, from))
 }
 
+// The entries from one index up to another, an empty part where they are not all held.
 #[no_mangle]
 pub extern "C" fn kotuseraw_inner_get_entries(
     index: IndexRecord,
@@ -92,6 +96,7 @@ pub extern "C" fn kotuseraw_inner_get_entries(
     answers::span_said(reading::inner::get_entries_reply(index, log, snapshot, from, to))
 }
 
+// The same from an index to the end.
 #[no_mangle]
 pub extern "C" fn kotuseraw_inner_get_suffix(
     index: IndexRecord,
@@ -107,6 +112,7 @@ pub extern "C" fn kotuseraw_inner_get_suffix(
     answers::span_said(reading::inner::get_suffix_reply(index, log, snapshot, from))
 }
 
+// The accepted index: the end, plus 1 if a stop-sign is held.
 #[no_mangle]
 pub extern "C" fn kotuseraw_inner_get_accepted_idx(
     index: IndexRecord,
@@ -120,6 +126,7 @@ pub extern "C" fn kotuseraw_inner_get_accepted_idx(
     answers::accepted_said(Accepted::At(LogIndex(last)))
 }
 
+// Log-decided: the decided index, a decided stop-sign not counted.
 #[no_mangle]
 pub extern "C" fn kotuseraw_inner_get_decided_idx_without_stopsign(
     index: IndexRecord,
@@ -133,6 +140,7 @@ pub extern "C" fn kotuseraw_inner_get_decided_idx_without_stopsign(
     answers::accepted_said(Accepted::At(LogIndex(decided)))
 }
 
+// Whether a stop-sign is held and decided.
 #[no_mangle]
 pub extern "C" fn kotuseraw_inner_stopsign_is_decided(
     index: IndexRecord,
@@ -146,7 +154,7 @@ pub extern "C" fn kotuseraw_inner_stopsign_is_decided(
     answers::flag_said(Flag::Is(decided))
 }
 
-// Where `removed` is set the place is not looked at.
+// Adds an entry to the batch, as the call for several does. Where `removed` is set the place is not looked at.
 #[no_mangle]
 pub extern "C" fn kotuseraw_inner_append_entry_with_batching(
     index: IndexRecord,
@@ -170,6 +178,7 @@ pub extern "C" fn kotuseraw_inner_append_entry_with_batching(
     ))
 }
 
+// Adds entries to the batch; once it has as many as the batch size, or more, all of it flushes.
 #[no_mangle]
 pub extern "C" fn kotuseraw_inner_append_entries_with_batching(
     index: IndexRecord,
@@ -189,6 +198,7 @@ pub extern "C" fn kotuseraw_inner_append_entries_with_batching(
     ))
 }
 
+// The same, and of a flush it tells the accepted index alone.
 #[no_mangle]
 pub extern "C" fn kotuseraw_inner_append_entries_and_get_accepted_idx(
     index: IndexRecord,
@@ -208,6 +218,7 @@ pub extern "C" fn kotuseraw_inner_append_entries_and_get_accepted_idx(
     ))
 }
 
+// Adds entries at the end of the log, before the batch, and tells the accepted index.
 #[no_mangle]
 pub extern "C" fn kotuseraw_inner_append_entries_without_batching(
     index: IndexRecord,
@@ -227,6 +238,7 @@ pub extern "C" fn kotuseraw_inner_append_entries_without_batching(
     ))
 }
 
+// Flushes the batch, and tells the accepted index.
 #[no_mangle]
 pub extern "C" fn kotuseraw_inner_flush_batch(
     index: IndexRecord,
@@ -240,6 +252,7 @@ pub extern "C" fn kotuseraw_inner_flush_batch(
     answers::accepted_reply(internal_storage::inner::flush::flush_batch(index, log, snapshot))
 }
 
+// Flushes the batch, and tells the accepted index and how many entries it had, or nothing where it was empty.
 #[no_mangle]
 pub extern "C" fn kotuseraw_inner_flush_batch_and_get_entries(
     index: IndexRecord,
@@ -257,6 +270,7 @@ pub extern "C" fn kotuseraw_inner_flush_batch_and_get_entries(
     ))
 }
 
+// Flushes the batch and appends a stop-sign. Tells what was flushed, the stop-sign not counted.
 #[no_mangle]
 pub extern "C" fn kotuseraw_inner_append_stopsign(
     index: IndexRecord,
@@ -276,7 +290,7 @@ pub extern "C" fn kotuseraw_inner_append_stopsign(
     ))
 }
 
-// Where `held` is not set the stop-sign is taken away, and `ss` is not looked at.
+// Sets the stop-sign. Where `held` is not set it is taken away, and `ss` is not looked at.
 #[no_mangle]
 pub extern "C" fn kotuseraw_inner_set_stopsign(
     index: IndexRecord,
@@ -298,6 +312,7 @@ pub extern "C" fn kotuseraw_inner_set_stopsign(
     ))
 }
 
+// Sets the promised ballot.
 #[no_mangle]
 pub extern "C" fn kotuseraw_inner_set_promise(
     index: IndexRecord,
@@ -317,6 +332,7 @@ pub extern "C" fn kotuseraw_inner_set_promise(
     ))
 }
 
+// Moves the decided index.
 #[no_mangle]
 pub extern "C" fn kotuseraw_inner_set_decided_idx(
     index: IndexRecord,
@@ -336,6 +352,7 @@ pub extern "C" fn kotuseraw_inner_set_decided_idx(
     ))
 }
 
+// Drops the entries below an index, which must not be above decided.
 #[no_mangle]
 pub extern "C" fn kotuseraw_inner_try_trim(
     index: IndexRecord,

@@ -13,6 +13,7 @@ ghost use Rattle.backend.specs.Ops.{opsIn, lentOf, wholeList, wholeLent};
 ghost use Rattle.host.specs.Plain.{nothing, left, plainly};
 ghost use Rattle.host.specs.Requests.{listAt, sliceAt};
 
+// `backend::write_list`: one to eight operations, all of them or none.
 #[no_mangle]
 pub extern "C" fn kotuseraw_write_list(
     index: IndexRecord,

@@ -20,7 +20,7 @@ ghost use Rattle.sync.specs.Requests.{partOf, lentWhole};
 ghost use Rattle.host.specs.Plain.{nothing, aNumber, maybeNumber, maybeFlushed, left, plainly};
 ghost use Rattle.host.specs.Requests.{ofFlag, lentSaid, syncAt};
 
-// Where `removed` is set the place is not looked at.
+// Adds an entry to the batch, as the call for several does. Where `removed` is set the place is not looked at.
 #[no_mangle]
 pub extern "C" fn kotuseraw_append_entry_with_batching(
     index: IndexRecord,
@@ -43,6 +43,7 @@ pub extern "C" fn kotuseraw_append_entry_with_batching(
     ))
 }
 
+// Adds entries to the batch; once it has as many as the batch size, or more, all of it flushes.
 #[no_mangle]
 pub extern "C" fn kotuseraw_append_entries_with_batching(
     index: IndexRecord,
@@ -61,6 +62,7 @@ pub extern "C" fn kotuseraw_append_entries_with_batching(
     ))
 }
 
+// The same, and of a flush it tells the accepted index alone.
 #[no_mangle]
 pub extern "C" fn kotuseraw_append_entries_and_get_accepted_idx(
     index: IndexRecord,
@@ -79,6 +81,7 @@ pub extern "C" fn kotuseraw_append_entries_and_get_accepted_idx(
     ))
 }
 
+// Adds entries at the end of the log, before the batch, and tells the accepted index.
 #[no_mangle]
 pub extern "C" fn kotuseraw_append_entries_without_batching(
     index: IndexRecord,
@@ -97,6 +100,7 @@ pub extern "C" fn kotuseraw_append_entries_without_batching(
     ))
 }
 
+// Flushes the batch, and tells the accepted index.
 #[no_mangle]
 pub extern "C" fn kotuseraw_flush_batch(index: IndexRecord, log: &[u64], snapshot: &[u64]) -> Reply
     ensures { λ r. ⌜ left (r .said) (raw (r .index) (now (log .entry)) (now (snapshot .entry)))
@@ -105,6 +109,7 @@ pub extern "C" fn kotuseraw_flush_batch(index: IndexRecord, log: &[u64], snapsho
     answers::accepted_reply(internal_storage::flush_batch(index, log, snapshot))
 }
 
+// Flushes the batch, and tells the accepted index and how many entries it had, or nothing where it was empty.
 #[no_mangle]
 pub extern "C" fn kotuseraw_flush_batch_and_get_entries(
     index: IndexRecord,
@@ -117,6 +122,7 @@ pub extern "C" fn kotuseraw_flush_batch_and_get_entries(
     answers::appended_reply(internal_storage::flush_batch_and_get_entries(index, log, snapshot))
 }
 
+// Flushes the batch and appends a stop-sign. Tells what was flushed, the stop-sign not counted.
 #[no_mangle]
 pub extern "C" fn kotuseraw_append_stopsign(
     index: IndexRecord,
@@ -130,7 +136,7 @@ pub extern "C" fn kotuseraw_append_stopsign(
     answers::appended_reply(internal_storage::append_stopsign(index, log, snapshot, ss))
 }
 
-// Where `held` is not set the stop-sign is taken away, and `ss` is not looked at.
+// Sets the stop-sign. Where `held` is not set it is taken away, and `ss` is not looked at.
 #[no_mangle]
 pub extern "C" fn kotuseraw_set_stopsign(
     index: IndexRecord,
@@ -145,6 +151,7 @@ pub extern "C" fn kotuseraw_set_stopsign(
     answers::accepted_reply(internal_storage::set_stopsign(index, log, snapshot, held, ss))
 }
 
+// Sets the promised ballot.
 #[no_mangle]
 pub extern "C" fn kotuseraw_set_promise(
     index: IndexRecord,
@@ -158,6 +165,7 @@ pub extern "C" fn kotuseraw_set_promise(
     answers::settled_reply(internal_storage::set_promise(index, log, snapshot, n_prom))
 }
 
+// Moves the decided index.
 #[no_mangle]
 pub extern "C" fn kotuseraw_set_decided_idx(
     index: IndexRecord,
@@ -171,6 +179,7 @@ pub extern "C" fn kotuseraw_set_decided_idx(
     answers::settled_reply(internal_storage::set_decided_idx(index, log, snapshot, idx))
 }
 
+// Drops the entries below an index, which must not be above decided.
 #[no_mangle]
 pub extern "C" fn kotuseraw_try_trim(
     index: IndexRecord,
@@ -184,7 +193,8 @@ pub extern "C" fn kotuseraw_try_trim(
     answers::settled_reply(compaction::try_trim(index, log, snapshot, idx))
 }
 
-// Where `given` is not set the snapshot goes over all that is decided, and `idx` is not looked at.
+// Folds the entries below an index onto the snapshot, and drops them. Where `given` is not set the snapshot goes over
+// all that is decided, and `idx` is not looked at.
 #[no_mangle]
 pub extern "C" fn kotuseraw_try_snapshot(
     index: IndexRecord,
@@ -200,7 +210,8 @@ pub extern "C" fn kotuseraw_try_snapshot(
     answers::settled_reply(compaction::try_snapshot(index, log, snapshot, to))
 }
 
-// Where `held` is not set there is no log part, and of what is lent only the slices' lengths are looked at.
+// Takes over a leader's round and decided index, and its log part. Where `held` is not set there is no log part, and of
+// what is lent only the slices' lengths are looked at.
 #[no_mangle]
 pub extern "C" fn kotuseraw_sync_log(
     index: IndexRecord,

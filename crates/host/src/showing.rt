@@ -25,6 +25,7 @@ ghost use Rattle.host.specs.Plain.{plain, maybeNumber, aSpan};
 ghost use Rattle.host.specs.Requests.{endAt};
 ghost use Rattle.host.specs.Reads.{shownAs, shownBy, copied, copiedOut};
 
+// A key's place: its newest word among the retained entries below log-decided, else the snapshot's.
 #[no_mangle]
 pub extern "C" fn kotuseraw_lookup(
     index: IndexRecord,
@@ -37,6 +38,7 @@ pub extern "C" fn kotuseraw_lookup(
     answers::found_said(reading::lookup(index, log, snapshot, key))
 }
 
+// Reads a range of the log.
 #[no_mangle]
 pub extern "C" fn kotuseraw_read(
     index: IndexRecord,
@@ -54,6 +56,7 @@ pub extern "C" fn kotuseraw_read(
     answers::read_said(reading::read_reply(index, log, snapshot, start, stop))
 }
 
+// Reads from an index up to the decided index.
 #[no_mangle]
 pub extern "C" fn kotuseraw_read_decided_suffix(
     index: IndexRecord,
@@ -68,6 +71,7 @@ pub extern "C" fn kotuseraw_read_decided_suffix(
     answers::read_said(reading::read_decided_suffix_reply(index, log, snapshot, from))
 }
 
+// The entries from one index up to another, an empty part where they are not all held.
 #[no_mangle]
 pub extern "C" fn kotuseraw_get_entries(
     index: IndexRecord,
@@ -83,6 +87,7 @@ pub extern "C" fn kotuseraw_get_entries(
     answers::span_said(reading::get_entries_reply(index, log, snapshot, from, to))
 }
 
+// The same from an index to the end.
 #[no_mangle]
 pub extern "C" fn kotuseraw_get_suffix(
     index: IndexRecord,
@@ -107,6 +112,7 @@ fn copy_out(part: &[u64], out: &mut [u64]) -> usize
     part.len()
 }
 
+// The entries of a part of the lent log, none where it does not lie in the slice.
 #[no_mangle]
 pub extern "C" fn kotuseraw_entries_of(
     log: &[u64],

@@ -15,6 +15,7 @@ ghost use Rattle.compaction.specs.Written.{writtenOut};
 ghost use Rattle.diff.specs.Replies.{outAfter};
 ghost use Rattle.host.specs.Plain.{plain, maybeNumber, aDiff, wrote, wroteAs};
 
+// Folds a run of entries: the last one for a key wins, and a removal is kept. Tells the number of keys.
 #[no_mangle]
 pub extern "C" fn kotuseraw_fold(entries: &[u64], out: &mut [u64]) -> Said
     ensures { λ s. ⌜ wrote s (now (out .exit)) ≡ wroteAs (foldCall (now (entries .entry)) (now (out .entry))) ⌝ }
@@ -22,6 +23,7 @@ pub extern "C" fn kotuseraw_fold(entries: &[u64], out: &mut [u64]) -> Said
     answers::folded_said(snapshot::fold(entries, out))
 }
 
+// Merges two snapshots: the second's word wins. Tells the number of keys.
 #[no_mangle]
 pub extern "C" fn kotuseraw_merge(a: &[u64], n: usize, b: &[u64], m: usize, out: &mut [u64]) -> Said
     ensures { λ s. ⌜ wrote s (now (out .exit)) ≡ wroteAs (mergeCall (now (a .entry)) n (now (b .entry)) m (now (out .entry))) ⌝ }
@@ -29,6 +31,7 @@ pub extern "C" fn kotuseraw_merge(a: &[u64], n: usize, b: &[u64], m: usize, out:
     answers::folded_said(snapshot::merge(a, n, b, m, out))
 }
 
+// A key's place in a snapshot, or that it is absent.
 #[no_mangle]
 pub extern "C" fn kotuseraw_find(s: &[u64], keys: usize, key: u64) -> Said
     ensures { λ r. ⌜ r ≡ plain maybeNumber (findCall (now (s .entry)) keys key) ⌝ }
@@ -36,6 +39,7 @@ pub extern "C" fn kotuseraw_find(s: &[u64], keys: usize, key: u64) -> Said
     answers::found_said(snapshot::find(s, keys, key))
 }
 
+// Writes out the fold of all changes below an index, and tells how many keys it has.
 #[no_mangle]
 pub extern "C" fn kotuseraw_create_snapshot(
     index: IndexRecord,

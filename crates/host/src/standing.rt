@@ -10,6 +10,7 @@ ghost use Rattle.state_cache.specs.State.{raw};
 ghost use Rattle.state_cache.specs.Run.{run};
 ghost use Rattle.host.specs.Plain.{nothing, left, plainly};
 
+// Moves the decided index.
 #[no_mangle]
 pub extern "C" fn kotuseraw_in_place_set_decided_idx(
     held: &mut IndexRecord,
@@ -24,6 +25,7 @@ pub extern "C" fn kotuseraw_in_place_set_decided_idx(
     answers::settled_said(answer)
 }
 
+// Drops the entries below an index, which must not be above decided.
 #[no_mangle]
 pub extern "C" fn kotuseraw_in_place_try_trim(
     held: &mut IndexRecord,

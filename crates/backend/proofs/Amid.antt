@@ -13,7 +13,7 @@ use Rattle.words.proofs.Laws.{paste-all}
 use Rattle.words.proofs.Alls.{all-join, all-left, all-right, all-take, all-drop}
 use Rattle.words.proofs.CodedLaws.{entries-length, entries-add, entries-first, entries-second, words-entries, spliced-laid, spliced-trim, spliced-sync}
 use Rattle.entry.specs.Limits.{width, entryRoom, logWords, snapshotWords}
-use Rattle.entry.specs.Change.{Change, changeCode, changeFormed, formed as entriesFormed, entriesOf, entriesIn, sliceFormed, stored, storedIn}
+use Rattle.entry.specs.Change.{Change, changeCode, changeFormed, entriesFormed, entriesOf, entriesIn, sliceFormed, stored, storedIn}
 use Rattle.entry.proofs.ChangeLaws.{changeOk}
 use Rattle.entry.proofs.SliceLaws.{laid-of, stored-laid, slice-whole, slice-fine}
 use Rattle.snapshot.specs.Calls.{snapshotFormed}
@@ -22,7 +22,7 @@ use Rattle.model.specs.Log.{Log, retaining, withRun}
 use Rattle.state_cache.specs.State.{Raw, raw, numbersIn, signHeld, formed, logOf}
 use Rattle.state_cache.specs.Inner.{Ready, withEntries}
 use Rattle.state_cache.proofs.Stands.{shot-tests}
-use Rattle.backend.specs.Inner.{Held}
+use Rattle.backend.specs.Inner.{Kept}
 
 -- the words of an entry slice are its entries'
 pub slice-coded : (ws : List ℕ) → sliceFormed ws ≡ true → ws ≡ wordsOf changeCode (entriesIn ws)
@@ -39,7 +39,7 @@ drop-least k l = elim (reach k (length l)) [
 ]
 
 -- before the first operation
-pub ready-held : (r : Raw) → Ready r → Held r
+pub ready-held : (r : Raw) → Ready r → Kept r
 unfolding formed
 ready-held r g =
     let e₁ = and-right (numbersFormed (numbersIn (r .index))) _ (g .okay) in
@@ -47,7 +47,7 @@ ready-held r g =
     let e₃ = sym (shot-tests (r .index) (r .snapshot)) ∙ and-right (storedIn logWords (r .index .retained + r .index .batched) (r .log)) _ e₂ in
     record { log = g .log; snapshot = g .snapshot; none-held = and-right (snapshotFormed (r .index .keys) (r .snapshot)) _ e₃; sign = and-left (signHeld (r .index)) _ e₁ }
 
-module _ (r : Raw) (h : Held r) where
+module _ (r : Raw) (h : Kept r) where
   abbrev kept : List Change
   kept = entriesOf (r .index .retained) (r .log)
 
@@ -104,7 +104,7 @@ module _ (r : Raw) (h : Held r) where
             }) (withRun (retaining run (logOf r .run)) (logOf r))
         fields a b p q = rw (p, q)
 
-    rerun-held : Held x
+    rerun-held : Kept x
     unfolding signHeld
     rerun-held = record {
       log = rw (counted, e) (laid-of logWords (length (run ++ batch)) (stored logWords (run ++ batch)) (stored-laid logWords (run ++ batch) (omega (arith, counted, room)) (all-join changeFormed run batch fine batch-fine)));
@@ -139,7 +139,7 @@ module _ (r : Raw) (h : Held r) where
       unfolding logOf
       put-log = rerun-log (take at kept ++ es) words k put-words counted put-fine room
 
-      pub put-held : Held (raw (withEntries k (r .index .batched) (r .index)) words (r .snapshot))
+      pub put-held : Kept (raw (withEntries k (r .index .batched) (r .index)) words (r .snapshot))
       put-held = rerun-held (take at kept ++ es) words k put-words counted put-fine room
 
   -- entries dropped from its front
@@ -161,7 +161,7 @@ module _ (r : Raw) (h : Held r) where
     unfolding logOf
     trim-log = rerun-log (drop below kept) words (r .index .retained - gone) trim-words trim-count (all-drop changeFormed below kept kept-fine) trim-room
 
-    pub trim-held : Held (raw (withEntries (r .index .retained - gone) (r .index .batched) (r .index)) words (r .snapshot))
+    pub trim-held : Kept (raw (withEntries (r .index .retained - gone) (r .index .batched) (r .index)) words (r .snapshot))
     trim-held = rerun-held (drop below kept) words (r .index .retained - gone) trim-words trim-count (all-drop changeFormed below kept kept-fine) trim-room
 
 -- a slice cleared whole

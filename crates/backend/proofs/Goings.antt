@@ -45,7 +45,7 @@ use Rattle.backend.specs.declared.OpKind.the-variants.{SetStopsign, SetS
 use Rattle.backend.specs.declared.Lent.{Lent as CodeLent}
 use Rattle.backend.specs.declared.inner.step.Stepped.{Stepped}
 use Rattle.backend.specs.Ops.{ofKind, opOf, lentOf, incomingFormed}
-use Rattle.backend.specs.Inner.{midstOf, Held, rejoined, roomGuards, Goes, Lends, onlyEntries, askedKeys, askedWords}
+use Rattle.backend.specs.Inner.{midstOf, Kept, rejoined, roomGuards, Goes, Lends, onlyEntries, askedKeys, askedWords}
 use Rattle.backend.proofs.Amid.{kept-count, batch-count, put-log, put-held, trim-log, trim-held}
 
 abbrev stepped : Settled → ℕ → IndexRecord → Stepped
@@ -59,7 +59,7 @@ module _ (gs : List Guard) (next : Midst) (start : ℕ) (x : IndexRecord) (log s
   goes-refused : (f : Refusal) → refuses (numberOf f) (carriedOf f) ≡ first gs → Goes gs next (stepped (Refused f) start x) log shot
   goes-refused f e = record { verdict = ap (λ (v : Verdict). settle v tt) e; after = λ q. absurd (no-reply _ _ q) }
 
-  goes-done : passes ≡ first gs → midstOf start (raw x log shot) ≡ next → Held (raw x log shot) → Goes gs next (stepped Done start x) log shot
+  goes-done : passes ≡ first gs → midstOf start (raw x log shot) ≡ next → Kept (raw x log shot) → Goes gs next (stepped Done start x) log shot
   goes-done e p h = record { verdict = ap (λ (v : Verdict). settle v tt) e; after = λ q. (p, h) }
 
 -- two tests of the same order
@@ -108,7 +108,7 @@ empty-holds : Holds snapshotWords 0 (replicate snapshotWords 0)
 unfolding laid wordsOf rising allOf entriesAt
 empty-holds = record { laid = laid-of snapshotWords 0 (replicate snapshotWords 0) (stored-laid snapshotWords [] (omega arith) refl); rises = refl }
 
-module _ (start : ℕ) (r : Raw) (h : Held r) where
+module _ (start : ℕ) (r : Raw) (h : Kept r) where
   abbrev m : Midst
   m = midstOf start r
 

@@ -24,7 +24,7 @@ use Rattle.state_cache.specs.State.{Raw, numbersIn, oneIf, signHeld, shotHeld, 
 use Rattle.state_cache.specs.Inner.{Small}
 use Rattle.state_cache.specs.declared.IndexRecord.{IndexRecord}
 use Rattle.state_cache.proofs.Stands.{shot-tests, log-formed, given-by}
-use Rattle.backend.specs.Inner.{midstOf, Held}
+use Rattle.backend.specs.Inner.{midstOf, Kept}
 
 -- the numbers of the log that a record and words stand for are the record's
 pub numbers-of : (r : Raw) → numbersOf (logOf r) ≡ numbersIn (r .index)
@@ -50,7 +50,7 @@ stored-of words n ws l =
     ∙ stored-laid words es (omega (arith, l .fits)) (l .fine)
 
 -- the words are in form, so the numbers decide
-pub formed-numbers : (r : Raw) → Held r → numbersFormed (numbersIn (r .index)) ≡ formed r
+pub formed-numbers : (r : Raw) → Kept r → numbersFormed (numbersIn (r .index)) ≡ formed r
 unfolding formed snapshotFormed
 formed-numbers r h = sym (and-true (numbersFormed (numbersIn (r .index)))) ∙ ap (λ (t : Bool). numbersFormed (numbersIn (r .index)) && t) (sym rest)
   where
@@ -63,7 +63,7 @@ formed-numbers r h = sym (and-true (numbersFormed (numbersIn (r .index)))) ∙ a
         (both-true (storedIn snapshotWords (r .index .keys) (r .snapshot)) _ (stored-of snapshotWords _ (r .snapshot) (h .snapshot .laid)) (h .snapshot .rises))
         (h .none-held)))
 
-pub formed-is : (r : Raw) → Held r → formed r ≡ wellFormed (logOf r)
+pub formed-is : (r : Raw) → Kept r → formed r ≡ wellFormed (logOf r)
 formed-is r h = go (formed r) (wellFormed (logOf r)) refl refl
   where
     back : wellFormed (logOf r) ≡ true → formed r ≡ true
@@ -82,7 +82,7 @@ past-sum x one e t q =
     let same : x .compacted .0 + x .retained + (one + x .batched) ≡ x .compacted .0 + x .retained + oneIf (x .«stop_held») + x .batched = omega (arith, e) in
     q ∙ ap (ltb lastIndex) same
 
-module _ (n : Numbers) (start : ℕ) (r : Raw) (h : Held r) where
+module _ (n : Numbers) (start : ℕ) (r : Raw) (h : Kept r) where
   abbrev gs : List Guard
   gs = lastGuards n (midstOf start r)
 

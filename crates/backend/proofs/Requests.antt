@@ -15,7 +15,7 @@ use Rattle.words.proofs.Tests.{and-left, and-right, both-true}
 use Rattle.words.proofs.Alls.{all-turn}
 use Rattle.words.proofs.CodedLaws.{entries-length}
 use Rattle.entry.specs.Limits.{snapshotWords, mostOps}
-use Rattle.entry.specs.Change.{changeCode, formed, entriesOf, entriesIn, wholeIn, sliceFormed}
+use Rattle.entry.specs.Change.{changeCode, entriesFormed, entriesOf, entriesIn, wholeIn, sliceFormed}
 use Rattle.entry.specs.Sign.{signFormed}
 use Rattle.entry.specs.Guards.{refused}
 use Rattle.entry.specs.declared.StopSign.{StopSign}
@@ -25,7 +25,7 @@ use Rattle.model.specs.Log.{given, ifGiven, shotFormed}
 use Rattle.model.specs.Backend.{Op, appendEntries, appendOnPrefix, setDecided, setCompacted, trim, setPromise, setRound, setSign, setSnapshot, Lent, supplied, opsFormed}
 use Rattle.model.specs.Calls.{write, malformed}
 use Rattle.model.proofs.Forms.{of-shot}
-use Rattle.state_cache.specs.State.{Raw, formed as formedRaw}
+use Rattle.state_cache.specs.State.{Raw, formed}
 use Rattle.state_cache.specs.Run.{outcome, run}
 use Rattle.state_cache.proofs.Stands.{ready-of, given-by}
 use Rattle.state_cache.proofs.Runs.{not-whole, bad-call}
@@ -145,7 +145,7 @@ module _ (b : CodeLent) (entries incoming : List ℕ) (list : OpList) where
           all-same (supplied (lentOf b [] [])) (supplied lent) (supplied-any b entries incoming) (opsIn list),
           sign-lent (b .«stop_lent») (b .stop),
         )
-        (shuffle (wholeIn entries) (formed (entriesIn entries)) (incomingFormed b incoming) (ifGiven signFormed (lent .sign)) (leb 1 (list .count)) (allOf (supplied lent) (opsIn list))
+        (shuffle (wholeIn entries) (entriesFormed (entriesIn entries)) (incomingFormed b incoming) (ifGiven signFormed (lent .sign)) (leb 1 (list .count)) (allOf (supplied lent) (opsIn list))
         (ifGiven shotFormed (lent .snapshot)) (shot-lent b entries incoming))
 
   -- what a request in form is known to be, and one that is not is refused
@@ -153,15 +153,15 @@ module _ (b : CodeLent) (entries incoming : List ℕ) (list : OpList) where
   unfolding wholeLent opsFormed sliceFormed
   lends-of p f =
       let f₁ = and-right (leb 1 (length (opsIn list)) && leb (length (opsIn list)) mostOps) _ f in
-      let f₂ = and-right (formed (entriesIn entries)) _ f₁ in
+      let f₂ = and-right (entriesFormed (entriesIn entries)) _ f₁ in
       let f₃ = and-right (ifGiven shotFormed (lent .snapshot)) _ f₂ in
       record {
-        whole = both-true (wholeIn entries) (formed (entriesIn entries)) (and-left (wholeIn entries) (incomingFormed b incoming) p) (and-left (formed (entriesIn entries)) _ f₁);
+        whole = both-true (wholeIn entries) (entriesFormed (entriesIn entries)) (and-left (wholeIn entries) (incomingFormed b incoming) p) (and-left (entriesFormed (entriesIn entries)) _ f₁);
         shot = and-right (wholeIn entries) (incomingFormed b incoming) p;
         sign = and-left (ifGiven signFormed (lent .sign)) _ f₃;
       }
 
-  module _ (r : Raw) (ok : formedRaw r ≡ true) where
+  module _ (r : Raw) (ok : formed r ≡ true) where
     pub listed-of : (whole && opsFormed lent (opsIn list)) ≡ true → Listed r b entries incoming list
     listed-of e =
         let w = and-left whole (opsFormed lent (opsIn list)) e in

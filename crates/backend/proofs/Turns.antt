@@ -12,14 +12,14 @@ use Rattle.words.proofs.Tests.{and-right}
 use Rattle.words.proofs.Alls.{all-head, all-drop}
 use Rattle.entry.specs.Limits.{mostOps}
 use Rattle.entry.specs.Guards.{Verdict, passes, refuses, first, Answer, refused, replied, refusedBy, settle}
-use Rattle.entry.specs.Change.{formed as entriesFormed}
+use Rattle.entry.specs.Change.{entriesFormed}
 use Rattle.entry.specs.Sign.{signFormed}
 use Rattle.entry.specs.Refusals.{numberOf, carriedOf}
 use Rattle.entry.specs.declared.Refusal.{Refusal}
 use Rattle.entry.proofs.GuardLaws.{first-left, first-right}
 use Rattle.model.specs.Numbers.{Numbers}
 use Rattle.model.specs.Log.{ifGiven, shotFormed}
-use Rattle.model.specs.Backend.{Op, Lent, supplied, opsFormed, Midst, step, steps, stepGuards, lastGuards, opGuards, midst, writeGuards, written}
+use Rattle.model.specs.Backend.{Op, Lent, supplied, opsFormed, Midst, step, steps, stepGuards, lastGuards, opGuards, midst, writeGuards, listWritten}
 use Rattle.model.specs.Calls.{write, malformed, further, effect, replyOf}
 use Rattle.state_cache.specs.State.{Raw, raw, numbersIn, formed, logOf}
 use Rattle.state_cache.specs.Run.{outcome, run, settled}
@@ -33,7 +33,7 @@ use Rattle.backend.specs.declared.inner.step.Stepped.{Stepped}
 use Rattle.backend.specs.Ops.{opOf}
 use Rattle.backend.specs.declared.Lent.{Lent as CodeLent}
 use Rattle.backend.specs.declared.OpList.{OpList}
-use Rattle.backend.specs.Inner.{midstOf, Held, Goes, Listed, Wrote, noOp}
+use Rattle.backend.specs.Inner.{midstOf, Kept, Goes, Listed, Wrote, noOp}
 use Rattle.backend.proofs.Requests.{ops-length, op-cons}
 use Rattle.backend.proofs.Lasts.{numbers-of, last-formed}
 
@@ -74,7 +74,7 @@ module _ (n : Numbers) (l : Lent) (codes : List CodeOp) (count : ℕ) (few : cou
             ∙ sym (first-left (stepGuards n l o m) (opGuards n l (drop (suc i) ops) (step l o m)) (numberOf f) (carriedOf f)
             (settle-refused (first (stepGuards n l o m)) (numberOf f) (carriedOf f) (ap settled (sym e) ∙ g .verdict)))
 
-        pub turn-held : s .answer ≡ Done → Held (raw (s .index) log shot)
+        pub turn-held : s .answer ≡ Done → Kept (raw (s .index) log shot)
         turn-held e = g .after (ap settled e) .1
 
         pub turn-left : s .answer ≡ Done → Left n l (drop (i + 1) ops) (midstOf (s .start) (raw (s .index) log shot)) asked end
@@ -109,9 +109,9 @@ module _ (r : Raw) (l : Lent) (ops : List Op) where
       never : _≡_ {A = Answer (Unit {0})} (refusedBy f) (replied tt) → ⊥
       never q = let z : _≡_ {A = ℕ} 0 1 = cc in omega arith
 
-  pub wrote : (n : Numbers) (start : ℕ) (x : Raw) (a : Settled) → Held x → Left n l [] (midstOf start x) asked end
+  pub wrote : (n : Numbers) (start : ℕ) (x : Raw) (a : Settled) → Kept x → Left n l [] (midstOf start x) asked end
       → settled a ≡ settle (first (lastGuards n (midstOf start x))) tt → Wrote r l ops a x
-  unfolding opGuards steps written
+  unfolding opGuards steps listWritten
   wrote n start x a h left e = record {
     verdict = e ∙ ap (λ (v : Verdict). settle v tt) (left .verdict);
     after = λ q. (last-formed n start x h (sym (settle-replied _ (sym q ∙ e))), ap (λ (m : Midst). m .log) (left .after));

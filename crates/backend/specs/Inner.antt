@@ -14,7 +14,7 @@ use Rattle.entry.specs.Sign.{signFormed}
 use Rattle.entry.specs.Guards.{Guard, guard, first, replied, settle}
 use Rattle.snapshot.specs.Inner.{Holds}
 use Rattle.model.specs.Log.{ifGiven, retaining, noBallot}
-use Rattle.model.specs.Backend.{Op, Lent, opsFormed, Midst, onRun, writeGuards, written}
+use Rattle.model.specs.Backend.{Op, Lent, opsFormed, Midst, onRun, writeGuards, listWritten}
 use Rattle.state_cache.specs.State.{Raw, raw, signHeld, formed, logOf}
 use Rattle.state_cache.specs.Inner.{Ready}
 use Rattle.state_cache.specs.Run.{settled}
@@ -44,7 +44,7 @@ abbrev pub midstOf : ℕ → Raw → Midst
 midstOf start r = record { start = start; log = logOf r }
 
 -- what every operation keeps: "order, places and zeros as above", and room
-pub record Held (r : Raw) : Type 0 where
+pub record Kept (r : Raw) : Type 0 where
   pub log : Laid logWords (r .index .retained + r .index .batched) (r .log)
   pub snapshot : Holds snapshotWords (r .index .keys) (r .snapshot)
   pub none-held : (r .index .«snapshot_held» || eqb (r .index .keys) 0) ≡ true
@@ -65,7 +65,7 @@ doneAt start x = record { answer = Done; start = start; index = x }
 pub record Goes (gs : List Guard) (next : Midst) (s : Stepped) (log snapshot : List ℕ) : Type 0 where
   pub verdict : settled (s .answer) ≡ settle (first gs) tt
   pub after : settled (s .answer) ≡ replied tt
-      → (midstOf (s .start) (raw (s .index) log snapshot) ≡ next) × Held (raw (s .index) log snapshot)
+      → (midstOf (s .start) (raw (s .index) log snapshot) ≡ next) × Kept (raw (s .index) log snapshot)
 
 -- what is known of the parts that are lent beside a list in form
 pub record Lends (b : CodeLent) (entries incoming : List ℕ) : Type 0 where
@@ -83,7 +83,7 @@ pub record Listed (r : Raw) (b : CodeLent) (entries incoming : List ℕ) (list :
 -- what it comes to: the first refusal that applies; and where none does a well-formed state that stands for what the list wrote
 pub record Wrote (r : Raw) (l : Lent) (ops : List Op) (answer : Settled) (x : Raw) : Type 0 where
   pub verdict : settled answer ≡ settle (first (writeGuards l ops (logOf r))) tt
-  pub after : settled answer ≡ replied tt → (formed x ≡ true) × (logOf x ≡ written l ops (logOf r))
+  pub after : settled answer ≡ replied tt → (formed x ≡ true) × (logOf x ≡ listWritten l ops (logOf r))
 
 -- what stands past the end of a list
 abbrev pub noOp : CodeOp

@@ -1,4 +1,4 @@
--- A snapshot created from a lent state: refusals 12, 11, 3, 2 and 8, or the fold written out.
+-- A snapshot created from a lent state: refusals 12, 11, 3, 2 and 8, or the fold writtenBy out.
 use Prim.Native.Nat.{ℕ, _+_, _-_, _≤_, _<_}
 use mathlib.Core.Path.{_≡_, refl, sym, ap, _∙_}
 use mathlib.Core.Bool.{Bool, true, false}
@@ -10,7 +10,7 @@ use lib.Dec.{ltb}
 use Rattle.entry.specs.Change.{Change}
 use Rattle.entry.specs.Guards.{Verdict, passes, refuses, first, Answer, refused, settle}
 use Rattle.entry.proofs.GuardLaws.{passing, stopping, found, first-goes-on}
-use Rattle.snapshot.specs.Calls.{outcome as shotOutcome, written, foldGuards}
+use Rattle.snapshot.specs.Calls.{outcome as shotOutcome, writtenBy, foldGuards, writtenOut}
 use Rattle.snapshot.specs.Inner.{foldWritten, foldedOut}
 use Rattle.model.specs.Numbers.{Numbers}
 use Rattle.model.specs.Log.{Log, numbersOf, foldedTo}
@@ -24,7 +24,6 @@ use Rattle.state_cache.specs.Run.{Outcome, run}
 use Rattle.state_cache.proofs.Stands.{Stands, stands-of}
 use Rattle.state_cache.proofs.Runs.{ill-formed, not-whole, call-refused, call-stands}
 use Rattle.internal_storage.proofs.Effects.{numbers}
-use Rattle.compaction.specs.Written.{writtenOut}
 use Rattle.compaction.proofs.Folding.{fold-is}
 
 -- no target is below compacted that is asked for at or above it
@@ -53,12 +52,8 @@ module _ (r : Raw) (i : ℕ) (out : List ℕ) where
     answers passes e = ap (λ (o : Outcome (List Change)). o .answer) (call-stands c r ok refl e (created i s) r refl st)
     answers (refuses n k) e = ap (λ (o : Outcome (List Change)). o .answer) (call-refused c r ok refl n k e)
 
-    told : (v : Verdict) → v ≡ first (further c s) → written v (created i s) out ≡ writtenOut (run c true r .answer) out
-    told v e = same v ∙ ap (λ (a : Answer (List Change)). writtenOut a out) (answers v e)
-      where
-        same : (v : Verdict) → written v (created i s) out ≡ writtenOut (settle v (created i s)) out
-        same passes = refl
-        same (refuses n k) = refl
+    told : (v : Verdict) → v ≡ first (further c s) → writtenBy v (created i s) out ≡ writtenOut (run c true r .answer) out
+    told v e = ap (λ (a : Answer (List Change)). writtenOut a out) (answers v e)
 
     pub create-below : i < r .index .compacted .0 → shotOutcome (refused 3 (r .index .compacted .0)) out ≡ writtenOut (run c true r .answer) out
     unfolding further queryGuards createGuards

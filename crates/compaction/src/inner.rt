@@ -11,14 +11,13 @@ ghost use mathlib.Core.Bool.{true};
 ghost use lib.ListN.{length};
 ghost use Rattle.entry.specs.Limits.{snapshotWords};
 ghost use Rattle.entry.specs.Upto.{uptoOf};
-ghost use Rattle.snapshot.specs.Calls.{outcome as shotOutcome, folded};
+ghost use Rattle.snapshot.specs.Calls.{outcome as shotOutcome, folded, writtenOut};
 ghost use Rattle.model.specs.Calls.{query, create, trim, snapshot as snapshotCall};
 ghost use Rattle.model.specs.Compact.{target, pastDecided};
 ghost use Rattle.state_cache.specs.State.{raw, numbersIn};
 ghost use Rattle.state_cache.specs.Inner.{Small, Ready};
 ghost use Rattle.state_cache.specs.Run.{outcome, run, settled};
 ghost use Rattle.compaction.specs.Inner.{ReachIs, Movable, Moved};
-ghost use Rattle.compaction.specs.Written.{writtenOut};
 
 // Whether refusal 2 applies.
 fn past_decided(index: IndexRecord, upto: Upto) -> bool

@@ -13,11 +13,10 @@ ghost use lib.Dec.{eqb};
 ghost use lib.ListN.{length};
 ghost use Rattle.entry.specs.Limits.{snapshotWords};
 ghost use Rattle.entry.specs.Upto.{uptoOf};
-ghost use Rattle.snapshot.specs.Calls.{outcome as shotOutcome, folded};
+ghost use Rattle.snapshot.specs.Calls.{outcome as shotOutcome, folded, writtenOut};
 ghost use Rattle.model.specs.Calls.{query, create, trim, snapshot as snapshotCall};
 ghost use Rattle.state_cache.specs.State.{raw};
 ghost use Rattle.state_cache.specs.Run.{outcome, run, settled};
-ghost use Rattle.compaction.specs.Written.{writtenOut};
 
 pub mod inner;
 

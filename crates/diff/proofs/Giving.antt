@@ -15,7 +15,7 @@ use Rattle.words.proofs.Tests.{Reach, reached, short, reach, or-left, or-right}
 use Rattle.words.proofs.Alls.{all-take, all-drop}
 use Rattle.words.proofs.CodedLaws.{entries-take, entries-drop}
 use Rattle.entry.specs.Limits.{width, snapshotWords}
-use Rattle.entry.specs.Change.{Change, changeCode, changeFormed, formed as entriesFormed, entriesOf}
+use Rattle.entry.specs.Change.{Change, changeCode, changeFormed, entriesFormed, entriesOf}
 use Rattle.snapshot.specs.Folds.{fold, merge}
 use Rattle.snapshot.specs.Inner.{Shows, Aside, foldedOut}
 use Rattle.snapshot.proofs.Calling.{snapshot-holds, empty-formed}

@@ -8,7 +8,7 @@ use lib.Dec.{ltb}
 use lib.ListN.{drop}
 use Rattle.words.specs.Coded.{entriesAt}
 use Rattle.entry.specs.Limits.{width, snapshotWords}
-use Rattle.entry.specs.Change.{Change, formed as entriesFormed, entriesOf, stored}
+use Rattle.entry.specs.Change.{Change, entriesFormed, entriesOf, stored}
 use Rattle.entry.specs.Guards.{Verdict, passes, refuses, first, Answer, refused, replied, refusedBy, settle}
 use Rattle.entry.specs.Refusals.{numberOf, carriedOf}
 use Rattle.entry.specs.declared.Refusal.the-variants.{Malformed, IllFormed}

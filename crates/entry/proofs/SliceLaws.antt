@@ -14,7 +14,7 @@ use Rattle.words.proofs.Alls.{all-join, zeros-are, zeros-pass}
 use Rattle.words.proofs.Laws.{length-laid, drop-laid}
 use Rattle.words.proofs.CodedLaws.{entries-append, entries-laid, laid-entries, words-length}
 use Rattle.entry.specs.Limits.{width}
-use Rattle.entry.specs.Change.{Change, changeCode, changeFormed, formed, entriesOf, entriesIn, sliceFormed, stored, storedIn, Laid}
+use Rattle.entry.specs.Change.{Change, changeCode, changeFormed, entriesFormed, entriesOf, entriesIn, sliceFormed, stored, storedIn, Laid}
 use Rattle.entry.proofs.ChangeLaws.{changeOk}
 
 pub laid-of : (words n : ℕ) (ws : List ℕ) → storedIn words n ws ≡ true → Laid words n ws
@@ -31,7 +31,7 @@ laid-of words n ws e =
       fine = and-left _ _ e₃;
       zeros = sym (take-append-drop (n * width) ws)
           ∙ ap (λ (d : List ℕ). take (n * width) ws ++ d)
-          (zeros-are (drop (n * width) ws) (and-right (formed (entriesOf n ws)) _ e₃) ∙ ap (λ (m : ℕ). replicate m 0) k);
+          (zeros-are (drop (n * width) ws) (and-right (entriesFormed (entriesOf n ws)) _ e₃) ∙ ap (λ (m : ℕ). replicate m 0) k);
     }
 
 -- the slice is its entries laid out
@@ -42,10 +42,10 @@ laid-stored words n ws l =
 pub stored-length : (words : ℕ) (es : List Change) → length es * width ≤ words → length (stored words es) ≡ words
 stored-length words es h = length-laid words (wordsOf changeCode es) (omega (arith, words-length changeCode changeOk es))
 
-pub stored-entries : (words : ℕ) (es : List Change) → formed es ≡ true → entriesOf (length es) (stored words es) ≡ es
+pub stored-entries : (words : ℕ) (es : List Change) → entriesFormed es ≡ true → entriesOf (length es) (stored words es) ≡ es
 stored-entries words es fine = entries-laid changeCode changeOk words es fine
 
-pub stored-laid : (words : ℕ) (es : List Change) → length es * width ≤ words → formed es ≡ true → storedIn words (length es) (stored words es) ≡ true
+pub stored-laid : (words : ℕ) (es : List Change) → length es * width ≤ words → entriesFormed es ≡ true → storedIn words (length es) (stored words es) ≡ true
 unfolding storedIn
 stored-laid words es h fine =
     let n = words-length changeCode changeOk es in
@@ -61,9 +61,9 @@ pub slice-whole : (ws : List ℕ) → sliceFormed ws ≡ true → length ws % wi
 unfolding sliceFormed
 slice-whole ws e = eqb-true (length ws % width) 0 (and-left _ _ e)
 
-pub slice-fine : (ws : List ℕ) → sliceFormed ws ≡ true → formed (entriesIn ws) ≡ true
+pub slice-fine : (ws : List ℕ) → sliceFormed ws ≡ true → entriesFormed (entriesIn ws) ≡ true
 unfolding sliceFormed
-slice-fine ws e = and-right (eqb (length ws % width) 0) (formed (entriesIn ws)) e
+slice-fine ws e = and-right (eqb (length ws % width) 0) (entriesFormed (entriesIn ws)) e
 
 -- entry slices joined
 pub entries-join : (a b : List ℕ) → length a % width ≡ 0 → entriesIn (a ++ b) ≡ entriesIn a ++ entriesIn b
@@ -76,6 +76,6 @@ unfolding sliceFormed
 slice-join a b p q =
     let m : length a % width ≡ 0 = slice-whole a p in
     let n : length b % width ≡ 0 = slice-whole b q in
-    both-true (eqb (length (a ++ b) % width) 0) (formed (entriesIn (a ++ b)))
+    both-true (eqb (length (a ++ b) % width) 0) (entriesFormed (entriesIn (a ++ b)))
     (eq-eqb (length (a ++ b) % width) 0 (simp length-append (omega arith)))
-    (ap formed (entries-join a b m) ∙ all-join changeFormed (entriesIn a) (entriesIn b) (slice-fine a p) (slice-fine b q))
+    (ap entriesFormed (entries-join a b m) ∙ all-join changeFormed (entriesIn a) (entriesIn b) (slice-fine a p) (slice-fine b q))

@@ -35,8 +35,8 @@ saidFormed removed = true
 abbrev pub changeFormed : Change → Bool
 changeFormed c = saidFormed (c .said)
 
-abbrev pub formed : List Change → Bool
-formed es = allOf changeFormed es
+abbrev pub entriesFormed : List Change → Bool
+entriesFormed es = allOf changeFormed es
 
 -- "A removed place is the word 2^64-1": what a word says, and the word that says it
 abbrev pub saidOf : ℕ → Said
@@ -73,7 +73,7 @@ abbrev pub wholeIn : List ℕ → Bool
 wholeIn ws = eqb (length ws % width) 0
 
 unfoldable pub sliceFormed : List ℕ → Bool
-sliceFormed ws = wholeIn ws && formed (entriesIn ws)
+sliceFormed ws = wholeIn ws && entriesFormed (entriesIn ws)
 
 -- a slice of n words that holds some entries; "unused words are zero"
 abbrev pub stored : ℕ → List Change → List ℕ
@@ -82,11 +82,11 @@ stored n es = laidOut changeCode n es
 -- whether some words are such a slice, of so many words and with n entries in form
 unfoldable pub storedIn : ℕ → ℕ → List ℕ → Bool
 storedIn words n ws =
-    eqb (length ws) words && (leb (n * width) words && (formed (entriesOf n ws) && allZero (drop (n * width) ws)))
+    eqb (length ws) words && (leb (n * width) words && (entriesFormed (entriesOf n ws) && allZero (drop (n * width) ws)))
 
 -- the same as facts, each with its name
 pub record Laid (words n : ℕ) (ws : List ℕ) : Type 0 where
   pub long : length ws ≡ words
   pub fits : n * width ≤ words
-  pub fine : formed (entriesOf n ws) ≡ true
+  pub fine : entriesFormed (entriesOf n ws) ≡ true
   pub zeros : ws ≡ laid (length ws) (take (n * width) ws)

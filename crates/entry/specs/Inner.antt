@@ -5,7 +5,7 @@ use mathlib.Core.Bool.{true}
 use mathlib.Core.List.{List, [], _∷_}
 use lib.ListN.{getD}
 use Rattle.entry.specs.Limits.{width}
-use Rattle.entry.specs.Change.{Change, change, changeFormed, formed, entriesIn, wholeIn}
+use Rattle.entry.specs.Change.{Change, change, changeFormed, entriesFormed, entriesIn, wholeIn}
 
 -- the entry at i
 abbrev pub changeAt : List ℕ → ℕ → Change
@@ -14,5 +14,5 @@ changeAt ws i = change (getD ws (i * width) 0) (getD ws (i * width + 1) 0)
 -- one entry's words: in form exactly if it is, and then they are no other's
 pub record LentAs (c : Change) (ws : List ℕ) : Type 0 where
   pub whole : wholeIn ws ≡ true
-  pub same-form : formed (entriesIn ws) ≡ changeFormed c
+  pub same-form : entriesFormed (entriesIn ws) ≡ changeFormed c
   pub same-entry : changeFormed c ≡ true → entriesIn ws ≡ c ∷ []

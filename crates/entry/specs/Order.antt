@@ -7,8 +7,8 @@ use Rattle.entry.specs.declared.Ballot.{Ballot}
 use Rattle.entry.specs.declared.Ordering.{Ordering}
 use Rattle.entry.specs.declared.Ordering.the-variants.{Less, Equal, Greater}
 
-unfoldable pub orderOf : ℕ → ℕ → Ordering
-orderOf a b = if ltb a b then Less else if ltb b a then Greater else Equal
+unfoldable pub compareOf : ℕ → ℕ → Ordering
+compareOf a b = if ltb a b then Less else if ltb b a then Greater else Equal
 
 -- the first order, or the second where the first is equal
 abbrev pub thenBy : Ordering → Ordering → Ordering
@@ -17,7 +17,7 @@ thenBy Equal o = o
 thenBy Greater o = Greater
 
 abbrev pub ballotOrder : Ballot → Ballot → Ordering
-ballotOrder a b = thenBy (orderOf (a .n) (b .n)) (thenBy (orderOf (a .priority) (b .priority)) (orderOf (a .pid) (b .pid)))
+ballotOrder a b = thenBy (compareOf (a .n) (b .n)) (thenBy (compareOf (a .priority) (b .priority)) (compareOf (a .pid) (b .pid)))
 
 abbrev pub sameBallot : Ballot → Ballot → Bool
 sameBallot a b =

@@ -7,7 +7,7 @@ ghost use mathlib.Core.Bool.{true};
 ghost use Prim.Native.Nat.{_+_, _*_, _≤_, _<_};
 ghost use lib.ListN.{length, drop};
 ghost use Rattle.words.specs.Words.{allZero};
-ghost use Rattle.entry.specs.Change.{saidIs, wordFormed, formed, entriesOf, storedIn};
+ghost use Rattle.entry.specs.Change.{saidIs, wordFormed, entriesFormed, entriesOf, storedIn};
 ghost use Rattle.entry.specs.Inner.{changeAt, LentAs};
 ghost use Rattle.entry.specs.Limits.{width, places};
 ghost use Rattle.entry.specs.Sign.{noSign, signIf, signBlank};
@@ -52,7 +52,7 @@ fn next_word(w: u64) -> u64
 // The `or` of them all, of the first n entries.
 fn joined(s: &[u64], n: usize) -> u64
     requires { ⌜ n * width ≤ length (now s) ⌝ }
-    ensures { λ x. ⌜ (x < places → formed (entriesOf n (now (s .entry))) ≡ true) ⌝ }
+    ensures { λ x. ⌜ (x < places → entriesFormed (entriesOf n (now (s .entry))) ≡ true) ⌝ }
 {
     let mut all: u64 = 0;
     let mut i = 0;
@@ -66,7 +66,7 @@ fn joined(s: &[u64], n: usize) -> u64
 
 fn one_by_one(s: &[u64], n: usize) -> bool
     requires { ⌜ n * width ≤ length (now s) ⌝ }
-    ensures { λ r. ⌜ r ≡ formed (entriesOf n (now (s .entry))) ⌝ }
+    ensures { λ r. ⌜ r ≡ entriesFormed (entriesOf n (now (s .entry))) ⌝ }
 {
     let mut ok = true;
     let mut i = 0;
@@ -81,7 +81,7 @@ fn one_by_one(s: &[u64], n: usize) -> bool
 // Whether the first n entries of s are in form. The `or` tells it of nearly all that are; where it does not, each place is looked at.
 pub fn places_formed(s: &[u64], n: usize) -> bool
     requires { ⌜ n * width ≤ length (now s) ⌝ }
-    ensures { λ r. ⌜ r ≡ formed (entriesOf n (now (s .entry))) ⌝ }
+    ensures { λ r. ⌜ r ≡ entriesFormed (entriesOf n (now (s .entry))) ⌝ }
 {
     if joined(s, n) < super::PLACES {
         return true;

@@ -2,7 +2,7 @@
 ghost use mathlib.Core.Path.{_≡_};
 ghost use Rattle.entry.specs.Change.{wordFormed, sliceFormed};
 ghost use Rattle.entry.specs.Sign.{signFormed};
-ghost use Rattle.entry.specs.Order.{orderOf, thenBy, ballotOrder, sameBallot};
+ghost use Rattle.entry.specs.Order.{compareOf, thenBy, ballotOrder, sameBallot};
 ghost use Rattle.entry.specs.Refusals.{numberOf, carriedOf};
 
 pub mod inner;
@@ -67,8 +67,8 @@ pub enum Ordering {
     Greater,
 }
 
-fn order_of(a: u64, b: u64) -> Ordering
-    ensures { λ r. ⌜ r ≡ orderOf a b ⌝ }
+fn compare(a: u64, b: u64) -> Ordering
+    ensures { λ r. ⌜ r ≡ compareOf a b ⌝ }
 {
     if a < b {
         return Ordering::Less;
@@ -95,9 +95,9 @@ impl Ballot {
     pub fn cmp(self, other: Ballot) -> Ordering
         ensures { λ r. ⌜ r ≡ ballotOrder self other ⌝ }
     {
-        let by_n = order_of(self.n as u64, other.n as u64);
-        let by_priority = order_of(self.priority as u64, other.priority as u64);
-        let by_pid = order_of(self.pid, other.pid);
+        let by_n = compare(self.n as u64, other.n as u64);
+        let by_priority = compare(self.priority as u64, other.priority as u64);
+        let by_pid = compare(self.pid, other.pid);
         then_by(by_n, then_by(by_priority, by_pid))
     }
 

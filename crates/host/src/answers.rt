@@ -5,8 +5,8 @@ use super::ShownSaid;
 use diff::Diff;
 use entry::Ordering;
 use entry::Refusal;
-use internal_storage::AcceptedIdx;
-use internal_storage::AcceptedIdxAt;
+use internal_storage::MaybeIndex;
+use internal_storage::MaybeIndexAt;
 use internal_storage::Appended;
 use internal_storage::AppendedAt;
 use reading::Marker;
@@ -15,8 +15,8 @@ use reading::ShownRun;
 use reading::Span;
 use snapshot::Folded;
 use snapshot::Found;
-use state_cache::Accepted;
-use state_cache::AcceptedAt;
+use state_cache::IndexAnswer;
+use state_cache::IndexAnswerAt;
 use state_cache::Flag;
 use state_cache::Settled;
 use state_cache::SettledAt;
@@ -26,8 +26,8 @@ ghost use Prim.Native.Nat.{ℕ};
 ghost use Rattle.entry.specs.Guards.{refusedBy};
 ghost use Rattle.snapshot.specs.Calls.{found, folded};
 ghost use Rattle.state_cache.specs.State.{Raw};
-ghost use Rattle.state_cache.specs.Run.{settled, accepted, flag};
-ghost use Rattle.internal_storage.specs.Replies.{appended, acceptedIdx};
+ghost use Rattle.state_cache.specs.Run.{settled, indexSaid, flag};
+ghost use Rattle.internal_storage.specs.Replies.{appendSaid, maybeIndexSaid};
 ghost use Rattle.diff.specs.Replies.{diffSaid};
 ghost use Rattle.reading.specs.Replies.{spanSays, markerSaid, shownSaid, readSaid};
 ghost use Rattle.host.specs.Plain.{tells, plain};
@@ -79,17 +79,17 @@ pub(crate) fn settled_reply(r: SettledAt) -> Reply
     }
 }
 
-pub(crate) fn accepted_said(answer: Accepted) -> Said
-    ensures { λ s. ⌜ s ≡ plain aNumber (accepted answer) ⌝ }
+pub(crate) fn accepted_said(answer: IndexAnswer) -> Said
+    ensures { λ s. ⌜ s ≡ plain aNumber (indexSaid answer) ⌝ }
 {
     match answer {
-        Accepted::At(i) => tell(1, i.0, 0),
-        Accepted::Refused(r) => refuse(r),
+        IndexAnswer::At(i) => tell(1, i.0, 0),
+        IndexAnswer::Refused(r) => refuse(r),
     }
 }
 
-pub(crate) fn accepted_reply(r: AcceptedAt) -> Reply
-    ensures { λ p. ⌜ (p .said ≡ plain aNumber (accepted (r .answer))) × (p .index ≡ r .index) ⌝ }
+pub(crate) fn accepted_reply(r: IndexAnswerAt) -> Reply
+    ensures { λ p. ⌜ (p .said ≡ plain aNumber (indexSaid (r .answer))) × (p .index ≡ r .index) ⌝ }
 {
     let answer = r.answer;
     let next = r.index;
@@ -109,17 +109,17 @@ pub(crate) fn flag_said(answer: Flag) -> Said
 }
 
 fn appended_said(answer: Appended) -> Said
-    ensures { λ s. ⌜ s ≡ plain maybeFlushed (appended answer) ⌝ }
+    ensures { λ s. ⌜ s ≡ plain maybeFlushed (appendSaid answer) ⌝ }
 {
     match answer {
-        Appended::Held => tell(0, 0, 0),
+        Appended::Nothing => tell(0, 0, 0),
         Appended::Flushed { accepted, entries } => tell(1, accepted.0, entries as u64),
         Appended::Refused(r) => refuse(r),
     }
 }
 
 pub(crate) fn appended_reply(r: AppendedAt) -> Reply
-    ensures { λ p. ⌜ (p .said ≡ plain maybeFlushed (appended (r .answer))) × (p .index ≡ r .index) ⌝ }
+    ensures { λ p. ⌜ (p .said ≡ plain maybeFlushed (appendSaid (r .answer))) × (p .index ≡ r .index) ⌝ }
 {
     let answer = r.answer;
     let next = r.index;
@@ -129,18 +129,18 @@ pub(crate) fn appended_reply(r: AppendedAt) -> Reply
     }
 }
 
-fn accepted_idx_said(answer: AcceptedIdx) -> Said
-    ensures { λ s. ⌜ s ≡ plain maybeNumber (acceptedIdx answer) ⌝ }
+fn accepted_idx_said(answer: MaybeIndex) -> Said
+    ensures { λ s. ⌜ s ≡ plain maybeNumber (maybeIndexSaid answer) ⌝ }
 {
     match answer {
-        AcceptedIdx::Held => tell(0, 0, 0),
-        AcceptedIdx::At(i) => tell(1, i.0, 0),
-        AcceptedIdx::Refused(r) => refuse(r),
+        MaybeIndex::Nothing => tell(0, 0, 0),
+        MaybeIndex::At(i) => tell(1, i.0, 0),
+        MaybeIndex::Refused(r) => refuse(r),
     }
 }
 
-pub(crate) fn accepted_idx_reply(r: AcceptedIdxAt) -> Reply
-    ensures { λ p. ⌜ (p .said ≡ plain maybeNumber (acceptedIdx (r .answer))) × (p .index ≡ r .index) ⌝ }
+pub(crate) fn accepted_idx_reply(r: MaybeIndexAt) -> Reply
+    ensures { λ p. ⌜ (p .said ≡ plain maybeNumber (maybeIndexSaid (r .answer))) × (p .index ≡ r .index) ⌝ }
 {
     let answer = r.answer;
     let next = r.index;

@@ -11,7 +11,7 @@ use entry::Ballot;
 use entry::BlockPlace;
 use entry::LogIndex;
 use entry::StopSign;
-use state_cache::Accepted;
+use state_cache::IndexAnswer;
 use state_cache::Flag;
 use state_cache::IndexRecord;
 ghost use mathlib.Core.Path.{_≡_};
@@ -123,7 +123,7 @@ pub extern "C" fn kotuseraw_inner_get_accepted_idx(
     ensures { λ s. ⌜ s ≡ plain aNumber (ofNumbers acceptedOf (raw index (now (log .entry)) (now (snapshot .entry)))) ⌝ }
 {
     let last = state_cache::inner::accepted(index);
-    answers::accepted_said(Accepted::At(LogIndex(last)))
+    answers::accepted_said(IndexAnswer::At(LogIndex(last)))
 }
 
 // Log-decided: the decided index, a decided stop-sign not counted.
@@ -137,7 +137,7 @@ pub extern "C" fn kotuseraw_inner_get_decided_idx_without_stopsign(
     ensures { λ s. ⌜ s ≡ plain aNumber (ofNumbers logDecided (raw index (now (log .entry)) (now (snapshot .entry)))) ⌝ }
 {
     let decided = state_cache::inner::log_decided(index);
-    answers::accepted_said(Accepted::At(LogIndex(decided)))
+    answers::accepted_said(IndexAnswer::At(LogIndex(decided)))
 }
 
 // Whether a stop-sign is held and decided.

@@ -7,11 +7,10 @@ ghost use mathlib.Core.Path.{_≡_};
 ghost use lib.Dec.{eqb};
 ghost use lib.ListN.{length};
 ghost use Rattle.entry.specs.Limits.{snapshotWords};
-ghost use Rattle.snapshot.specs.Calls.{foldCall, mergeCall, findCall};
+ghost use Rattle.snapshot.specs.Calls.{foldCall, mergeCall, findCall, writtenOut};
 ghost use Rattle.model.specs.Calls.{query, create, diff as diffCall};
 ghost use Rattle.state_cache.specs.State.{raw};
 ghost use Rattle.state_cache.specs.Run.{run};
-ghost use Rattle.compaction.specs.Written.{writtenOut};
 ghost use Rattle.diff.specs.Replies.{outAfter};
 ghost use Rattle.host.specs.Plain.{plain, maybeNumber, aDiff, wrote, wroteAs};
 

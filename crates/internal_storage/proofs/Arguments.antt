@@ -8,7 +8,7 @@ use lib.ListN.{length}
 use Rattle.words.specs.All.{allOf}
 use Rattle.words.proofs.Tests.{and-left}
 use Rattle.entry.specs.Limits.{width}
-use Rattle.entry.specs.Change.{Change, changeFormed, formed as entriesFormed, entriesIn, wholeIn, sliceFormed}
+use Rattle.entry.specs.Change.{Change, changeFormed, entriesFormed, entriesIn, wholeIn, sliceFormed}
 use Rattle.entry.specs.Inner.{LentAs}
 use Rattle.entry.specs.Guards.{refused}
 use Rattle.entry.proofs.SliceLaws.{slice-whole, slice-fine}

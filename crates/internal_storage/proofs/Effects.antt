@@ -14,7 +14,7 @@ use Rattle.words.specs.Words.{laid, spliced}
 use Rattle.words.specs.Coded.{wordsOf}
 use Rattle.words.proofs.CodedLaws.{spliced-append, spliced-before, words-entries, entries-length}
 use Rattle.entry.specs.Limits.{width, entryRoom, logWords}
-use Rattle.entry.specs.Change.{Change, changeCode, formed as entriesFormed, entriesOf, stored}
+use Rattle.entry.specs.Change.{Change, changeCode, entriesFormed, entriesOf, stored}
 use Rattle.entry.specs.Sign.{signIf, signFormed}
 use Rattle.entry.specs.Guards.{Guard, Verdict, passes, refuses, first, Answer, refused, replied}
 use Rattle.entry.specs.declared.Ballot.{Ballot}
@@ -34,7 +34,7 @@ use Rattle.state_cache.specs.declared.IndexRecord.{IndexRecord}
 use Rattle.state_cache.proofs.Stands.{Stands, stands-of, numbers-are, log-formed, given-by, sign-by}
 use Rattle.state_cache.proofs.Runs.{bad-call, call-refused, call-stands}
 use Rattle.state_cache.proofs.Changes.{held-length, log-spliced}
-use Rattle.internal_storage.specs.Replies.{appended as appendedIs, asked, indexOnly, withIndexOnly}
+use Rattle.internal_storage.specs.Replies.{appendSaid, asked, indexOnly, withIndexOnly}
 use Rattle.internal_storage.specs.Inner.{Indexed, indexed, byNumbers, flushedAt, heldAt, batchedWith, allFlushed, flushSays}
 
 module _ (r : Raw) (ok : formed r ≡ true) where
@@ -263,12 +263,12 @@ module _ (r : Raw) (ok : formed r ≡ true) where
         unfolding further
         stands = rw (many, numbers) pass
 
-        pub append-run : outcome (appendedIs (batchedWith n (r .index) .answer)) (raw (batchedWith n (r .index) .index) words (r .snapshot)) ≡ run (append es) true r
+        pub append-run : outcome (appendSaid (batchedWith n (r .index) .answer)) (raw (batchedWith n (r .index) .index) words (r .snapshot)) ≡ run (append es) true r
         unfolding batchedWith
         append-run = go (leb (r .index .«batch_size») (r .index .batched + n)) fills-is
           where
             go : (t : Bool) → fills es s ≡ t
-                → outcome (appendedIs ((if t then flushedAt n (r .index) else heldAt n (r .index)) .answer)) (raw ((if t then flushedAt n (r .index) else heldAt n (r .index)) .index) words (r .snapshot)) ≡ run (append es) true r
+                → outcome (appendSaid ((if t then flushedAt n (r .index) else heldAt n (r .index)) .answer)) (raw ((if t then flushedAt n (r .index) else heldAt n (r .index)) .index) words (r .snapshot)) ≡ run (append es) true r
             go true e = call-stands (append es) r ok bad stands flush-told (raw (flushedAt n (r .index) .index) words (r .snapshot)) (flush-reply e) (flush-effect e)
             go false e = call-stands (append es) r ok bad stands none (raw (heldAt n (r .index) .index) words (r .snapshot)) (hold-reply e) (hold-effect e)
 

@@ -8,7 +8,7 @@ use lib.Dec.{leb, eqb}
 use lib.ListN.{length}
 use Rattle.words.specs.If.{if_then_else_}
 use Rattle.entry.specs.Limits.{width}
-use Rattle.entry.specs.Change.{formed, entriesOf}
+use Rattle.entry.specs.Change.{entriesFormed, entriesOf}
 use Rattle.entry.specs.Guards.{Verdict, passes, refuses, Answer, refused, replied}
 use Rattle.entry.specs.Refusals.{numberOf, carriedOf}
 use Rattle.model.specs.Numbers.{acceptedOf}
@@ -18,7 +18,7 @@ use Rattle.state_cache.specs.Inner.{Ready, withEntries}
 use Rattle.state_cache.specs.declared.IndexRecord.{IndexRecord}
 use Rattle.internal_storage.specs.declared.inner.Check.{Check}
 use Rattle.internal_storage.specs.declared.inner.Check.the-variants.{Passed, Refused}
-use Rattle.internal_storage.specs.declared.Appended.the-variants.{Held, Flushed as AppendFlushed}
+use Rattle.internal_storage.specs.declared.Appended.the-variants.{Nothing, Flushed as AppendFlushed}
 use Rattle.internal_storage.specs.declared.AppendedAt.{AppendedAt}
 
 abbrev pub verdictOf : Check → Verdict
@@ -44,7 +44,7 @@ flushedAt n x =
     record { answer = AppendFlushed (record { 0 = acceptedOf (numbersIn next) }) (x .batched + n); index = next }
 
 abbrev pub heldAt : ℕ → IndexRecord → AppendedAt
-heldAt n x = record { answer = Held; index = withEntries (x .retained) (x .batched + n) x }
+heldAt n x = record { answer = Nothing; index = withEntries (x .retained) (x .batched + n) x }
 
 unfoldable pub batchedWith : ℕ → IndexRecord → AppendedAt
 batchedWith n x = if leb (x .«batch_size») (x .batched + n) then flushedAt n x else heldAt n x
@@ -62,4 +62,4 @@ flushSays x =
 pub record Appends (r : Raw) (n : ℕ) (entries : List ℕ) : Type 0 where
   pub ready : Ready r
   pub whole : length entries ≡ n * width
-  pub fine : formed (entriesOf n entries) ≡ true
+  pub fine : entriesFormed (entriesOf n entries) ≡ true

@@ -8,20 +8,20 @@ use Rattle.entry.specs.declared.StopSign.{StopSign}
 use Rattle.model.specs.Append.{Flushed}
 use Rattle.state_cache.specs.Run.{Outcome, outcome}
 use Rattle.internal_storage.specs.declared.Appended.{Appended}
-use Rattle.internal_storage.specs.declared.Appended.the-variants.{Held, Flushed as AppendFlushed, Refused as AppendRefused}
-use Rattle.internal_storage.specs.declared.AcceptedIdx.{AcceptedIdx}
-use Rattle.internal_storage.specs.declared.AcceptedIdx.the-variants.{Held as IdxHeld, At, Refused as IdxRefused}
+use Rattle.internal_storage.specs.declared.Appended.the-variants.{Nothing, Flushed as AppendFlushed, Refused as AppendRefused}
+use Rattle.internal_storage.specs.declared.MaybeIndex.{MaybeIndex}
+use Rattle.internal_storage.specs.declared.MaybeIndex.the-variants.{Nothing as NoIndex, At, Refused as IdxRefused}
 
-abbrev pub appended : Appended → Answer (Option Flushed)
-appended Held = replied none
-appended (AppendFlushed i n) = replied (some (record { accepted = i .0; count = n }))
-appended (AppendRefused r) = refusedBy r
+abbrev pub appendSaid : Appended → Answer (Option Flushed)
+appendSaid Nothing = replied none
+appendSaid (AppendFlushed i n) = replied (some (record { accepted = i .0; count = n }))
+appendSaid (AppendRefused r) = refusedBy r
 
 -- of what was flushed the accepted index alone, and an outcome that says no more
-abbrev pub acceptedIdx : AcceptedIdx → Answer (Option ℕ)
-acceptedIdx IdxHeld = replied none
-acceptedIdx (At i) = replied (some (i .0))
-acceptedIdx (IdxRefused r) = refusedBy r
+abbrev pub maybeIndexSaid : MaybeIndex → Answer (Option ℕ)
+maybeIndexSaid NoIndex = replied none
+maybeIndexSaid (At i) = replied (some (i .0))
+maybeIndexSaid (IdxRefused r) = refusedBy r
 
 abbrev pub indexOnly : Answer (Option Flushed) → Answer (Option ℕ)
 indexOnly (replied none) = replied none

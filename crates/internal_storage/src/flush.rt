@@ -2,22 +2,22 @@
 use super::Appended;
 use super::AppendedAt;
 use entry::Refusal;
-use state_cache::Accepted;
-use state_cache::AcceptedAt;
+use state_cache::IndexAnswer;
+use state_cache::IndexAnswerAt;
 use state_cache::IndexRecord;
 ghost use mathlib.Core.Path.{_≡_};
 ghost use mathlib.Core.Bool.{true};
 ghost use Rattle.model.specs.Calls.{flush, flushEntries};
 ghost use Rattle.state_cache.specs.State.{raw};
-ghost use Rattle.state_cache.specs.Run.{outcome, run, accepted};
-ghost use Rattle.internal_storage.specs.Replies.{appended};
+ghost use Rattle.state_cache.specs.Run.{outcome, run, indexSaid};
+ghost use Rattle.internal_storage.specs.Replies.{appendSaid};
 
-pub fn flush_batch(index: IndexRecord, log: &[u64], snapshot: &[u64]) -> AcceptedAt
-    ensures { λ r. ⌜ outcome (accepted (r .answer)) (raw (r .index) (now (log .entry)) (now (snapshot .entry))) ≡ run flush true (raw index (now (log .entry)) (now (snapshot .entry))) ⌝ }
+pub fn flush_batch(index: IndexRecord, log: &[u64], snapshot: &[u64]) -> IndexAnswerAt
+    ensures { λ r. ⌜ outcome (indexSaid (r .answer)) (raw (r .index) (now (log .entry)) (now (snapshot .entry))) ≡ run flush true (raw index (now (log .entry)) (now (snapshot .entry))) ⌝ }
 {
     if !state_cache::well_formed(index, log, snapshot) {
-        return AcceptedAt {
-            answer: Accepted::Refused(Refusal::IllFormed),
+        return IndexAnswerAt {
+            answer: IndexAnswer::Refused(Refusal::IllFormed),
             index,
         };
     }
@@ -25,7 +25,7 @@ pub fn flush_batch(index: IndexRecord, log: &[u64], snapshot: &[u64]) -> Accepte
 }
 
 pub fn flush_batch_and_get_entries(index: IndexRecord, log: &[u64], snapshot: &[u64]) -> AppendedAt
-    ensures { λ r. ⌜ outcome (appended (r .answer)) (raw (r .index) (now (log .entry)) (now (snapshot .entry))) ≡ run flushEntries true (raw index (now (log .entry)) (now (snapshot .entry))) ⌝ }
+    ensures { λ r. ⌜ outcome (appendSaid (r .answer)) (raw (r .index) (now (log .entry)) (now (snapshot .entry))) ≡ run flushEntries true (raw index (now (log .entry)) (now (snapshot .entry))) ⌝ }
 {
     if !state_cache::well_formed(index, log, snapshot) {
         return AppendedAt {

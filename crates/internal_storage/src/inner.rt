@@ -4,8 +4,8 @@ use super::Appended;
 use super::AppendedAt;
 use entry::LogIndex;
 use entry::Refusal;
-use state_cache::Accepted;
-use state_cache::AcceptedAt;
+use state_cache::IndexAnswer;
+use state_cache::IndexAnswerAt;
 use state_cache::IndexRecord;
 ghost use mathlib.Core.Path.{_≡_};
 ghost use Prim.Native.Nat.{_+_, _≤_};
@@ -17,8 +17,8 @@ ghost use Rattle.model.specs.Append.{appendGuards};
 ghost use Rattle.model.specs.Calls.{append, appendNow};
 ghost use Rattle.model.specs.Inner.{Sound};
 ghost use Rattle.state_cache.specs.State.{raw, numbersIn};
-ghost use Rattle.state_cache.specs.Run.{outcome, run, accepted};
-ghost use Rattle.internal_storage.specs.Replies.{appended};
+ghost use Rattle.state_cache.specs.Run.{outcome, run, indexSaid};
+ghost use Rattle.internal_storage.specs.Replies.{appendSaid};
 ghost use Rattle.internal_storage.specs.Inner.{verdictOf, batchedWith, Appends};
 
 pub mod append;
@@ -71,7 +71,7 @@ pub fn batch_with(index: IndexRecord, n: usize) -> AppendedAt
     }
     next.batched = waiting;
     AppendedAt {
-        answer: Appended::Held,
+        answer: Appended::Nothing,
         index: next,
     }
 }
@@ -85,7 +85,7 @@ pub fn append_at(
     n: usize,
 ) -> AppendedAt
     requires { ⌜ Appends (raw index (now log) (now snapshot)) n (now entries) ⌝ }
-    ensures { λ r. ⌜ outcome (appended (r .answer)) (raw (r .index) (now (log .exit)) (now (snapshot .entry))) ≡ run (append (entriesOf n (now (entries .entry)))) true (raw index (now (log .entry)) (now (snapshot .entry))) ⌝ }
+    ensures { λ r. ⌜ outcome (appendSaid (r .answer)) (raw (r .index) (now (log .exit)) (now (snapshot .entry))) ≡ run (append (entriesOf n (now (entries .entry)))) true (raw index (now (log .entry)) (now (snapshot .entry))) ⌝ }
 {
     let check = check_append(index, n);
     if let Check::Refused(refusal) = check {
@@ -106,14 +106,14 @@ pub fn append_now_at(
     snapshot: &[u64],
     entries: &[u64],
     n: usize,
-) -> AcceptedAt
+) -> IndexAnswerAt
     requires { ⌜ Appends (raw index (now log) (now snapshot)) n (now entries) ⌝ }
-    ensures { λ r. ⌜ outcome (accepted (r .answer)) (raw (r .index) (now (log .exit)) (now (snapshot .entry))) ≡ run (appendNow (entriesOf n (now (entries .entry)))) true (raw index (now (log .entry)) (now (snapshot .entry))) ⌝ }
+    ensures { λ r. ⌜ outcome (indexSaid (r .answer)) (raw (r .index) (now (log .exit)) (now (snapshot .entry))) ≡ run (appendNow (entriesOf n (now (entries .entry)))) true (raw index (now (log .entry)) (now (snapshot .entry))) ⌝ }
 {
     let check = check_append(index, n);
     if let Check::Refused(refusal) = check {
-        return AcceptedAt {
-            answer: Accepted::Refused(refusal),
+        return IndexAnswerAt {
+            answer: IndexAnswer::Refused(refusal),
             index,
         };
     }
@@ -122,8 +122,8 @@ pub fn append_now_at(
     let mut next = index;
     next.retained = index.retained + n;
     let last = state_cache::inner::accepted(next);
-    AcceptedAt {
-        answer: Accepted::At(LogIndex(last)),
+    IndexAnswerAt {
+        answer: IndexAnswer::At(LogIndex(last)),
         index: next,
     }
 }

@@ -24,7 +24,7 @@ pub use stop::set_stopsign;
 // What an append with batching says: the entries wait in the batch, or the whole batch is flushed. The flushed entries are the last
 // so many of those retained.
 pub enum Appended {
-    Held,
+    Nothing,
     Flushed { accepted: LogIndex, entries: usize },
     Refused(Refusal),
 }
@@ -35,13 +35,13 @@ pub struct AppendedAt {
 }
 
 // The same with the accepted index alone, where the batch is flushed.
-pub enum AcceptedIdx {
-    Held,
+pub enum MaybeIndex {
+    Nothing,
     At(LogIndex),
     Refused(Refusal),
 }
 
-pub struct AcceptedIdxAt {
-    pub answer: AcceptedIdx,
+pub struct MaybeIndexAt {
+    pub answer: MaybeIndex,
     pub index: IndexRecord,
 }

@@ -3,15 +3,15 @@ use super::Appended;
 use super::AppendedAt;
 use entry::Refusal;
 use entry::StopSign;
-use state_cache::Accepted;
-use state_cache::AcceptedAt;
+use state_cache::IndexAnswer;
+use state_cache::IndexAnswerAt;
 use state_cache::IndexRecord;
 ghost use mathlib.Core.Path.{_≡_};
 ghost use mathlib.Core.Bool.{true};
 ghost use Rattle.model.specs.Calls.{appendStop, setStop};
 ghost use Rattle.state_cache.specs.State.{raw};
-ghost use Rattle.state_cache.specs.Run.{outcome, run, accepted};
-ghost use Rattle.internal_storage.specs.Replies.{appended, asked};
+ghost use Rattle.state_cache.specs.Run.{outcome, run, indexSaid};
+ghost use Rattle.internal_storage.specs.Replies.{appendSaid, asked};
 
 pub fn append_stopsign(
     index: IndexRecord,
@@ -19,7 +19,7 @@ pub fn append_stopsign(
     snapshot: &[u64],
     ss: StopSign,
 ) -> AppendedAt
-    ensures { λ r. ⌜ outcome (appended (r .answer)) (raw (r .index) (now (log .entry)) (now (snapshot .entry))) ≡ run (appendStop ss) true (raw index (now (log .entry)) (now (snapshot .entry))) ⌝ }
+    ensures { λ r. ⌜ outcome (appendSaid (r .answer)) (raw (r .index) (now (log .entry)) (now (snapshot .entry))) ≡ run (appendStop ss) true (raw index (now (log .entry)) (now (snapshot .entry))) ⌝ }
 {
     if !state_cache::well_formed(index, log, snapshot) {
         return AppendedAt {
@@ -37,12 +37,12 @@ pub fn set_stopsign(
     snapshot: &[u64],
     held: bool,
     ss: StopSign,
-) -> AcceptedAt
-    ensures { λ r. ⌜ outcome (accepted (r .answer)) (raw (r .index) (now (log .entry)) (now (snapshot .entry))) ≡ run (setStop (asked held ss)) true (raw index (now (log .entry)) (now (snapshot .entry))) ⌝ }
+) -> IndexAnswerAt
+    ensures { λ r. ⌜ outcome (indexSaid (r .answer)) (raw (r .index) (now (log .entry)) (now (snapshot .entry))) ≡ run (setStop (asked held ss)) true (raw index (now (log .entry)) (now (snapshot .entry))) ⌝ }
 {
     if !state_cache::well_formed(index, log, snapshot) {
-        return AcceptedAt {
-            answer: Accepted::Refused(Refusal::IllFormed),
+        return IndexAnswerAt {
+            answer: IndexAnswer::Refused(Refusal::IllFormed),
             index,
         };
     }

@@ -13,7 +13,7 @@ use Rattle.words.specs.All.{allOf}
 use Rattle.words.proofs.Tests.{and-left, and-right, both-true}
 use Rattle.words.proofs.Alls.{all-take}
 use Rattle.entry.specs.Limits.{entryRoom, keyRoom, lastIndex, largestBatch}
-use Rattle.entry.specs.Change.{Change, changeFormed, formed}
+use Rattle.entry.specs.Change.{Change, changeFormed, entriesFormed}
 use Rattle.entry.specs.Sign.{signFormed}
 use Rattle.snapshot.specs.Folds.{merge, rising}
 use Rattle.snapshot.proofs.Algebra.{merge-rises}
@@ -107,8 +107,8 @@ ranges n f =
 
 pub record Formed (s : Log) : Type 0 where
   pub numbers : Sound (numbersOf s)
-  pub entries : formed (s .run .retained) ≡ true
-  pub batch : formed (s .tail .batched) ≡ true
+  pub entries : entriesFormed (s .run .retained) ≡ true
+  pub batch : entriesFormed (s .tail .batched) ≡ true
   pub shot : ifGiven shotFormed (s .run .held) ≡ true
   pub stop : ifGiven signFormed (s .tail .sign) ≡ true
 
@@ -116,8 +116,8 @@ pub formed-of : (s : Log) → wellFormed s ≡ true → Formed s
 unfolding wellFormed
 formed-of s e =
     let e₁ = and-right (numbersFormed (numbersOf s)) _ e in
-    let e₂ = and-right (formed (s .run .retained)) _ e₁ in
-    let e₃ = and-right (formed (s .tail .batched)) _ e₂ in
+    let e₂ = and-right (entriesFormed (s .run .retained)) _ e₁ in
+    let e₃ = and-right (entriesFormed (s .tail .batched)) _ e₂ in
     record {
       numbers = sound-of (numbersOf s) (and-left _ _ e);
       entries = and-left _ _ e₁;
@@ -130,28 +130,28 @@ pub of-formed : (s : Log) → Formed s → wellFormed s ≡ true
 unfolding wellFormed
 of-formed s f =
     both-true (numbersFormed (numbersOf s)) _ (of-sound (numbersOf s) (f .numbers))
-    (both-true (formed (s .run .retained)) _ (f .entries)
-    (both-true (formed (s .tail .batched)) _ (f .batch) (both-true (ifGiven shotFormed (s .run .held)) _ (f .shot) (f .stop))))
+    (both-true (entriesFormed (s .run .retained)) _ (f .entries)
+    (both-true (entriesFormed (s .tail .batched)) _ (f .batch) (both-true (ifGiven shotFormed (s .run .held)) _ (f .shot) (f .stop))))
 
 -- ---- snapshots: the one held, and those made from it
 
 pub record Shot (t : List Change) : Type 0 where
   pub rises : rising t ≡ true
-  pub fine : formed t ≡ true
+  pub fine : entriesFormed t ≡ true
 
 pub shot-held : (h : Option (List Change)) → ifGiven shotFormed h ≡ true → Shot (orEmpty h)
 unfolding shotFormed rising allOf
 shot-held none e = record { rises = refl; fine = refl }
 shot-held (some t) e =
-    let q = and-right (rising t) (leb (length t) keyRoom && formed t) e in
-    record { rises = and-left (rising t) (leb (length t) keyRoom && formed t) e; fine = and-right (leb (length t) keyRoom) (formed t) q }
+    let q = and-right (rising t) (leb (length t) keyRoom && entriesFormed t) e in
+    record { rises = and-left (rising t) (leb (length t) keyRoom && entriesFormed t) e; fine = and-right (leb (length t) keyRoom) (entriesFormed t) q }
 
-pub shot-merge : (t r : List Change) → Shot t → formed r ≡ true → Shot (merge t r)
+pub shot-merge : (t r : List Change) → Shot t → entriesFormed r ≡ true → Shot (merge t r)
 shot-merge t r a b = record { rises = merge-rises t r (a .rises); fine = formed-merge t r (a .fine) b }
 
 pub of-shot : (t : List Change) → Shot t → length t ≤ keyRoom → shotFormed t ≡ true
 unfolding shotFormed
-of-shot t a h = both-true (rising t) _ (a .rises) (both-true (leb (length t) keyRoom) (formed t) (le-leb (length t) keyRoom h) (a .fine))
+of-shot t a h = both-true (rising t) _ (a .rises) (both-true (leb (length t) keyRoom) (entriesFormed t) (le-leb (length t) keyRoom h) (a .fine))
 
 pub shot-folded : (i : ℕ) (s : Log) → Formed s → Shot (foldedTo i (s .run))
 unfolding foldedTo

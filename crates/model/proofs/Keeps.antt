@@ -1,4 +1,4 @@
--- Every call leaves a well-formed state well formed: so refusal 12 is given to no state that a fresh log comes to.
+-- Every call leaves a well-formed state well entriesFormed: so refusal 12 is given to no state that a fresh log comes to.
 use Prim.Native.Nat.{ℕ, _+_, _-_, _≤_, min, max}
 use mathlib.Core.Path.{_≡_, refl}
 use mathlib.Core.Bool.{Bool, true, false, _&&_}
@@ -13,7 +13,7 @@ use Rattle.words.specs.All.{allOf}
 use Rattle.words.proofs.Tests.{and-left, and-right, or-left, or-right, either}
 use Rattle.words.proofs.Alls.{all-join, all-take, all-drop}
 use Rattle.entry.specs.Limits.{entryRoom, keyRoom, lastIndex, largestBatch}
-use Rattle.entry.specs.Change.{Change, changeFormed, formed}
+use Rattle.entry.specs.Change.{Change, changeFormed, entriesFormed}
 use Rattle.entry.specs.Sign.{signFormed}
 use Rattle.entry.specs.Guards.{Verdict, passes, refuses, first}
 use Rattle.entry.specs.declared.Ballot.{Ballot}
@@ -22,7 +22,7 @@ use Rattle.entry.proofs.GuardLaws.{Passed, passed, passed-right, Clear, clear}
 use Rattle.model.specs.Numbers.{Numbers, endOf, acceptedOf, stopDecided, logDecided}
 use Rattle.model.specs.Log.{Log, given, ifGiven, numbersOf, foldedTo, shotFormed, wellFormed, withMarks, deciding, freshLog}
 use Rattle.model.specs.Append.{appendGuards, appendStopGuards, setStopGuards, joined, batchWith, fills, appended, appendedNow, flushed, stopAppended, stopSet, reloaded}
-use Rattle.model.specs.Backend.{Op, Lent, Midst, step, steps, stepGuards, lastGuards, opGuards, midst, writeGuards, written}
+use Rattle.model.specs.Backend.{Op, Lent, Midst, step, steps, stepGuards, lastGuards, opGuards, midst, writeGuards, listWritten}
 use Rattle.model.specs.Compact.{target, passesStart, foldedUpto, snapshotGuards, movedTo, trimmedTo, snapshotTo}
 use Rattle.model.specs.Diff.{Given, plain, complete, delta}
 use Rattle.model.specs.Sync.{Part, partFormed, deltaOnto, runThen, partNumberGuards, partGuards, roundGuards, partSynced}
@@ -55,7 +55,7 @@ pub target-range : (upto : Option ℕ) (n : Numbers) → target upto n ≤ logDe
 target-range none n = unfold target in omega arith
 target-range (some i) n = omega (arith, target-least i n)
 
-nothing-formed : formed [] ≡ true
+nothing-formed : entriesFormed [] ≡ true
 unfolding allOf
 nothing-formed = refl
 
@@ -71,7 +71,7 @@ part i g es z = record { idx = i; snapshot = g; suffix = es; stop = z }
 
 module _ (s : Log) (f : Formed s) where
   -- entries joined to the run, and a batch
-  joined-keeps : (new batch : List Change) → formed new ≡ true → formed batch ≡ true
+  joined-keeps : (new batch : List Change) → entriesFormed new ≡ true → entriesFormed batch ≡ true
       → acceptedOf (numbersOf s) + length new + length batch ≤ lastIndex → length batch ≤ s .tail .size - 1
       → (given (s .tail .sign) ≡ true → length batch ≡ 0) → length (s .run .retained) + length new + length batch ≤ entryRoom
       → Formed (joined new batch s)
@@ -95,7 +95,7 @@ module _ (s : Log) (f : Formed s) where
         stop = f .stop;
       }
 
-  append-keeps : (es : List Change) → formed es ≡ true → Clear (appendGuards (length es) (numbersOf s)) → Formed (appended es s)
+  append-keeps : (es : List Change) → entriesFormed es ≡ true → Clear (appendGuards (length es) (numbersOf s)) → Formed (appended es s)
   unfolding appended appendGuards fills acceptedOf endOf
   append-keeps es e clr =
       either Formed (fills es s) _ _
@@ -116,7 +116,7 @@ module _ (s : Log) (f : Formed s) where
         stop = f .stop;
       })
     where
-      all : formed (batchWith es s) ≡ true
+      all : entriesFormed (batchWith es s) ≡ true
       all = all-join changeFormed (s .tail .batched) es (f .batch) e
 
       index : acceptedOf (numbersOf s) + length (s .tail .batched) + length es ≤ lastIndex
@@ -128,7 +128,7 @@ module _ (s : Log) (f : Formed s) where
       never : given (s .tail .sign) ≡ true → length (batchWith es s) ≡ 0
       never q = let z : _≡_ {A = ℕ} 0 1 = cc (clr 4) in omega arith
 
-  now-keeps : (es : List Change) → formed es ≡ true → Clear (appendGuards (length es) (numbersOf s)) → Formed (appendedNow es s)
+  now-keeps : (es : List Change) → entriesFormed es ≡ true → Clear (appendGuards (length es) (numbersOf s)) → Formed (appendedNow es s)
   unfolding appendedNow appendGuards
   now-keeps es e clr =
       joined-keeps es (s .tail .batched) e (f .batch)
@@ -239,7 +239,7 @@ module _ (s : Log) (f : Formed s) where
       moved-keeps upto (some all) (λ e. of-shot all (shot-folded _ s f) (ltb-false keyRoom (length all) (rw e at (clr 8))))
 
   -- the whole record of a sync with a log part: where the run starts, how long it is, and what is held before it
-  part-formed : (b : Ballot) (d : ℕ) (p : Part) → formed (runThen p s .retained) ≡ true → ifGiven shotFormed (runThen p s .held) ≡ true → ifGiven signFormed (p .stop) ≡ true
+  part-formed : (b : Ballot) (d : ℕ) (p : Part) → entriesFormed (runThen p s .retained) ≡ true → ifGiven shotFormed (runThen p s .held) ≡ true → ifGiven signFormed (p .stop) ≡ true
       → runThen p s .compacted + length (runThen p s .retained) ≡ p .idx + length (p .suffix)
       → runThen p s .compacted ≤ max d (s .marks .decided)
       → length (runThen p s .retained) + length (s .tail .batched) ≤ entryRoom
@@ -266,37 +266,37 @@ module _ (s : Log) (f : Formed s) where
       → Clear (partGuards d (part i g es z) s) → Formed (partSynced b d (part i g es z) s)
   unfolding partFormed partNumberGuards partGuards runThen endOf
   part-cases b d i plain es z w clr =
-      let v : formed es ≡ true = and-left (formed es) (ifGiven signFormed z) w in
+      let v : entriesFormed es ≡ true = and-left (entriesFormed es) (ifGiven signFormed z) w in
       let low : s .run .compacted ≤ i = ltb-false i (s .run .compacted) (or-left (ltb i (s .run .compacted)) (ltb (endOf (numbersOf s)) i) (clr 7)) in
       let high : i ≤ endOf (numbersOf s) = ltb-false (endOf (numbersOf s)) i (or-right (ltb i (s .run .compacted)) (ltb (endOf (numbersOf s)) i) (clr 7)) in
       let long : length (take (i - s .run .compacted) (s .run .retained) ++ es) ≡ i - s .run .compacted + length es = simp (length-append, length-take) (omega arith) in
       part-formed b d (part i plain es z)
       (all-join changeFormed (take (i - s .run .compacted) (s .run .retained)) es (all-take changeFormed (i - s .run .compacted) (s .run .retained) (f .entries)) v)
       (f .shot)
-      (and-right (formed es) (ifGiven signFormed z) w)
+      (and-right (entriesFormed es) (ifGiven signFormed z) w)
       (omega arith)
       (omega (arith, f .numbers .low))
       (omega (arith, ltb-false entryRoom (i - s .run .compacted + length es + length (s .tail .batched)) (clr 1)))
       clr
   part-cases b d i (complete c) es z w clr =
-      let v = and-right (shotFormed c) (formed es && ifGiven signFormed z) w in
+      let v = and-right (shotFormed c) (entriesFormed es && ifGiven signFormed z) w in
       part-formed b d (part i (complete c) es z)
-      (and-left (formed es) (ifGiven signFormed z) v)
+      (and-left (entriesFormed es) (ifGiven signFormed z) v)
       (and-left (shotFormed c) _ w)
-      (and-right (formed es) (ifGiven signFormed z) v)
+      (and-right (entriesFormed es) (ifGiven signFormed z) v)
       refl
       (ltb-false (max d (s .marks .decided)) i (clr 2))
       (omega (arith, ltb-false entryRoom (0 + length es + length (s .tail .batched)) (clr 1)))
       clr
   part-cases b d i (delta c) es z w clr =
-      let v = and-right (shotFormed c) (formed es && ifGiven signFormed z) w in
+      let v = and-right (shotFormed c) (entriesFormed es && ifGiven signFormed z) w in
       let base = foldedTo (logDecided (numbersOf s)) (s .run) in
       part-formed b d (part i (delta c) es z)
-      (and-left (formed es) (ifGiven signFormed z) v)
+      (and-left (entriesFormed es) (ifGiven signFormed z) v)
       (of-shot (deltaOnto c s)
       (unfold deltaOnto in shot-merge base c (shot-folded (logDecided (numbersOf s)) s f) (shot-held (some c) (and-left (shotFormed c) _ w) .fine))
       (ltb-false keyRoom (length (deltaOnto c s)) (clr 8)))
-      (and-right (formed es) (ifGiven signFormed z) v)
+      (and-right (entriesFormed es) (ifGiven signFormed z) v)
       refl
       (ltb-false (max d (s .marks .decided)) i (clr 2))
       (omega (arith, ltb-false entryRoom (0 + length es + length (s .tail .batched)) (clr 1)))
@@ -340,8 +340,8 @@ steps-keep n l [] m p =
     unfold lastGuards in and-right (eqb (m .start) (m .log .run .compacted)) (wellFormed (m .log)) (not-false _ (p .1 .0))
 steps-keep n l (o ∷ ops) m p = steps-keep n l ops (step l o m) (passed-right (stepGuards n l o m) (opGuards n l ops (step l o m)) p)
 
-write-keeps : (l : Lent) (ops : List Op) (s : Log) → Passed (writeGuards l ops s) → wellFormed (written l ops s) ≡ true
-unfolding writeGuards written
+write-keeps : (l : Lent) (ops : List Op) (s : Log) → Passed (writeGuards l ops s) → wellFormed (listWritten l ops s) ≡ true
+unfolding writeGuards listWritten
 write-keeps l ops s p = steps-keep (numbersOf s) l ops (midst s) p
 
 decide-keeps : (i : ℕ) (s : Log) → Formed s → Clear (decideGuards i (numbersOf s)) → Formed (withMarks (deciding i (s .marks)) s)
@@ -362,8 +362,8 @@ cleared c s p = clear (further c s) (p .1 .1)
 keeps : (c : Call) (s : Log) → Formed s → Passed (guards c s) → wellFormed (effect c s) ≡ true
 unfolding further malformed effect
 keeps (query q) s f p = of-formed s f
-keeps (append es) s f p = of-formed _ (append-keeps s f es (not-false (formed es) (argued (append es) s p)) (cleared (append es) s p))
-keeps (appendNow es) s f p = of-formed _ (now-keeps s f es (not-false (formed es) (argued (appendNow es) s p)) (cleared (appendNow es) s p))
+keeps (append es) s f p = of-formed _ (append-keeps s f es (not-false (entriesFormed es) (argued (append es) s p)) (cleared (append es) s p))
+keeps (appendNow es) s f p = of-formed _ (now-keeps s f es (not-false (entriesFormed es) (argued (appendNow es) s p)) (cleared (appendNow es) s p))
 keeps flush s f p = of-formed _ (flush-keeps s f)
 keeps flushEntries s f p = of-formed _ (flush-keeps s f)
 keeps (appendStop g) s f p = of-formed _ (stop-keeps g s f (not-false (signFormed g) (argued (appendStop g) s p)) (cleared (appendStop g) s p))

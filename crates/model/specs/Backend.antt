@@ -8,7 +8,7 @@ use lib.ListN.{length, take, drop}
 use Rattle.words.specs.If.{if_then_else_}
 use Rattle.words.specs.All.{allOf}
 use Rattle.entry.specs.Limits.{entryRoom, lastIndex, mostOps}
-use Rattle.entry.specs.Change.{Change, formed}
+use Rattle.entry.specs.Change.{Change, entriesFormed}
 use Rattle.entry.specs.Sign.{signFormed}
 use Rattle.entry.specs.Guards.{Guard, guard}
 use Rattle.entry.specs.declared.Ballot.{Ballot}
@@ -45,7 +45,7 @@ supplied l (setSnapshot t) = not t || given (l .snapshot)
 unfoldable pub opsFormed : Lent → List Op → Bool
 opsFormed l ops =
     (leb 1 (length ops) && leb (length ops) mostOps)
-    && (formed (l .entries)
+    && (entriesFormed (l .entries)
     && (ifGiven shotFormed (l .snapshot) && (ifGiven signFormed (l .sign) && allOf (supplied l) ops)))
 
 -- a state in the midst of a list: the run's start may not be compacted
@@ -100,7 +100,7 @@ stepGuards n l (setRound b) m = []
 stepGuards n l (setSign t) m = []
 stepGuards n l (setSnapshot t) m = []
 
--- "after the last: 9; then 12 if the run's start isn't compacted or the state isn't well formed"
+-- "after the last: 9; then 12 if the run's start isn't compacted or the state isn't well entriesFormed"
 unfoldable pub lastGuards : Numbers → Midst → List Guard
 lastGuards n m =
     guard 9 (acceptedOf n) (ltb lastIndex (acceptedOf (numbersOf (m .log)) + length (m .log .tail .batched)))
@@ -118,5 +118,5 @@ midst s = record { start = s .run .compacted; log = s }
 unfoldable pub writeGuards : Lent → List Op → Log → List Guard
 writeGuards l ops s = opGuards (numbersOf s) l ops (midst s)
 
-unfoldable pub written : Lent → List Op → Log → Log
-written l ops s = steps l ops (midst s) .log
+unfoldable pub listWritten : Lent → List Op → Log → Log
+listWritten l ops s = steps l ops (midst s) .log

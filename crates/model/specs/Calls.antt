@@ -4,7 +4,7 @@ use mathlib.Core.Bool.{Bool, false, _||_, not}
 use mathlib.Core.List.{List, [], _∷_}
 use mathlib.Core.Option.{Option, none, some}
 use lib.Dec.{ltb}
-use Rattle.entry.specs.Change.{Change, formed}
+use Rattle.entry.specs.Change.{Change, entriesFormed}
 use Rattle.entry.specs.Sign.{signFormed}
 use Rattle.entry.specs.Guards.{Guard, guard, Verdict, passes, refuses, first, Answer, settle}
 use Rattle.entry.specs.declared.Ballot.{Ballot}
@@ -12,7 +12,7 @@ use Rattle.entry.specs.declared.StopSign.{StopSign}
 use Rattle.model.specs.Numbers.{Numbers, acceptedOf, logDecided}
 use Rattle.model.specs.Log.{Log, given, ifGiven, numbersOf, wellFormed, deciding, promising, withMarks}
 use Rattle.model.specs.Append.{appendGuards, appendStopGuards, setStopGuards, appended, appendedNow, flushed, stopAppended, stopSet, reloaded, Flushed, appendReply, flushReply}
-use Rattle.model.specs.Backend.{Op, Lent, opsFormed, writeGuards, written}
+use Rattle.model.specs.Backend.{Op, Lent, opsFormed, writeGuards, listWritten}
 use Rattle.model.specs.Read.{Bound, startPast, stopPast, Span, Shown}
 use Rattle.model.specs.Read.{readReply, decidedSuffix, entriesBetween, suffixFrom}
 use Rattle.model.specs.Compact.{trimGuards, snapshotGuards, createGuards, created, trimmedTo, snapshotTo}
@@ -85,8 +85,8 @@ queryMalformed (getEntries i j) = false
 
 unfoldable pub malformed : Call → Bool
 malformed (query q) = queryMalformed q
-malformed (append es) = not (formed es)
-malformed (appendNow es) = not (formed es)
+malformed (append es) = not (entriesFormed es)
+malformed (appendNow es) = not (entriesFormed es)
 malformed flush = false
 malformed flushEntries = false
 malformed (appendStop g) = not (signFormed g)
@@ -155,7 +155,7 @@ effect (trim i) s = trimmedTo (some i) s
 effect (snapshot i) s = snapshotTo i s
 effect (sync b d p) s = synced b d p s
 effect reload s = reloaded s
-effect (write l ops) s = written l ops s
+effect (write l ops) s = listWritten l ops s
 
 -- its reply; where that is the accepted index, it is the one after the call
 unfoldable pub queryReply : (q : Query) → Log → QueryReply q

@@ -7,7 +7,7 @@ use mathlib.Core.Option.{Option, none, some}
 use lib.Dec.{leb}
 use lib.ListN.{length, take}
 use Rattle.entry.specs.Limits.{keyRoom}
-use Rattle.entry.specs.Change.{Change, formed}
+use Rattle.entry.specs.Change.{Change, entriesFormed}
 use Rattle.entry.specs.Sign.{signFormed}
 use Rattle.entry.specs.declared.Ballot.{Ballot}
 use Rattle.entry.specs.declared.StopSign.{StopSign}
@@ -60,7 +60,7 @@ foldedTo i r = merge (orEmpty (r .held)) (take (i - r .compacted) (r .retained))
 
 -- forms: of a snapshot, of what may be given, and of a whole state
 unfoldable pub shotFormed : List Change → Bool
-shotFormed s = rising s && (leb (length s) keyRoom && formed s)
+shotFormed s = rising s && (leb (length s) keyRoom && entriesFormed s)
 
 abbrev pub ifGiven : {A : Type 0} → (A → Bool) → Option A → Bool
 ifGiven f none = true
@@ -69,8 +69,8 @@ ifGiven f (some a) = f a
 unfoldable pub wellFormed : Log → Bool
 wellFormed s =
     numbersFormed (numbersOf s)
-    && (formed (s .run .retained)
-    && (formed (s .tail .batched) && (ifGiven shotFormed (s .run .held) && ifGiven signFormed (s .tail .sign))))
+    && (entriesFormed (s .run .retained)
+    && (entriesFormed (s .tail .batched) && (ifGiven shotFormed (s .run .held) && ifGiven signFormed (s .tail .sign))))
 
 -- parts with one field set, and states with one part set
 abbrev pub compactedAt : ℕ → Run → Run

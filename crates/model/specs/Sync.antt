@@ -7,7 +7,7 @@ use lib.Dec.{ltb}
 use lib.ListN.{length, take}
 use Rattle.words.specs.If.{if_then_else_}
 use Rattle.entry.specs.Limits.{entryRoom, lastIndex}
-use Rattle.entry.specs.Change.{Change, formed}
+use Rattle.entry.specs.Change.{Change, entriesFormed}
 use Rattle.entry.specs.Sign.{signFormed}
 use Rattle.entry.specs.Guards.{Guard, guard}
 use Rattle.entry.specs.declared.Ballot.{Ballot}
@@ -26,7 +26,7 @@ pub record Part : Type 0 where
   pub stop : Option StopSign
 
 unfoldable pub partFormed : Part → Bool
-partFormed p = ifGiven shotFormed (snapshotIn (p .snapshot)) && (formed (p .suffix) && ifGiven signFormed (p .stop))
+partFormed p = ifGiven shotFormed (snapshotIn (p .snapshot)) && (entriesFormed (p .suffix) && ifGiven signFormed (p .stop))
 
 abbrev pub plain? : Given → Bool
 plain? plain = true

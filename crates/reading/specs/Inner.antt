@@ -17,7 +17,7 @@ use Rattle.reading.specs.declared.ReadReply.the-variants.{Nothing, Run}
 use Rattle.reading.specs.declared.inner.IndexEntry.{IndexEntry}
 use Rattle.reading.specs.declared.inner.IndexEntry.the-variants.{Compacted, Entry, StopSign}
 use Rattle.reading.specs.declared.inner.Kind.{Kind}
-use Rattle.reading.specs.declared.inner.Kind.the-variants.{Nothing as NoKind, Held}
+use Rattle.reading.specs.declared.inner.Kind.the-variants.{Nothing as NoKind, Is}
 
 -- "Without a stop-sign the last index is an ordinary entry"
 abbrev pub entryIs : Numbers → ℕ → IndexEntry → Type 0
@@ -27,7 +27,7 @@ entryIs n i StopSign = (endOf n ≤ i) × (i < acceptedOf n)
 
 abbrev pub kindIs : Numbers → ℕ → Kind → Type 0
 kindIs n i NoKind = acceptedOf n ≤ i
-kindIs n i (Held e) = entryIs n i e
+kindIs n i (Is e) = entryIs n i e
 
 -- "an empty run if the interval isn't wholly held"
 unfoldable pub spanIn : ℕ → ℕ → Numbers → Span

@@ -92,7 +92,7 @@ pub fn look(index: IndexRecord, log: &[u64], snapshot: &[u64], key: u64) -> Foun
     let Newest::At(i) = newest else {
         return snapshot::inner::look_up(snapshot, index.keys, key);
     };
-    snapshot::inner::told(entry::inner::said_at(log, i))
+    snapshot::inner::found_of(entry::inner::said_at(log, i))
 }
 
 // Where the entries from one index up to another stand among those retained.
@@ -167,7 +167,7 @@ pub enum IndexEntry {
 
 pub enum Kind {
     Nothing,
-    Held(IndexEntry),
+    Is(IndexEntry),
 }
 
 pub fn kind_at(index: IndexRecord, i: u64) -> Kind
@@ -178,13 +178,13 @@ pub fn kind_at(index: IndexRecord, i: u64) -> Kind
     let end = state_cache::inner::end(index);
     let last = state_cache::inner::accepted(index);
     if i < low {
-        return Kind::Held(IndexEntry::Compacted);
+        return Kind::Is(IndexEntry::Compacted);
     }
     if i < end {
-        return Kind::Held(IndexEntry::Entry);
+        return Kind::Is(IndexEntry::Entry);
     }
     if i < last {
-        return Kind::Held(IndexEntry::StopSign);
+        return Kind::Is(IndexEntry::StopSign);
     }
     Kind::Nothing
 }
@@ -261,7 +261,7 @@ fn read_from(index: IndexRecord, from: u64, to: u64) -> ReadReply
     ensures { λ r. ⌜ r ≡ readIn from to index ⌝ }
 {
     let kind = kind_at(index, from);
-    let Kind::Held(entry) = kind else {
+    let Kind::Is(entry) = kind else {
         return ReadReply::Nothing;
     };
     if to <= from {
@@ -279,7 +279,7 @@ pub fn read_at(index: IndexRecord, from: u64, to: u64) -> ReadReply
         return ReadReply::Nothing;
     }
     let kind = kind_at(index, to - 1);
-    let Kind::Held(entry) = kind else {
+    let Kind::Is(entry) = kind else {
         return ReadReply::Nothing;
     };
     match entry {

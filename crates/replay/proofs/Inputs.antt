@@ -18,7 +18,7 @@ use Rattle.text.specs.Lines.{Lines, lineEnded, restWith, linesFrom, linesOf, la
 use Rattle.text.specs.Feeding.{come, fitting, joined, nextAt}
 use Rattle.text.proofs.Long.{too-long}
 use Rattle.text.proofs.LineLaws.{joined-fitting}
-use Rattle.replay.specs.Answering.{Told, told, answering}
+use Rattle.replay.specs.Answering.{Printout, printout, answering}
 use Rattle.text.specs.Rooms.{inputLine}
 use Rattle.replay.specs.Feeding.{meaning, lastStart, after}
 use Rattle.replay.specs.Input.{replayed, start, Reached}
@@ -26,15 +26,15 @@ use Rattle.replay.specs.Input.{replayed, start, Reached}
 -- before the first byte
 pub begun : (x : Raw) (over : Bool) (len used : ℕ) (line out : List ℕ) → x ≡ rawOf (freshLog 0) → len ≡ 0 → over ≡ false → used ≡ 0 → Reached (linesOf []) x (come over len line) (take used out)
 unfolding linesFrom replayed
-begun x over len used line out e l o u = record { state = e; unended = rw (l, o); written = []; answers = rw u }
+begun x over len used line out e l o u = record { state = e; unended = rw (l, o); handed = []; answers = rw u }
 
 -- the answers that wait are handed over to be written
 pub handed-over : (ls : Lines) (x : Raw) (line : Option (List ℕ)) (waits : List ℕ) → Reached ls x line waits → Reached ls x line []
 handed-over ls x line waits st = record {
   state = st .state;
   unended = st .unended;
-  written = st .written ++ waits;
-  answers = append-nil (st .written ++ waits) ∙ st .answers;
+  handed = st .handed ++ waits;
+  answers = append-nil (st .handed ++ waits) ∙ st .answers;
 }
 
 -- a line kept as its buffer keeps it means what it means whole
@@ -46,7 +46,7 @@ meaning-whole l = go (leb (length l) inputLine) refl
     go false e = sym (too-long l (leb-false (length l) inputLine e))
 
 -- one line more
-replayed-more : (ls : List (List ℕ)) (l : List ℕ) (t : Told) → replayed (ls ++ (l ∷ [])) t ≡ after (replayed ls t .text) (answering (parseOf l) (replayed ls t .after))
+replayed-more : (ls : List (List ℕ)) (l : List ℕ) (t : Printout) → replayed (ls ++ (l ∷ [])) t ≡ after (replayed ls t .text) (answering (parseOf l) (replayed ls t .after))
 unfolding replayed
 replayed-more [] l t = refl
 replayed-more (k ∷ ls) l t = replayed-more ls l (after (t .text) (answering (parseOf k) (t .after)))
@@ -61,7 +61,7 @@ stay-or-go used out gone = go (leb used lastStart)
 
 -- a line's end: its answer is put after those that wait
 module _ (ls : Lines) (x : Raw) (line : Option (List ℕ)) (used : ℕ) (out : List ℕ) (st : Reached ls x line (take used out)) where
-  before : Told
+  before : Printout
   before = replayed (ls .ended) start
 
   answered : answering (meaning line) x ≡ answering (parseOf (ls .rest)) (before .after)
@@ -72,21 +72,21 @@ module _ (ls : Lines) (x : Raw) (line : Option (List ℕ)) (used : ℕ) (out : L
   unfolding before
   ended = rw answered (replayed-more (ls .ended) (ls .rest) start)
 
-  pub finished : (y : Raw) (text : List ℕ) (buffer : List ℕ) → told text y ≡ after (take (nextAt lastStart used) out) (answering (meaning line) x)
+  pub finished : (y : Raw) (text : List ℕ) (buffer : List ℕ) → printout text y ≡ after (take (nextAt lastStart used) out) (answering (meaning line) x)
       → Reached (lineEnded ls) y (come false 0 buffer) text
   unfolding before
   finished y text buffer e =
-      let stay = stay-or-go used out (st .written) in
+      let stay = stay-or-go used out (st .handed) in
       let u : List ℕ = answering (meaning line) x .text in
       record {
-        state = ap (λ (t : Told). t .after) e ∙ sym (ap (λ (t : Told). t .after) ended);
+        state = ap (λ (t : Printout). t .after) e ∙ sym (ap (λ (t : Printout). t .after) ended);
         unended = refl;
-        written = stay .0;
+        handed = stay .0;
         answers =
-            ap (λ (t : Told). stay .0 ++ t .text) e
+            ap (λ (t : Printout). stay .0 ++ t .text) e
             ∙ sym (append-assoc (stay .0) (take (nextAt lastStart used) out) u)
             ∙ ap (λ (l : List ℕ). l ++ u) (stay .1 ∙ st .answers)
-            ∙ sym (ap (λ (t : Told). t .text) ended);
+            ∙ sym (ap (λ (t : Printout). t .text) ended);
       }
 
 -- bytes that join the line, in a buffer of the size it has
@@ -96,7 +96,7 @@ pub kept : (ls : Lines) (x y : IndexRecord) (log snapshot : List ℕ) (line line
 kept ls x y log snapshot line line′ used used′ room out bytes i u r e st = rw (i, u) (record {
   state = st .state;
   unended = e ∙ rw (r, st .unended) (joined-fitting inputLine (ls .rest) bytes);
-  written = st .written;
+  handed = st .handed;
   answers = st .answers;
 })
 

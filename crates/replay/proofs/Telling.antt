@@ -31,7 +31,7 @@ use Rattle.reading.proofs.Showing.{lent-count}
 use Rattle.reading.proofs.Replying.{ShownLent, read-lent}
 use Rattle.reading.specs.declared.ReadReply.{ReadReply}
 use Rattle.reading.specs.declared.ShownRun.{ShownRun}
-use Rattle.replay.specs.Answering.{told, markerText, stopText, shownText, readText, inLog, readTextIn, printed, startedBy, stopLine, stoppedBy}
+use Rattle.replay.specs.Answering.{printout, markerText, stopText, shownText, readText, inLog, readTextIn, printed, startedBy, stopLine, stoppedBy}
 use Rattle.replay.specs.Feeding.{after}
 
 two : {t₁ t₂ : List ℕ} (t₀ a b : List ℕ) → t₁ ≡ t₀ ++ a → t₂ ≡ t₁ ++ b → t₂ ≡ t₀ ++ (a ++ b)
@@ -88,20 +88,20 @@ lent-text log (replied (some v)) e = ap (λ (es : List Change). shownText (shown
 -- ---- what a call's answer prints, and the state after it
 
 pub tells : {A : Type 0} (text : Answer A → List ℕ) (l : List ℕ) (a : Answer A) (x : Raw) (o : Outcome A)
-    → outcome a x ≡ o → l ≡ text a → told l x ≡ printed text o
-tells text l a x o e h = ap (λ (bs : List ℕ). told bs x) h ∙ ap (printed text) e
+    → outcome a x ≡ o → l ≡ text a → printout l x ≡ printed text o
+tells text l a x o e h = ap (λ (bs : List ℕ). printout bs x) h ∙ ap (printed text) e
 
 -- a read's answer; the state stays
 pub reads : (a b : Bound) (r : ReadReply) (x : Raw) → readSaid x r ≡ run (query (read a b)) true x .answer
-    → told (readTextIn (x .log) (readSaid x r)) x ≡ printed readText (run (query (read a b)) true x)
+    → printout (readTextIn (x .log) (readSaid x r)) x ≡ printed readText (run (query (read a b)) true x)
 reads a b r x e =
-    ap (λ (y : Answer (Option Shown)). told (readTextIn (x .log) y) x) e
-    ∙ ap (λ (bs : List ℕ). told bs x) (lent-text (x .log) (run (query (read a b)) true x .answer) (read-lent x a b))
-    ∙ ap (λ (s : Raw). told (readText (run (query (read a b)) true x .answer)) s) (sym (query-keeps (read a b) x))
+    ap (λ (y : Answer (Option Shown)). printout (readTextIn (x .log) y) x) e
+    ∙ ap (λ (bs : List ℕ). printout bs x) (lent-text (x .log) (run (query (read a b)) true x .answer) (read-lent x a b))
+    ∙ ap (λ (s : Raw). printout (readText (run (query (read a b)) true x .answer)) s) (sym (query-keeps (read a b) x))
 
 pub stops : (l : List ℕ) (a : Answer (Option Flushed)) (last : Answer ℕ) (x : Raw) (o : Outcome (Option Flushed))
-    → outcome a x ≡ o → last ≡ ofNumbers acceptedOf x → l ≡ stopLine a last → told l x ≡ stoppedBy o
-stops l a last x o e h k = ap (λ (bs : List ℕ). told bs x) (k ∙ ap (λ (i : Answer ℕ). stopLine a i) h) ∙ ap stoppedBy e
+    → outcome a x ≡ o → last ≡ ofNumbers acceptedOf x → l ≡ stopLine a last → printout l x ≡ stoppedBy o
+stops l a last x o e h k = ap (λ (bs : List ℕ). printout bs x) (k ∙ ap (λ (i : Answer ℕ). stopLine a i) h) ∙ ap stoppedBy e
 
 -- a fresh log that is refused leaves the words
 fresh-kept : (n k m : ℕ) (x : Raw) (log snapshot : List ℕ) → outcome (refused k m) x ≡ freshCall n log snapshot
@@ -114,14 +114,14 @@ fresh-kept n k m x log snapshot = go (leb n largestBatch && (eqb (length log) lo
     go false e = (ap (λ (o : Outcome (Unit {0})). o .after .log) e, ap (λ (o : Outcome (Unit {0})). o .after .snapshot) e)
 
 pub starts : (n : ℕ) (x old : Raw) → outcome (replied tt) x ≡ freshCall n (old .log) (old .snapshot)
-    → told (lineOf Done) x ≡ startedBy (freshCall n (old .log) (old .snapshot)) old
+    → printout (lineOf Done) x ≡ startedBy (freshCall n (old .log) (old .snapshot)) old
 starts n x old e = ap (λ (o : Outcome (Unit {0})). startedBy o old) e
 
 pub stays : (n said k m : ℕ) (x old : Raw) → outcome (refused k m) x ≡ freshCall n (old .log) (old .snapshot) → said ≡ k
-    → told (lineOf (Refused said)) (raw (old .index) (x .log) (x .snapshot)) ≡ startedBy (freshCall n (old .log) (old .snapshot)) old
+    → printout (lineOf (Refused said)) (raw (old .index) (x .log) (x .snapshot)) ≡ startedBy (freshCall n (old .log) (old .snapshot)) old
 stays n said k m x old e h =
     let kept = fresh-kept n k m x (old .log) (old .snapshot) e in
-    ap (λ (i : ℕ). told (lineOf (Refused i)) (raw (old .index) (x .log) (x .snapshot))) h
-    ∙ ap (λ (r : Raw). told (lineOf (Refused k)) r)
+    ap (λ (i : ℕ). printout (lineOf (Refused i)) (raw (old .index) (x .log) (x .snapshot))) h
+    ∙ ap (λ (r : Raw). printout (lineOf (Refused k)) r)
     (ap (λ (l : List ℕ). raw (old .index) l (x .snapshot)) (kept .0) ∙ ap (λ (l : List ℕ). raw (old .index) (old .log) l) (kept .1))
     ∙ ap (λ (o : Outcome (Unit {0})). startedBy o old) e

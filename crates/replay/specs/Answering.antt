@@ -26,12 +26,12 @@ use Rattle.replay.specs.declared.answer.Reply.{Reply}
 use Rattle.replay.specs.declared.answer.Reply.the-variants as reply
 
 -- the bytes printed, and the state after
-pub record Told : Type 0 where
+pub record Printout : Type 0 where
   pub text : List ℕ
   pub after : Raw
 
-abbrev pub told : List ℕ → Raw → Told
-told bs r = record { text = bs; after = r }
+abbrev pub printout : List ℕ → Raw → Printout
+printout bs r = record { text = bs; after = r }
 
 -- what is printed of an answer
 abbrev pub settledText : Answer (Unit {0}) → List ℕ
@@ -90,16 +90,16 @@ abbrev pub replyText : Raw → Reply → List ℕ
 replyText x (reply.Line l) = lineOf l
 replyText x (reply.Read r) = readTextIn (x .log) (readSaid x r)
 
-abbrev pub telling : Reply → Raw → Told
-telling r x = told (replyText x r) x
+abbrev pub telling : Reply → Raw → Printout
+telling r x = printout (replyText x r) x
 
 -- a call's answer printed
-abbrev pub printed : {A : Type 0} → (Answer A → List ℕ) → Outcome A → Told
-printed text o = told (text (o .answer)) (o .after)
+abbrev pub printed : {A : Type 0} → (Answer A → List ℕ) → Outcome A → Printout
+printed text o = printout (text (o .answer)) (o .after)
 
 -- "`batch N` starts a fresh log"; one above 64 "prints `refused 11` and keeps the log"
-abbrev pub startedBy : Outcome (Unit {0}) → Raw → Told
-startedBy o r = elim (o .answer) [ refused n k ↦ told (lineOf (Refused n)) r | replied u ↦ told (lineOf Done) (o .after) ]
+abbrev pub startedBy : Outcome (Unit {0}) → Raw → Printout
+startedBy o r = elim (o .answer) [ refused n k ↦ printout (lineOf (Refused n)) r | replied u ↦ printout (lineOf Done) (o .after) ]
 
 -- "`stop` uses node 1 and no metadata, and prints accepted with the stop-sign counted"
 abbrev pub stopOf : ℕ → StopSign
@@ -116,13 +116,13 @@ abbrev pub stopLine : Answer (Option Flushed) → Answer ℕ → List ℕ
 stopLine (refused n k) last = lineOf (Refused n)
 stopLine (replied f) last = acceptedText last
 
-abbrev pub stoppedBy : Outcome (Option Flushed) → Told
-stoppedBy o = told (stopLine (o .answer) (ofNumbers acceptedOf (o .after))) (o .after)
+abbrev pub stoppedBy : Outcome (Option Flushed) → Printout
+stoppedBy o = printout (stopLine (o .answer) (ofNumbers acceptedOf (o .after))) (o .after)
 
 abbrev pub one : ℕ → SaidOf → List Change
 one k said = record { key = k; said = said } ∷ []
 
-unfoldable pub answering : Command → Raw → Told
+unfoldable pub answering : Command → Raw → Printout
 answering (command.Batch n) r = startedBy (freshCall n (r .log) (r .snapshot)) r
 answering (command.Put k p) r = printed appendedText (run (append (one k (place p))) true r)
 answering (command.Del k) r = printed appendedText (run (append (one k removed)) true r)
@@ -132,4 +132,4 @@ answering (command.Decide i) r = printed settledText (run (decide i) true r)
 answering (command.Snap upto) r = printed settledText (run (snapshot (uptoOf upto)) true r)
 answering (command.Stop c) r = stoppedBy (run (appendStop (stopOf c)) true r)
 answering (command.Trim i) r = printed settledText (run (trim i) true r)
-answering command.BadLine r = told (lineOf BadLine) r
+answering command.BadLine r = printout (lineOf BadLine) r

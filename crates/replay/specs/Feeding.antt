@@ -8,7 +8,7 @@ use Rattle.text.specs.Rooms.{inputLine, outputLine}
 use Rattle.text.specs.Parse.{parseOf}
 use Rattle.text.specs.declared.Command.{Command}
 use Rattle.text.specs.declared.Command.the-variants.{BadLine}
-use Rattle.replay.specs.Answering.{Told, told}
+use Rattle.replay.specs.Answering.{Printout, printout}
 
 -- the bytes that have come (`come` in text); a line longer than the buffer is a bad line
 abbrev pub meaning : Option (List ℕ) → Command
@@ -28,9 +28,9 @@ outRoom = 2 * answerRoom
 abbrev pub lastStart : ℕ
 lastStart = outRoom - answerRoom
 
--- some bytes before what is told
-abbrev pub after : List ℕ → Told → Told
-after bs t = told (bs ++ t .text) (t .after)
+-- some bytes before what is printout
+abbrev pub after : List ℕ → Printout → Printout
+after bs t = printout (bs ++ t .text) (t .after)
 
 -- what is known between one part of the input and the next: the line so far is in its buffer, and the answers that wait in theirs
 pub record Fed (len used line log out : ℕ) : Type 0 where

@@ -9,21 +9,21 @@ use Rattle.text.specs.Parse.{parseOf}
 use Rattle.text.specs.Rooms.{inputLine}
 use Rattle.text.specs.Lines.{Lines}
 use Rattle.text.specs.Feeding.{fitting}
-use Rattle.replay.specs.Answering.{Told, told, answering}
+use Rattle.replay.specs.Answering.{Printout, printout, answering}
 use Rattle.replay.specs.Feeding.{after}
 
-unfoldable pub replayed : List (List ℕ) → Told → Told
+unfoldable pub replayed : List (List ℕ) → Printout → Printout
 replayed [] t = t
 replayed (l ∷ ls) t = replayed ls (after (t .text) (answering (parseOf l) (t .after)))
 
 -- "before the first the size is 0": a fresh log, and nothing printed
-abbrev pub start : Told
-start = told [] (rawOf (freshLog 0))
+abbrev pub start : Printout
+start = printout [] (rawOf (freshLog 0))
 
 -- where the program stands once the lines ls have come: the record and the words are those after the lines that have ended; the line that
 -- has not is kept as its buffer keeps it; and the answers that wait come after those handed over to be written
 pub record Reached (ls : Lines) (x : Raw) (line : Option (List ℕ)) (waits : List ℕ) : Type 0 where
   pub state : x ≡ replayed (ls .ended) start .after
   pub unended : line ≡ fitting inputLine (ls .rest)
-  pub written : List ℕ
-  pub answers : written ++ waits ≡ replayed (ls .ended) start .text
+  pub handed : List ℕ
+  pub answers : handed ++ waits ≡ replayed (ls .ended) start .text

@@ -7,7 +7,7 @@ use entry::Upto;
 use internal_storage::Appended;
 use reading::Bound;
 use reading::ReadReply;
-use state_cache::Accepted;
+use state_cache::IndexAnswer;
 use state_cache::IndexRecord;
 use state_cache::Settled;
 use text::Command;
@@ -20,11 +20,11 @@ ghost use Rattle.entry.specs.Limits.{logWords};
 ghost use Rattle.entry.specs.Change.{saidIs};
 ghost use Rattle.state_cache.specs.State.{raw};
 ghost use Rattle.model.specs.Calls.{append};
-ghost use Rattle.state_cache.specs.Run.{run, settled, accepted};
-ghost use Rattle.internal_storage.specs.Replies.{appended};
+ghost use Rattle.state_cache.specs.Run.{run, settled, indexSaid};
+ghost use Rattle.internal_storage.specs.Replies.{appendSaid};
 ghost use Rattle.text.specs.Answers.{lineOf};
 ghost use Rattle.text.specs.declared.Command.the-variants.{Batch, Read, Flush, Decide, Snap, Stop, Trim};
-ghost use Rattle.replay.specs.Answering.{told, settledText, acceptedText, appendedText, printed, telling, stopOf, stopLine, one, answering};
+ghost use Rattle.replay.specs.Answering.{printout, settledText, acceptedText, appendedText, printed, telling, stopOf, stopLine, one, answering};
 ghost use Rattle.replay.specs.Feeding.{answerRoom, after};
 
 // What answers a command: a line, or what a read shows.
@@ -54,20 +54,20 @@ fn settled_line(answer: Settled) -> Line
     }
 }
 
-fn accepted_line(answer: Accepted) -> Line
-    ensures { λ r. ⌜ lineOf r ≡ acceptedText (accepted answer) ⌝ }
+fn accepted_line(answer: IndexAnswer) -> Line
+    ensures { λ r. ⌜ lineOf r ≡ acceptedText (indexSaid answer) ⌝ }
 {
     match answer {
-        Accepted::At(i) => Line::Accepted(i.0),
-        Accepted::Refused(refusal) => Line::Refused(entry::number(refusal)),
+        IndexAnswer::At(i) => Line::Accepted(i.0),
+        IndexAnswer::Refused(refusal) => Line::Refused(entry::number(refusal)),
     }
 }
 
 fn appended_line(answer: Appended) -> Line
-    ensures { λ r. ⌜ lineOf r ≡ appendedText (appended answer) ⌝ }
+    ensures { λ r. ⌜ lineOf r ≡ appendedText (appendSaid answer) ⌝ }
 {
     match answer {
-        Appended::Held => Line::Held,
+        Appended::Nothing => Line::Held,
         Appended::Flushed {
             accepted,
             entries: _,
@@ -184,11 +184,11 @@ fn stop_sign(c: u32) -> StopSign
 }
 
 // The accepted index after the call is printed: the call's own reply does not count the stop-sign.
-fn stop_line(answer: Appended, last: Accepted) -> Line
-    ensures { λ r. ⌜ lineOf r ≡ stopLine (appended answer) (accepted last) ⌝ }
+fn stop_line(answer: Appended, last: IndexAnswer) -> Line
+    ensures { λ r. ⌜ lineOf r ≡ stopLine (appendSaid answer) (indexSaid last) ⌝ }
 {
     match answer {
-        Appended::Held => accepted_line(last),
+        Appended::Nothing => accepted_line(last),
         Appended::Flushed {
             accepted: _,
             entries: _,
@@ -264,7 +264,7 @@ pub(crate) fn step(
 ) -> Stepped
     requires { ⌜ (at + answerRoom ≤ length (now out)) × (length (now log) ≡ logWords) ⌝ }
     ensures { λ r. ⌜ r .at ≤ at + answerRoom ⌝ }
-    ensures { λ r. ⌜ told (take (r .at) (now (out .exit))) (raw (r .index) (now (log .exit)) (now (snapshot .exit))) ≡ after (take at (now (out .entry))) (answering command (raw index (now (log .entry)) (now (snapshot .entry)))) ⌝ }
+    ensures { λ r. ⌜ printout (take (r .at) (now (out .exit))) (raw (r .index) (now (log .exit)) (now (snapshot .exit))) ≡ after (take at (now (out .entry))) (answering command (raw index (now (log .entry)) (now (snapshot .entry)))) ⌝ }
 {
     let done = carry_out(index, log, snapshot, command);
     let next = done.index;

@@ -12,9 +12,9 @@ use Rattle.words.specs.If.{if_then_else_}
 use Rattle.words.proofs.Tests.{Stand, below, same, above, stand}
 use Rattle.entry.specs.Change.{Said, Change}
 use Rattle.snapshot.specs.Folds.{insert, foldOnto, find, lastOf}
-use Rattle.snapshot.specs.Inner.{place, here}
+use Rattle.snapshot.specs.Inner.{rank, here}
 use Rattle.snapshot.proofs.Folds.{insert-nil, insert-below, insert-same, insert-above}
-use Rattle.snapshot.proofs.Searching.{place-below, place-stop, here-below, here-stop, here-nil}
+use Rattle.snapshot.proofs.Searching.{rank-below, rank-stop, here-below, here-stop, here-nil}
 
 -- find, by how the first key stands
 module _ (k : ℕ) (d : Change) (s : List Change) where
@@ -44,17 +44,17 @@ find-absent k (d ∷ es) e = by (find-absent k es) (stand (d .key) k)
         absurd (omega arith)
     by ih (above x) = find-below k d es x
 
-pub find-found : (k : ℕ) (es : List Change) → here es k ≡ true → (d : Change) (r : List Change) → drop (place es k) es ≡ d ∷ r → find k es ≡ some (d .said)
+pub find-found : (k : ℕ) (es : List Change) → here es k ≡ true → (d : Change) (r : List Change) → drop (rank es k) es ≡ d ∷ r → find k es ≡ some (d .said)
 find-found k [] e d r q = let a : false ≡ true = sym (here-nil k) ∙ e in let z : _≡_ {A = ℕ} 0 1 = cc in absurd (omega arith)
 find-found k (f ∷ es) e d r q = by (find-found k es) (stand (f .key) k)
   where
-    by : (here es k ≡ true → (d : Change) (r : List Change) → drop (place es k) es ≡ d ∷ r → find k es ≡ some (d .said))
+    by : (here es k ≡ true → (d : Change) (r : List Change) → drop (rank es k) es ≡ d ∷ r → find k es ≡ some (d .said))
         → Stand (f .key) k → find k (f ∷ es) ≡ some (d .said)
     by ih (below x) =
-        let p : place (f ∷ es) k ≡ _ = place-below f es k x in
+        let p : rank (f ∷ es) k ≡ _ = rank-below f es k x in
         find-above k f es x ∙ ih (sym (here-below f es k x) ∙ e) d r (rw p at q)
     by ih (same x) =
-        let p : place (f ∷ es) k ≡ 0 = place-stop f es k (omega arith) in
+        let p : rank (f ∷ es) k ≡ 0 = rank-stop f es k (omega arith) in
         let q′ : f ∷ es ≡ d ∷ r = rw p at q in
         let w : f ≡ d = cc in
         find-same k f es x ∙ rw w

@@ -12,25 +12,25 @@ use Rattle.words.specs.Coded.{entriesAt}
 use Rattle.words.proofs.Tests.{Reach, reached, short, reach, both-true}
 use Rattle.words.proofs.CodedLaws.{entries-length}
 use Rattle.entry.specs.Limits.{keyRoom, snapshotWords}
-use Rattle.entry.specs.Change.{Change, changeCode, formed, entriesOf, entriesIn, sliceFormed, stored}
+use Rattle.entry.specs.Change.{Change, changeCode, entriesFormed, entriesOf, entriesIn, sliceFormed, stored}
 use Rattle.entry.specs.Guards.{first, refused, replied}
 use Rattle.entry.proofs.SliceLaws.{laid-stored, slice-whole, slice-fine, slice-join, entries-join, stored-entries}
 use Rattle.snapshot.specs.Folds.{fold, merge, rising, within}
-use Rattle.snapshot.specs.Calls.{snapshotFormed, Outcome, outcome, written, foldGuards, foldCall, mergeCall, afterwards}
+use Rattle.snapshot.specs.Calls.{snapshotFormed, Outcome, outcome, writtenBy, foldGuards, foldCall, mergeCall, afterwards}
 use Rattle.snapshot.proofs.Forming.{formed-fold, formed-merge}
 use Rattle.snapshot.proofs.Algebra.{fold-join-within, merge-assoc-within, merge-empty, empty-merge, fold-rises, merge-rises, within-fits, within-none}
 use Rattle.snapshot.proofs.Calling.{over-refused, over-written, snapshot-holds, snapshot-stored, empty-formed, fold-stands, merge-stands}
 
--- what a call shows of a snapshot in its room: written out, or refused for room
+-- what a call shows of a snapshot in its room: writtenBy out, or refused for room
 shown : Option (List Change) → List ℕ → Outcome
 shown none out = outcome (refused 8 0) out
 shown (some s) out = outcome (replied (length s)) (stored snapshotWords s)
 
-written-shown : (s : List Change) (out : List ℕ) → written (first (foldGuards s)) s out ≡ shown (within keyRoom s) out
+written-shown : (s : List Change) (out : List ℕ) → writtenBy (first (foldGuards s)) s out ≡ shown (within keyRoom s) out
 unfolding shown
 written-shown s out = by (reach (length s) keyRoom)
   where
-    by : Reach (length s) keyRoom → written (first (foldGuards s)) s out ≡ shown (within keyRoom s) out
+    by : Reach (length s) keyRoom → writtenBy (first (foldGuards s)) s out ≡ shown (within keyRoom s) out
     by (reached h) = sym (over-written s out h) ∙ rw (within-fits keyRoom s h)
     by (short h) = sym (over-refused s out h) ∙ rw (within-none keyRoom s h)
 
@@ -44,7 +44,7 @@ within-some s a e = by (reach (length s) keyRoom)
 -- the entries of a snapshot, in form and ascending
 record Sound (s : List Change) : Type 0 where
   few : length s ≤ keyRoom
-  fine : formed s ≡ true
+  fine : entriesFormed s ≡ true
   rises : rising s ≡ true
 
 sound-formed : (s : List Change) → Sound s → snapshotFormed (length s) (stored snapshotWords s) ≡ true
@@ -63,7 +63,7 @@ module _ (out : List ℕ) (room : length out ≡ snapshotWords) where
       (both-true (snapshotFormed n a) (snapshotFormed m b && eqb (length out) snapshotWords) p (both-true (snapshotFormed m b) (eqb (length out) snapshotWords) q (eq-eqb (length out) snapshotWords room))))
       ∙ (unfold merge in written-shown (merge (entriesOf n a) (entriesOf m b)) out)
 
-  -- the same of snapshots as they are written
+  -- the same of snapshots as they are writtenBy
   merge-stored : (a b : List Change) → Sound a → Sound b
       → mergeCall (stored snapshotWords a) (length a) (stored snapshotWords b) (length b) out ≡ shown (within keyRoom (merge a b)) out
   merge-stored a b p q =
@@ -151,7 +151,7 @@ module _ (a : List ℕ) (n : ℕ) (b : List ℕ) (m : ℕ) (c : List ℕ) (l : �
             ap (λ (x : List Change). shown (within keyRoom (merge (entriesOf n a) x)) out) (sym (stored-entries snapshotWords s (o′ .fine)))
             ∙ sym (unfold shown in merge-shown out room a n (stored snapshotWords s) (length s) p (sound-formed s o′))
 
--- The empty snapshot is neutral on both sides: what is written is the snapshot itself.
+-- The empty snapshot is neutral on both sides: what is writtenBy is the snapshot itself.
 module _ (a : List ℕ) (n : ℕ) (out : List ℕ) (p : snapshotFormed n a ≡ true) (room : length out ≡ snapshotWords) where
   itself : (s : List Change) → s ≡ entriesOf n a → shown (within keyRoom s) out ≡ outcome (replied n) a
   unfolding shown

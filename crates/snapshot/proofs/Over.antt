@@ -6,7 +6,7 @@ use mathlib.Core.List.{List}
 use native.Mathlib.Omega.{arith}
 use lib.ListN.{length}
 use Rattle.entry.specs.Limits.{width, snapshotWords}
-use Rattle.entry.specs.Change.{Change, formed, entriesOf, stored}
+use Rattle.entry.specs.Change.{Change, entriesFormed, entriesOf, stored}
 use Rattle.entry.specs.declared.Refusal.{Refusal}
 use Rattle.entry.proofs.SliceLaws.{stored-entries}
 use Rattle.snapshot.specs.Folds.{foldOnto}
@@ -42,7 +42,7 @@ module _ (kept : ℕ) (base : List ℕ) (n : ℕ) (entries : List ℕ) (m : ℕ)
       fits : (length first * width ≤ snapshotWords) × (k ≡ length first)
       fits = folded-keys snapshotWords first k (sym (is .reply) ∙ e)
 
-      fine : formed first ≡ true
+      fine : entriesFormed first ≡ true
       fine = formed-onto (entriesOf kept base) (entriesOf n entries) (a .base-holds .laid .fine) (a .entries-show .sound)
 
       pub twice-next : Aside k t m more base

@@ -15,12 +15,12 @@ use Rattle.words.proofs.CodedLaws.{entries-length, spliced-laid}
 use Rattle.entry.specs.Limits.{width}
 use Rattle.entry.specs.declared.Refusal.{Refusal}
 use Rattle.entry.specs.declared.Refusal.the-variants.{TooManyKeys}
-use Rattle.entry.specs.Change.{Change, changeCode, changeFormed, formed, entriesOf, stored, storedIn}
+use Rattle.entry.specs.Change.{Change, changeCode, changeFormed, entriesFormed, entriesOf, stored, storedIn}
 use Rattle.entry.specs.Inner.{changeAt}
 use Rattle.entry.proofs.ChangeLaws.{changeOk, entry-words, entry-cons}
 use Rattle.entry.proofs.SliceLaws.{laid-of, laid-stored, stored-length, stored-entries, stored-laid}
 use Rattle.snapshot.specs.Folds.{insert, foldOnto, rising}
-use Rattle.snapshot.specs.Inner.{place, spotOf, foldedIn, Holds, Shows, FoldIs}
+use Rattle.snapshot.specs.Inner.{rank, spotOf, foldedIn, Holds, Shows, FoldIs}
 use Rattle.snapshot.specs.declared.inner.Spot.the-variants.{At, Before}
 use Rattle.snapshot.specs.declared.Folded.{Folded}
 use Rattle.snapshot.specs.declared.Folded.the-variants.{Keys, Refused}
@@ -67,7 +67,7 @@ module _ (s : List ℕ) (n : ℕ) (item : List ℕ) (h : Holds (length s) n s) (
   long = entries-length changeCode n s
 
   -- a splice of one entry, over `cut` others
-  put-words : (i cut : ℕ) → Put c (entriesOf n s) cut → place (entriesOf n s) (c .key) ≡ i
+  put-words : (i cut : ℕ) → Put c (entriesOf n s) cut → rank (entriesOf n s) (c .key) ≡ i
       → laid (length s) (spliced (i * width) (cut * width) item (take (n * width) s)) ≡ stored (length s) (insert c (entriesOf n s))
   put-words i cut p e =
       spliced-laid changeCode changeOk n i cut s item (c ∷ []) (h .laid .fits) one-entry
@@ -113,7 +113,7 @@ pub record Sofar (words : ℕ) (m : List Change) (s : List ℕ) (kept : ℕ) : T
   pub same-long : length s ≡ words
   pub count : kept ≡ length m
   pub room : kept * width ≤ words
-  pub good : formed m ≡ true
+  pub good : entriesFormed m ≡ true
   pub rises : rising m ≡ true
   pub words-are : s ≡ stored words m
 

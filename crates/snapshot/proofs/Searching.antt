@@ -18,19 +18,19 @@ use Rattle.entry.specs.Change.{Change, removed, changeCode, entriesOf}
 use Rattle.entry.specs.Inner.{changeAt}
 use Rattle.entry.proofs.ChangeLaws.{entry-cons}
 use Rattle.snapshot.specs.Folds.{insert, rising}
-use Rattle.snapshot.specs.Inner.{place, here, spotOf, Passed}
+use Rattle.snapshot.specs.Inner.{rank, here, spotOf, Passed}
 use Rattle.snapshot.specs.declared.inner.Spot.the-variants.{At, Before}
 use Rattle.snapshot.proofs.Folds.{insert-below, insert-same, insert-above}
 use Rattle.snapshot.proofs.Rising.{keys-climb}
 
 module _ (e : Change) (es : List Change) (k : ℕ) where
-  pub place-below : e .key < k → place (e ∷ es) k ≡ suc (place es k)
-  unfolding place
-  place-below h = rw (lt-ltb (e .key) k h)
+  pub rank-below : e .key < k → rank (e ∷ es) k ≡ suc (rank es k)
+  unfolding rank
+  rank-below h = rw (lt-ltb (e .key) k h)
 
-  pub place-stop : k ≤ e .key → place (e ∷ es) k ≡ 0
-  unfolding place
-  place-stop h = rw (le-ltb (e .key) k h)
+  pub rank-stop : k ≤ e .key → rank (e ∷ es) k ≡ 0
+  unfolding rank
+  rank-stop h = rw (le-ltb (e .key) k h)
 
   pub here-below : e .key < k → here (e ∷ es) k ≡ here es k
   unfolding here
@@ -48,16 +48,16 @@ pub passed-none : (es : List Change) (k : ℕ) → Passed es k 0
 passed-none es k = record { placed = omega arith; found = refl }
 
 module _ (n : ℕ) (ws : List ℕ) (k i : ℕ) (p : Passed (entriesOf n ws) k i) where
-  spot-is : (t : Bool) (j : ℕ) → here (entriesOf n ws) k ≡ t → place (entriesOf n ws) k ≡ j → (if t then At j else Before j) ≡ spotOf (entriesOf n ws) k
+  spot-is : (t : Bool) (j : ℕ) → here (entriesOf n ws) k ≡ t → rank (entriesOf n ws) k ≡ j → (if t then At j else Before j) ≡ spotOf (entriesOf n ws) k
   unfolding spotOf
   spot-is t j e q = rw (e, q)
 
   pub search-end : n ≤ i → i ≤ n → Before i ≡ spotOf (entriesOf n ws) k
-  unfolding place here
+  unfolding rank here
   search-end h le =
       let z : drop i (entriesOf n ws) ≡ [] = drop-of-length-le (entriesOf n ws) {i = i} (omega (arith, entries-length changeCode n ws)) in
       let a : here (entriesOf n ws) k ≡ false = p .found ∙ rw z in
-      let b : place (drop i (entriesOf n ws)) k ≡ 0 = rw z in
+      let b : rank (drop i (entriesOf n ws)) k ≡ 0 = rw z in
       spot-is false i a (omega (arith, p .placed))
 
   module _ (h : i < n) where
@@ -66,14 +66,14 @@ module _ (n : ℕ) (ws : List ℕ) (k i : ℕ) (p : Passed (entriesOf n ws) k i)
 
     pub search-more : getD ws (i * width) 0 < k → Passed (entriesOf n ws) k (i + 1)
     search-more l =
-        let a : place (drop i (entriesOf n ws)) k ≡ suc (place (drop (suc i) (entriesOf n ws)) k) = rw at (place-below (changeAt ws i) (drop (suc i) (entriesOf n ws)) k l) in
+        let a : rank (drop i (entriesOf n ws)) k ≡ suc (rank (drop (suc i) (entriesOf n ws)) k) = rw at (rank-below (changeAt ws i) (drop (suc i) (entriesOf n ws)) k l) in
         let b : here (drop i (entriesOf n ws)) k ≡ here (drop (suc i) (entriesOf n ws)) k = rw at (here-below (changeAt ws i) (drop (suc i) (entriesOf n ws)) k l) in
         record { placed = rw (add-one i) (omega (arith, p .placed)); found = rw (add-one i) (p .found ∙ b) }
 
     module _ (l : k ≤ getD ws (i * width) 0) where
-      stops : place (entriesOf n ws) k ≡ i
+      stops : rank (entriesOf n ws) k ≡ i
       stops =
-          let a : place (drop i (entriesOf n ws)) k ≡ 0 = rw at (place-stop (changeAt ws i) (drop (suc i) (entriesOf n ws)) k l) in
+          let a : rank (drop i (entriesOf n ws)) k ≡ 0 = rw at (rank-stop (changeAt ws i) (drop (suc i) (entriesOf n ws)) k l) in
           omega (arith, p .placed)
 
       tests : here (entriesOf n ws) k ≡ eqb (getD ws (i * width) 0) k
@@ -104,28 +104,28 @@ pass-four n ws k i up p h l =
     four j = omega arith
 
 -- what a spot says
-pub spot-at : (es : List Change) (k i : ℕ) → spotOf es k ≡ At i → (here es k ≡ true) × (place es k ≡ i)
+pub spot-at : (es : List Change) (k i : ℕ) → spotOf es k ≡ At i → (here es k ≡ true) × (rank es k ≡ i)
 unfolding spotOf
 spot-at es k i e = go (here es k) refl
   where
-    go : (t : Bool) → here es k ≡ t → (here es k ≡ true) × (place es k ≡ i)
-    go true q = let e' : At (place es k) ≡ At i = rw q at e in (q, cc)
-    go false q = let e' : Before (place es k) ≡ At i = rw q at e in let z : _≡_ {A = ℕ} 0 1 = cc in absurd (omega arith)
+    go : (t : Bool) → here es k ≡ t → (here es k ≡ true) × (rank es k ≡ i)
+    go true q = let e' : At (rank es k) ≡ At i = rw q at e in (q, cc)
+    go false q = let e' : Before (rank es k) ≡ At i = rw q at e in let z : _≡_ {A = ℕ} 0 1 = cc in absurd (omega arith)
 
-pub spot-before : (es : List Change) (k i : ℕ) → spotOf es k ≡ Before i → (here es k ≡ false) × (place es k ≡ i)
+pub spot-before : (es : List Change) (k i : ℕ) → spotOf es k ≡ Before i → (here es k ≡ false) × (rank es k ≡ i)
 unfolding spotOf
 spot-before es k i e = go (here es k) refl
   where
-    go : (t : Bool) → here es k ≡ t → (here es k ≡ false) × (place es k ≡ i)
-    go false q = let e' : Before (place es k) ≡ Before i = rw q at e in (q, cc)
-    go true q = let e' : At (place es k) ≡ Before i = rw q at e in let z : _≡_ {A = ℕ} 0 1 = cc in absurd (omega arith)
+    go : (t : Bool) → here es k ≡ t → (here es k ≡ false) × (rank es k ≡ i)
+    go false q = let e' : Before (rank es k) ≡ Before i = rw q at e in (q, cc)
+    go true q = let e' : At (rank es k) ≡ Before i = rw q at e in let z : _≡_ {A = ℕ} 0 1 = cc in absurd (omega arith)
 
-pub place-le : (es : List Change) (k : ℕ) → place es k ≤ length es
-unfolding place
-place-le [] k = omega arith
-place-le (e ∷ es) k = go (ltb (e .key) k) (place-le es k)
+pub rank-le : (es : List Change) (k : ℕ) → rank es k ≤ length es
+unfolding rank
+rank-le [] k = omega arith
+rank-le (e ∷ es) k = go (ltb (e .key) k) (rank-le es k)
   where
-    go : (t : Bool) → place es k ≤ length es → (if t then suc (place es k) else 0) ≤ suc (length es)
+    go : (t : Bool) → rank es k ≤ length es → (if t then suc (rank es k) else 0) ≤ suc (length es)
     go true h = omega arith
     go false h = omega arith
 
@@ -134,9 +134,9 @@ no-other a b d e = d (eqb-true a b e)
 
 -- an insert is a splice at the spot: over the entry that stands there, or before it
 pub record Put (c : Change) (es : List Change) (cut : ℕ) : Type 0 where
-  pub spliced-is : insert c es ≡ spliced (place es (c .key)) cut (c ∷ []) es
+  pub spliced-is : insert c es ≡ spliced (rank es (c .key)) cut (c ∷ []) es
   pub length-is : length (insert c es) + cut ≡ suc (length es)
-  pub inside : place es (c .key) + cut ≤ length es
+  pub inside : rank es (c .key) + cut ≤ length es
 
 pub insert-over : (c : Change) (es : List Change) → here es (c .key) ≡ true → Put c es 1
 insert-over c [] h = let e : false ≡ true = sym (here-nil (c .key)) ∙ h in let z : _≡_ {A = ℕ} 0 1 = cc in absurd (omega arith)
@@ -146,28 +146,28 @@ insert-over c (d ∷ es) h = by (insert-over c es) (stand (c .key) (d .key))
     by ih (below x) =
         absurd (no-other (d .key) (c .key) (λ q. omega arith) (sym (here-stop d es (c .key) (omega arith)) ∙ h))
     by ih (same x) =
-        let p : place (d ∷ es) (c .key) ≡ 0 = place-stop d es (c .key) (omega arith) in
+        let p : rank (d ∷ es) (c .key) ≡ 0 = rank-stop d es (c .key) (omega arith) in
         record {
           spliced-is = rw (p, insert-same c d es x);
           length-is = rw (insert-same c d es x) (omega arith);
           inside = rw p (omega arith);
         }
     by ih (above x) =
-        let p : place (d ∷ es) (c .key) ≡ suc (place es (c .key)) = place-below d es (c .key) x in
+        let p : rank (d ∷ es) (c .key) ≡ suc (rank es (c .key)) = rank-below d es (c .key) x in
         let i = ih (sym (here-below d es (c .key) x) ∙ h) in
         record {
-          spliced-is = rw (p, insert-above c d es x, suc-add (place es (c .key)) 1) (ap (λ (l : List Change). d ∷ l) (i .spliced-is));
+          spliced-is = rw (p, insert-above c d es x, suc-add (rank es (c .key)) 1) (ap (λ (l : List Change). d ∷ l) (i .spliced-is));
           length-is = rw (insert-above c d es x) (omega (arith, i .length-is));
           inside = rw p (omega (arith, i .inside));
         }
 
 pub insert-into : (c : Change) (es : List Change) → here es (c .key) ≡ false → Put c es 0
-insert-into c [] h = record { spliced-is = unfold place insert in refl; length-is = unfold insert in omega arith; inside = unfold place in omega arith }
+insert-into c [] h = record { spliced-is = unfold rank insert in refl; length-is = unfold insert in omega arith; inside = unfold rank in omega arith }
 insert-into c (d ∷ es) h = by (insert-into c es) (stand (c .key) (d .key))
   where
     by : (here es (c .key) ≡ false → Put c es 0) → Stand (c .key) (d .key) → Put c (d ∷ es) 0
     by ih (below x) =
-        let p : place (d ∷ es) (c .key) ≡ 0 = place-stop d es (c .key) (omega arith) in
+        let p : rank (d ∷ es) (c .key) ≡ 0 = rank-stop d es (c .key) (omega arith) in
         record {
           spliced-is = rw (p, insert-below c d es x);
           length-is = rw (insert-below c d es x) (omega arith);
@@ -179,10 +179,10 @@ insert-into c (d ∷ es) h = by (insert-into c es) (stand (c .key) (d .key))
         let z : _≡_ {A = ℕ} 0 1 = cc in
         absurd (omega arith)
     by ih (above x) =
-        let p : place (d ∷ es) (c .key) ≡ suc (place es (c .key)) = place-below d es (c .key) x in
+        let p : rank (d ∷ es) (c .key) ≡ suc (rank es (c .key)) = rank-below d es (c .key) x in
         let i = ih (sym (here-below d es (c .key) x) ∙ h) in
         record {
-          spliced-is = rw (p, insert-above c d es x, suc-add (place es (c .key)) 0) (ap (λ (l : List Change). d ∷ l) (i .spliced-is));
+          spliced-is = rw (p, insert-above c d es x, suc-add (rank es (c .key)) 0) (ap (λ (l : List Change). d ∷ l) (i .spliced-is));
           length-is = rw (insert-above c d es x) (omega (arith, i .length-is));
           inside = rw p (omega (arith, i .inside));
         }

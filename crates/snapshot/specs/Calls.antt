@@ -1,4 +1,4 @@
--- The calls of module 2 on lent words. "Fold, merge: 11, 8. Find: 11." "No refusal changes anything lent"; "a written snapshot fills
+-- The calls of module 2 on lent words. "Fold, merge: 11, 8. Find: 11." "No refusal changes anything lent"; "a writtenBy snapshot fills
 -- its whole slice".
 use Prim.Native.Nat.{ℕ}
 use mathlib.Core.Bool.{Bool, _&&_, not}
@@ -27,9 +27,14 @@ pub record Outcome : Type 0 where
 abbrev pub outcome : Answer ℕ → List ℕ → Outcome
 outcome a out = record { answer = a; output = out }
 
-abbrev pub written : Verdict → List Change → List ℕ → Outcome
-written passes s out = outcome (replied (length s)) (stored snapshotWords s)
-written (refuses n k) s out = outcome (refused n k) out
+-- what a call that replies a snapshot comes to on a lent output slice: "a written snapshot fills its whole slice", and no refusal
+-- changes it
+abbrev pub writtenOut : Answer (List Change) → List ℕ → Outcome
+writtenOut (replied s) out = outcome (replied (length s)) (stored snapshotWords s)
+writtenOut (refused n k) out = outcome (refused n k) out
+
+abbrev pub writtenBy : Verdict → List Change → List ℕ → Outcome
+writtenBy v s out = writtenOut (settle v s) out
 
 -- "the fold has over 512 keys"
 abbrev pub foldGuards : List Change → List Guard
@@ -38,12 +43,12 @@ foldGuards s = guard 8 0 (ltb keyRoom (length s)) ∷ []
 unfoldable pub foldCall : List ℕ → List ℕ → Outcome
 foldCall entries out =
     let s : List Change = fold (entriesIn entries) in
-    written (first (guard 11 0 (not (sliceFormed entries && eqb (length out) snapshotWords)) ∷ foldGuards s)) s out
+    writtenBy (first (guard 11 0 (not (sliceFormed entries && eqb (length out) snapshotWords)) ∷ foldGuards s)) s out
 
 unfoldable pub mergeCall : List ℕ → ℕ → List ℕ → ℕ → List ℕ → Outcome
 mergeCall a n b m out =
     let s : List Change = merge (entriesOf n a) (entriesOf m b) in
-    written (first (guard 11 0 (not (snapshotFormed n a && (snapshotFormed m b && eqb (length out) snapshotWords))) ∷ foldGuards s)) s out
+    writtenBy (first (guard 11 0 (not (snapshotFormed n a && (snapshotFormed m b && eqb (length out) snapshotWords))) ∷ foldGuards s)) s out
 
 unfoldable pub findCall : List ℕ → ℕ → ℕ → Answer (Option ℕ)
 findCall ws n k = settle (first (guard 11 0 (not (snapshotFormed n ws)) ∷ [])) (placeOf (find k (entriesOf n ws)))

@@ -78,7 +78,7 @@ pub fn search(s: &[u64], n: usize, key: u64) -> Spot
 }
 
 // What is found of a key where an entry says this of it: a removed key is absent.
-pub fn told(said: Said) -> Found
+pub fn found_of(said: Said) -> Found
     ensures { λ r. ⌜ found r ≡ replied (placeOf (some (saidIs said))) ⌝ }
 {
     match said {
@@ -96,7 +96,7 @@ pub fn look_up(s: &[u64], n: usize, key: u64) -> Found
     let Spot::At(i) = spot else {
         return Found::Absent;
     };
-    told(entry::inner::said_at(s, i))
+    found_of(entry::inner::said_at(s, i))
 }
 
 // Puts one entry, as its words, at its place; where there is no room the words of s are of no use.

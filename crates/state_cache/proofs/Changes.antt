@@ -16,7 +16,7 @@ use Rattle.words.proofs.Alls.{all-join}
 use Rattle.words.proofs.Laws.{paste-all}
 use Rattle.words.proofs.CodedLaws.{spliced-laid, spliced-reload}
 use Rattle.entry.specs.Limits.{width, largestBatch, logWords, snapshotWords}
-use Rattle.entry.specs.Change.{Change, changeCode, changeFormed, formed as entriesFormed, entriesOf, stored}
+use Rattle.entry.specs.Change.{Change, changeCode, changeFormed, entriesFormed, entriesOf, stored}
 use Rattle.entry.specs.Guards.{first, refused, replied}
 use Rattle.entry.proofs.ChangeLaws.{changeOk}
 use Rattle.entry.proofs.SliceLaws.{stored-length, stored-entries}

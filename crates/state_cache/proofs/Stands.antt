@@ -16,7 +16,7 @@ use Rattle.words.proofs.Tests.{and-left, and-right, both-true}
 use Rattle.words.proofs.Alls.{all-join, all-left, all-right, zeros-are}
 use Rattle.words.proofs.CodedLaws.{entries-length, entries-add, entries-first, entries-second}
 use Rattle.entry.specs.Limits.{width, keyRoom, logWords, snapshotWords, mostNodes, mostMetadata}
-use Rattle.entry.specs.Change.{Change, changeCode, changeFormed, formed as entriesFormed, entriesOf, stored, storedIn}
+use Rattle.entry.specs.Change.{Change, changeCode, changeFormed, entriesFormed, entriesOf, stored, storedIn}
 use Rattle.entry.specs.Sign.{signFormed, signIf, signBlank, blank, noSign}
 use Rattle.entry.specs.declared.Ballot.{Ballot}
 use Rattle.entry.specs.declared.StopSign.{StopSign}

@@ -6,9 +6,9 @@ use Rattle.entry.specs.Guards.{Answer, refused, replied}
 use Rattle.entry.specs.declared.LogIndex.{LogIndex}
 use Rattle.entry.proofs.RefusalLaws.{refusal-known}
 use Rattle.state_cache.specs.State.{Raw}
-use Rattle.state_cache.specs.Run.{Outcome, outcome, settled, accepted, flag}
+use Rattle.state_cache.specs.Run.{Outcome, outcome, settled, indexSaid, flag}
 use Rattle.state_cache.specs.declared.Settled.the-variants.{Done, Refused}
-use Rattle.state_cache.specs.declared.Accepted.the-variants.{At, Refused as AcceptedRefused}
+use Rattle.state_cache.specs.declared.IndexAnswer.the-variants.{At, Refused as AcceptedRefused}
 use Rattle.state_cache.specs.declared.Flag.the-variants.{Is, Refused as FlagRefused}
 
 -- an answer says which of the code's answers it is: of a call that changes nothing, two that meet a claim are one
@@ -40,14 +40,14 @@ settled-known (Refused x) (Refused y) e = ap Refused (refusal-known x y e)
 pub settled-unique : Unique settled
 settled-unique = unique settled settled-known
 
-pub accepted-known : Known accepted
-accepted-known (At i) (At j) e = ap At (index-known i j cc)
-accepted-known (At i) (AcceptedRefused y) e = apart _ _ _ e
-accepted-known (AcceptedRefused x) (At j) e = apart _ _ _ (sym e)
-accepted-known (AcceptedRefused x) (AcceptedRefused y) e = ap AcceptedRefused (refusal-known x y e)
+pub index-answer-known : Known indexSaid
+index-answer-known (At i) (At j) e = ap At (index-known i j cc)
+index-answer-known (At i) (AcceptedRefused y) e = apart _ _ _ e
+index-answer-known (AcceptedRefused x) (At j) e = apart _ _ _ (sym e)
+index-answer-known (AcceptedRefused x) (AcceptedRefused y) e = ap AcceptedRefused (refusal-known x y e)
 
-pub accepted-unique : Unique accepted
-accepted-unique = unique accepted accepted-known
+pub index-answer-unique : Unique indexSaid
+index-answer-unique = unique indexSaid index-answer-known
 
 pub flag-known : Known flag
 flag-known (Is a) (Is b) e = cc

@@ -13,8 +13,8 @@ use Rattle.model.specs.Calls.{Call, Reply, guards, effect, replyOf}
 use Rattle.state_cache.specs.State.{Raw, raw, numbersIn, formed, logOf, indexOf, rawOf}
 use Rattle.state_cache.specs.declared.Settled.{Settled}
 use Rattle.state_cache.specs.declared.Settled.the-variants.{Done, Refused}
-use Rattle.state_cache.specs.declared.Accepted.{Accepted}
-use Rattle.state_cache.specs.declared.Accepted.the-variants.{At, Refused as AcceptedRefused}
+use Rattle.state_cache.specs.declared.IndexAnswer.{IndexAnswer}
+use Rattle.state_cache.specs.declared.IndexAnswer.the-variants.{At, Refused as AcceptedRefused}
 use Rattle.state_cache.specs.declared.Flag.{Flag}
 use Rattle.state_cache.specs.declared.Flag.the-variants.{Is, Refused as FlagRefused}
 
@@ -47,9 +47,9 @@ abbrev pub settled : Settled → Answer (Unit {0})
 settled Done = replied tt
 settled (Refused r) = refusedBy r
 
-abbrev pub accepted : Accepted → Answer ℕ
-accepted (At i) = replied (i .0)
-accepted (AcceptedRefused r) = refusedBy r
+abbrev pub indexSaid : IndexAnswer → Answer ℕ
+indexSaid (At i) = replied (i .0)
+indexSaid (AcceptedRefused r) = refusedBy r
 
 abbrev pub flag : Flag → Answer Bool
 flag (Is b) = replied b

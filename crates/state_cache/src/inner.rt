@@ -1,7 +1,7 @@
 // The numbers of an index record, for the crates above: not for a user, whose calls are in lib.rt. What a function needs of the
 // record it requires: its callers have tested it.
-use super::Accepted;
-use super::AcceptedAt;
+use super::IndexAnswer;
+use super::IndexAnswerAt;
 use super::IndexRecord;
 use entry::Ballot;
 use entry::LogIndex;
@@ -15,7 +15,7 @@ ghost use Rattle.model.specs.Calls.{reload};
 ghost use Rattle.model.specs.Numbers.{endOf, acceptedOf, stopDecided, logDecided, numbersFormed};
 ghost use Rattle.state_cache.specs.State.{raw, numbersIn, oneIf, signHeld, shotHeld, indexOf};
 ghost use Rattle.state_cache.specs.Inner.{Small, sizesFormed, Ready};
-ghost use Rattle.state_cache.specs.Run.{outcome, run, accepted as acceptedIs};
+ghost use Rattle.state_cache.specs.Run.{outcome, run, indexSaid};
 
 pub fn one_if(b: bool) -> u64
     ensures { λ x. ⌜ x ≡ oneIf b ⌝ }
@@ -165,9 +165,9 @@ pub fn fresh_index(batch_size: u64) -> IndexRecord
 }
 
 // Drops the batch of a well-formed log.
-pub fn reload(index: IndexRecord, log: &mut [u64], snapshot: &[u64]) -> AcceptedAt
+pub fn reload(index: IndexRecord, log: &mut [u64], snapshot: &[u64]) -> IndexAnswerAt
     requires { ⌜ Ready (raw index (now log) (now snapshot)) ⌝ }
-    ensures { λ r. ⌜ outcome (acceptedIs (r .answer)) (raw (r .index) (now (log .exit)) (now (snapshot .entry))) ≡ run reload true (raw index (now (log .entry)) (now (snapshot .entry))) ⌝ }
+    ensures { λ r. ⌜ outcome (indexSaid (r .answer)) (raw (r .index) (now (log .exit)) (now (snapshot .entry))) ≡ run reload true (raw index (now (log .entry)) (now (snapshot .entry))) ⌝ }
 {
     let used = (index.retained + index.batched) * entry::WIDTH;
     words::cut_out(
@@ -179,8 +179,8 @@ pub fn reload(index: IndexRecord, log: &mut [u64], snapshot: &[u64]) -> Accepted
     let mut next = index;
     next.batched = 0;
     let last = accepted(next);
-    AcceptedAt {
-        answer: Accepted::At(LogIndex(last)),
+    IndexAnswerAt {
+        answer: IndexAnswer::At(LogIndex(last)),
         index: next,
     }
 }

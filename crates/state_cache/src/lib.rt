@@ -9,7 +9,7 @@ ghost use mathlib.Core.Bool.{true};
 ghost use Rattle.model.specs.Numbers.{acceptedOf, stopDecided, logDecided};
 ghost use Rattle.model.specs.Calls.{reload};
 ghost use Rattle.state_cache.specs.State.{raw, formed};
-ghost use Rattle.state_cache.specs.Run.{outcome, run, ofNumbers, settled, accepted, flag, freshCall};
+ghost use Rattle.state_cache.specs.Run.{outcome, run, ofNumbers, settled, indexSaid, flag, freshCall};
 
 pub mod inner;
 
@@ -40,13 +40,13 @@ pub struct SettledAt {
 }
 
 // The reply of a call that tells an index of the log: the accepted one, or log-decided.
-pub enum Accepted {
+pub enum IndexAnswer {
     At(LogIndex),
     Refused(Refusal),
 }
 
-pub struct AcceptedAt {
-    pub answer: Accepted,
+pub struct IndexAnswerAt {
+    pub answer: IndexAnswer,
     pub index: IndexRecord,
 }
 
@@ -93,26 +93,26 @@ pub fn fresh(batch_size: u64, log: &mut [u64], snapshot: &mut [u64]) -> SettledA
 }
 
 // Reloads a log: the batch is dropped and its words become zero, and the rest stays. Replies the accepted index.
-pub fn load_cache(index: IndexRecord, log: &mut [u64], snapshot: &[u64]) -> AcceptedAt
-    ensures { λ r. ⌜ outcome (accepted (r .answer)) (raw (r .index) (now (log .exit)) (now (snapshot .entry))) ≡ run reload true (raw index (now (log .entry)) (now (snapshot .entry))) ⌝ }
+pub fn load_cache(index: IndexRecord, log: &mut [u64], snapshot: &[u64]) -> IndexAnswerAt
+    ensures { λ r. ⌜ outcome (indexSaid (r .answer)) (raw (r .index) (now (log .exit)) (now (snapshot .entry))) ≡ run reload true (raw index (now (log .entry)) (now (snapshot .entry))) ⌝ }
 {
     if !well_formed(index, log, snapshot) {
-        return AcceptedAt {
-            answer: Accepted::Refused(Refusal::IllFormed),
+        return IndexAnswerAt {
+            answer: IndexAnswer::Refused(Refusal::IllFormed),
             index,
         };
     }
     inner::reload(index, log, snapshot)
 }
 
-pub fn get_accepted_idx(index: IndexRecord, log: &[u64], snapshot: &[u64]) -> Accepted
-    ensures { λ r. ⌜ accepted r ≡ ofNumbers acceptedOf (raw index (now (log .entry)) (now (snapshot .entry))) ⌝ }
+pub fn get_accepted_idx(index: IndexRecord, log: &[u64], snapshot: &[u64]) -> IndexAnswer
+    ensures { λ r. ⌜ indexSaid r ≡ ofNumbers acceptedOf (raw index (now (log .entry)) (now (snapshot .entry))) ⌝ }
 {
     if !well_formed(index, log, snapshot) {
-        return Accepted::Refused(Refusal::IllFormed);
+        return IndexAnswer::Refused(Refusal::IllFormed);
     }
     let last = inner::accepted(index);
-    Accepted::At(LogIndex(last))
+    IndexAnswer::At(LogIndex(last))
 }
 
 // The decided index, a decided stop-sign not counted.
@@ -120,14 +120,14 @@ pub fn get_decided_idx_without_stopsign(
     index: IndexRecord,
     log: &[u64],
     snapshot: &[u64],
-) -> Accepted
-    ensures { λ r. ⌜ accepted r ≡ ofNumbers logDecided (raw index (now (log .entry)) (now (snapshot .entry))) ⌝ }
+) -> IndexAnswer
+    ensures { λ r. ⌜ indexSaid r ≡ ofNumbers logDecided (raw index (now (log .entry)) (now (snapshot .entry))) ⌝ }
 {
     if !well_formed(index, log, snapshot) {
-        return Accepted::Refused(Refusal::IllFormed);
+        return IndexAnswer::Refused(Refusal::IllFormed);
     }
     let decided = inner::log_decided(index);
-    Accepted::At(LogIndex(decided))
+    IndexAnswer::At(LogIndex(decided))
 }
 
 pub fn stopsign_is_decided(index: IndexRecord, log: &[u64], snapshot: &[u64]) -> Flag

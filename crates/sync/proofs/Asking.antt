@@ -11,7 +11,7 @@ use lib.ListN.{length}
 use Rattle.words.proofs.Tests.{and-left, and-right, both-true}
 use Rattle.words.proofs.CodedLaws.{entries-length}
 use Rattle.entry.specs.Limits.{keyRoom, snapshotWords}
-use Rattle.entry.specs.Change.{changeCode, formed as entriesFormed, entriesOf, entriesIn, wholeIn}
+use Rattle.entry.specs.Change.{changeCode, entriesFormed, entriesOf, entriesIn, wholeIn}
 use Rattle.entry.specs.Sign.{signFormed}
 use Rattle.entry.specs.Guards.{first, Answer, refused}
 use Rattle.entry.specs.declared.Ballot.{Ballot}

@@ -7,7 +7,7 @@ use lib.Dec.{eqb}
 use lib.ListN.{length}
 use Rattle.words.specs.If.{if_then_else_}
 use Rattle.entry.specs.Limits.{snapshotWords}
-use Rattle.entry.specs.Change.{Change, formed, entriesOf, entriesIn, wholeIn}
+use Rattle.entry.specs.Change.{Change, entriesFormed, entriesOf, entriesIn, wholeIn}
 use Rattle.entry.specs.Sign.{signFormed}
 use Rattle.snapshot.specs.Calls.{snapshotFormed}
 use Rattle.model.specs.Diff.{Given, plain, complete, delta}
@@ -53,4 +53,4 @@ lentWhole held x incoming suffix =
 unfoldable pub requestFormed : Bool → LogSync → List ℕ → List ℕ → Bool
 requestFormed held x incoming suffix =
     lentWhole held x incoming suffix
-    && (not held || (formed (entriesIn suffix) && (not (x .«stop_held») || signFormed (x .stopsign))))
+    && (not held || (entriesFormed (entriesIn suffix) && (not (x .«stop_held») || signFormed (x .stopsign))))

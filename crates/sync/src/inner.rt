@@ -6,8 +6,8 @@ use entry::LogIndex;
 use entry::Refusal;
 use internal_storage::inner::Check;
 use snapshot::Folded;
-use state_cache::Accepted;
-use state_cache::AcceptedAt;
+use state_cache::IndexAnswer;
+use state_cache::IndexAnswerAt;
 use state_cache::IndexRecord;
 ghost use Prim.Native.Nat.{_-_, _≤_};
 ghost use mathlib.Core.Path.{_≡_};
@@ -25,7 +25,7 @@ ghost use Rattle.model.specs.Calls.{sync as syncCall};
 ghost use Rattle.model.specs.Inner.{Sound};
 ghost use Rattle.state_cache.specs.State.{raw, numbersIn};
 ghost use Rattle.state_cache.specs.Inner.{Ready};
-ghost use Rattle.state_cache.specs.Run.{outcome, run, accepted};
+ghost use Rattle.state_cache.specs.Run.{outcome, run, indexSaid};
 ghost use Rattle.internal_storage.specs.Inner.{verdictOf, indexed, byNumbers};
 ghost use Rattle.sync.specs.Requests.{plainBy, partBy, numbersBy, requestFormed};
 ghost use Rattle.sync.specs.Inner.{shotThen, marked, Fits, Taken, Syncs};
@@ -120,20 +120,20 @@ fn mark(index: IndexRecord, accepted_round: Ballot, decided_idx: LogIndex) -> In
 }
 
 // A sync without log part: refusal 6, or the marks alone. No word moves.
-pub fn round_at(index: IndexRecord, accepted_round: Ballot, decided_idx: LogIndex) -> AcceptedAt
+pub fn round_at(index: IndexRecord, accepted_round: Ballot, decided_idx: LogIndex) -> IndexAnswerAt
     requires { ⌜ Sound (numbersIn index) ⌝ }
-    ensures { λ r. ⌜ indexed (accepted (r .answer)) (r .index) ≡ byNumbers (first (roundGuards («decided_idx» .0) (numbersIn index))) (acceptedOf (numbersIn index)) (marked «accepted_round» («decided_idx» .0) index) index ⌝ }
+    ensures { λ r. ⌜ indexed (indexSaid (r .answer)) (r .index) ≡ byNumbers (first (roundGuards («decided_idx» .0) (numbersIn index))) (acceptedOf (numbersIn index)) (marked «accepted_round» («decided_idx» .0) index) index ⌝ }
 {
     let last = state_cache::inner::accepted(index);
     let next = mark(index, accepted_round, decided_idx);
     if last < next.decided.0 {
-        return AcceptedAt {
-            answer: Accepted::Refused(Refusal::AboveAccepted(LogIndex(last))),
+        return IndexAnswerAt {
+            answer: IndexAnswer::Refused(Refusal::AboveAccepted(LogIndex(last))),
             index,
         };
     }
-    AcceptedAt {
-        answer: Accepted::At(LogIndex(last)),
+    IndexAnswerAt {
+        answer: IndexAnswer::At(LogIndex(last)),
         index: next,
     }
 }
@@ -227,15 +227,15 @@ pub fn sync_at(
     log_sync: LogSync,
     incoming: &[u64],
     suffix: &[u64],
-) -> AcceptedAt
+) -> IndexAnswerAt
     requires { ⌜ Syncs (raw index (now log) (now shot)) «log_sync» (now incoming) (now suffix) ⌝ }
-    ensures { λ r. ⌜ outcome (accepted (r .answer)) (raw (r .index) (now (log .exit)) (now (shot .exit))) ≡ run (syncCall «accepted_round» («decided_idx» .0) (some (partBy «log_sync» (now (incoming .entry)) (now (suffix .entry))))) true (raw index (now (log .entry)) (now (shot .entry))) ⌝ }
+    ensures { λ r. ⌜ outcome (indexSaid (r .answer)) (raw (r .index) (now (log .exit)) (now (shot .exit))) ≡ run (syncCall «accepted_round» («decided_idx» .0) (some (partBy «log_sync» (now (incoming .entry)) (now (suffix .entry))))) true (raw index (now (log .entry)) (now (shot .entry))) ⌝ }
 {
     let n = suffix.len() / entry::WIDTH;
     let check = check_sync(index, decided_idx, log_sync, n);
     if let Check::Refused(refusal) = check {
-        return AcceptedAt {
-            answer: Accepted::Refused(refusal),
+        return IndexAnswerAt {
+            answer: IndexAnswer::Refused(refusal),
             index,
         };
     }
@@ -243,15 +243,15 @@ pub fn sync_at(
     let kind = log_sync.decided_snapshot;
     let r = hold(index, log, shot, kind, incoming, log_sync.keys);
     match r {
-        Folded::Refused(refusal) => AcceptedAt {
-            answer: Accepted::Refused(refusal),
+        Folded::Refused(refusal) => IndexAnswerAt {
+            answer: IndexAnswer::Refused(refusal),
             index,
         },
         Folded::Keys(keys) => {
             let next = take_suffix(marked, log, log_sync, suffix, n, keys);
             let accepted = state_cache::inner::accepted(next);
-            AcceptedAt {
-                answer: Accepted::At(LogIndex(accepted)),
+            IndexAnswerAt {
+                answer: IndexAnswer::At(LogIndex(accepted)),
                 index: next,
             }
         }

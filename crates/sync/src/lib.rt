@@ -3,13 +3,13 @@ use entry::Ballot;
 use entry::LogIndex;
 use entry::Refusal;
 use entry::StopSign;
-use state_cache::Accepted;
-use state_cache::AcceptedAt;
+use state_cache::IndexAnswer;
+use state_cache::IndexAnswerAt;
 use state_cache::IndexRecord;
 ghost use mathlib.Core.Path.{_≡_};
 ghost use Rattle.model.specs.Calls.{sync as syncCall};
 ghost use Rattle.state_cache.specs.State.{raw};
-ghost use Rattle.state_cache.specs.Run.{outcome, run, accepted};
+ghost use Rattle.state_cache.specs.Run.{outcome, run, indexSaid};
 ghost use Rattle.sync.specs.Requests.{partOf, lentWhole};
 
 pub mod inner;
@@ -43,18 +43,18 @@ pub fn sync_log(
     log_sync: LogSync,
     incoming: &[u64],
     suffix: &[u64],
-) -> AcceptedAt
-    ensures { λ r. ⌜ outcome (accepted (r .answer)) (raw (r .index) (now (log .exit)) (now (snapshot .exit))) ≡ run (syncCall «accepted_round» («decided_idx» .0) (partOf held «log_sync» (now (incoming .entry)) (now (suffix .entry)))) (lentWhole held «log_sync» (now (incoming .entry)) (now (suffix .entry))) (raw index (now (log .entry)) (now (snapshot .entry))) ⌝ }
+) -> IndexAnswerAt
+    ensures { λ r. ⌜ outcome (indexSaid (r .answer)) (raw (r .index) (now (log .exit)) (now (snapshot .exit))) ≡ run (syncCall «accepted_round» («decided_idx» .0) (partOf held «log_sync» (now (incoming .entry)) (now (suffix .entry)))) (lentWhole held «log_sync» (now (incoming .entry)) (now (suffix .entry))) (raw index (now (log .entry)) (now (snapshot .entry))) ⌝ }
 {
     if !state_cache::well_formed(index, log, snapshot) {
-        return AcceptedAt {
-            answer: Accepted::Refused(Refusal::IllFormed),
+        return IndexAnswerAt {
+            answer: IndexAnswer::Refused(Refusal::IllFormed),
             index,
         };
     }
     if !inner::request_formed(held, log_sync, incoming, suffix) {
-        return AcceptedAt {
-            answer: Accepted::Refused(Refusal::Malformed),
+        return IndexAnswerAt {
+            answer: IndexAnswer::Refused(Refusal::Malformed),
             index,
         };
     }

@@ -15,7 +15,7 @@ use Rattle.words.proofs.Tests.{Reach, reached, short, reach, and-left, and-righ
 use Rattle.words.proofs.Alls.{all-head}
 use Rattle.text.specs.Bytes.{bytes}
 use Rattle.text.specs.Rooms.{mostDigits, inputLine}
-use Rattle.text.specs.Number.{isDigit, value, plain, numberOf}
+use Rattle.text.specs.Number.{isDigit, value, plain, numeralOf}
 use Rattle.text.specs.Parse.{_is_, words, onto, bareOf, snapOf, numberedOf, withNumber, withOne, pairedOf, withNumbers, withTwo, commandOf, parseOf}
 use Rattle.text.specs.declared.Parsed.{Parsed}
 use Rattle.text.specs.declared.Parsed.the-variants.{Value, NoNumber}
@@ -106,8 +106,8 @@ value-long (b ∷ c ∷ bs) h p =
     let q = pow-le-pow-right {n = 10} (lit< tt) {i = mostDigits} {j = length (c ∷ bs)} (omega arith) in
     omega (arith, g, t, q, one-mul (10 ^ length (c ∷ bs)))
 
-number-long : (xs : List ℕ) → mostDigits < length xs → numberOf xs ≡ NoNumber
-unfolding numberOf
+number-long : (xs : List ℕ) → mostDigits < length xs → numeralOf xs ≡ NoNumber
+unfolding numeralOf
 number-long xs h = go (plain xs) (value-long xs h)
   where
     go : (t : Bool) → (t ≡ true → 2 ^ 64 ≤ value 0 xs) → (if t && ltb (value 0 xs) (2 ^ 64) then Value (value 0 xs) else NoNumber) ≡ NoNumber
@@ -123,13 +123,13 @@ one-long : (w a : List ℕ) → mostDigits < length a → withOne w a ≡ BadLin
 unfolding withOne snapOf
 one-long w a h = go (w is "snap")
   where
-    go : (t : Bool) → (if t then snapOf a else withNumber w (numberOf a)) ≡ BadLine
+    go : (t : Bool) → (if t then snapOf a else withNumber w (numeralOf a)) ≡ BadLine
     go true = rw (off a "all" (omega arith), number-long a h)
     go false = rw (number-long a h)
 
 one-other : (w a : List ℕ) → length (bytes "decide") < length w → withOne w a ≡ BadLine
 unfolding withOne
-one-other w a h = rw (off w "snap" (omega arith)) (long-number w h (numberOf a))
+one-other w a h = rw (off w "snap" (omega arith)) (long-number w h (numeralOf a))
 
 long-one : (w a : List ℕ) → length (bytes "decide") + 1 + mostDigits < length w + 1 + length a → withOne w a ≡ BadLine
 long-one w a h = go (reach (length w) (length (bytes "decide")))
@@ -142,9 +142,9 @@ long-two : (w a b : List ℕ) → inputLine < length w + 1 + length a + 1 + leng
 long-two w a b h = go (reach (length w) (length (bytes "read"))) (reach (length a) mostDigits)
   where
     go : Reach (length w) (length (bytes "read")) → Reach (length a) mostDigits → withTwo w a b ≡ BadLine
-    go (short l) r = long-numbers w l (numberOf a) (numberOf b)
+    go (short l) r = long-numbers w l (numeralOf a) (numeralOf b)
     go (reached l) (short k) = rw (number-long a k)
-    go (reached l) (reached k) = rw (number-long b (omega arith)) (second-long w (numberOf a))
+    go (reached l) (reached k) = rw (number-long b (omega arith)) (second-long w (numeralOf a))
 
 long-words : (ws : List (List ℕ)) → inputLine + 1 < total ws → commandOf ws ≡ BadLine
 unfolding total

@@ -12,7 +12,7 @@ use lib.ListN.{length, getD, take, drop, drop-of-length-le}
 use lib.Seq.{drop-cons}
 use Rattle.words.specs.If.{if_then_else_}
 use Rattle.words.specs.All.{allOf}
-use Rattle.text.specs.Number.{isDigit, value, numberOf}
+use Rattle.text.specs.Number.{isDigit, value, numeralOf}
 use Rattle.text.specs.Parse.{sameOf, words, onto, commandOf}
 use Rattle.text.specs.Bytes.{gapOf}
 use Rattle.text.specs.declared.Parsed.{Parsed}
@@ -96,25 +96,25 @@ value-grows : (n : ℕ) (xs : List ℕ) → n ≤ value n xs
 value-grows n [] = omega arith
 value-grows n (b ∷ bs) = omega (arith, value-grows (n * 10 + (b - 48)) bs)
 
-pub number-empty : (s : List ℕ) → length s ≡ 0 → numberOf s ≡ NoNumber
-unfolding numberOf
+pub number-empty : (s : List ℕ) → length s ≡ 0 → numeralOf s ≡ NoNumber
+unfolding numeralOf
 number-empty [] e = refl
 number-empty (b ∷ bs) e = absurd (omega arith)
 
-pub number-zero : (s : List ℕ) → 1 < length s → getD s 0 0 ≡ 48 → numberOf s ≡ NoNumber
-unfolding numberOf
+pub number-zero : (s : List ℕ) → 1 < length s → getD s 0 0 ≡ 48 → numeralOf s ≡ NoNumber
+unfolding numeralOf
 number-zero [] h e = absurd (omega arith)
 number-zero (b ∷ []) h e = absurd (omega arith)
 number-zero (b ∷ c ∷ bs) h e = rw (eq-eqb b 48 e)
 
-pub number-one : (s : List ℕ) → length s ≡ 1 → whole 0 s ≡ numberOf s
-unfolding numberOf whole allOf
+pub number-one : (s : List ℕ) → length s ≡ 1 → whole 0 s ≡ numeralOf s
+unfolding numeralOf whole allOf
 number-one [] e = absurd (omega arith)
 number-one (b ∷ []) e = rw (and-true (isDigit b))
 number-one (b ∷ c ∷ bs) e = absurd (omega arith)
 
-pub number-more : (s : List ℕ) → 1 < length s → (getD s 0 0 ≡ 48 → ⊥) → whole 0 s ≡ numberOf s
-unfolding numberOf whole allOf
+pub number-more : (s : List ℕ) → 1 < length s → (getD s 0 0 ≡ 48 → ⊥) → whole 0 s ≡ numeralOf s
+unfolding numeralOf whole allOf
 number-more [] h ne = absurd (omega arith)
 number-more (b ∷ []) h ne = absurd (omega arith)
 number-more (b ∷ c ∷ bs) h ne = rw (ne-eqb b 48 ne)

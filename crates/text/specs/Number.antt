@@ -23,5 +23,5 @@ abbrev pub value : ℕ → List ℕ → ℕ
 value n [] = n
 value n (b ∷ bs) = value (n * 10 + (b - 48)) bs
 
-unfoldable pub numberOf : List ℕ → Parsed
-numberOf xs = if plain xs && ltb (value 0 xs) (2 ^ 64) then Value (value 0 xs) else NoNumber
+unfoldable pub numeralOf : List ℕ → Parsed
+numeralOf xs = if plain xs && ltb (value 0 xs) (2 ^ 64) then Value (value 0 xs) else NoNumber

@@ -7,7 +7,7 @@ use lib.Dec.{ltb, eqb}
 use Rattle.words.specs.If.{if_then_else_}
 use Rattle.entry.specs.declared.Upto.the-variants.{Decided, Index}
 use Rattle.text.specs.Bytes.{bytes}
-use Rattle.text.specs.Number.{numberOf}
+use Rattle.text.specs.Number.{numeralOf}
 use Rattle.text.specs.declared.Parsed.{Parsed}
 use Rattle.text.specs.declared.Parsed.the-variants.{Value, NoNumber}
 use Rattle.text.specs.declared.Command.{Command}
@@ -57,10 +57,10 @@ snapTo (Value n) = Snap (Index (record { 0 = n }))
 snapTo NoNumber = BadLine
 
 unfoldable pub snapOf : List ℕ → Command
-snapOf a = if a is "all" then Snap Decided else snapTo (numberOf a)
+snapOf a = if a is "all" then Snap Decided else snapTo (numeralOf a)
 
 unfoldable pub withOne : List ℕ → List ℕ → Command
-withOne w a = if w is "snap" then snapOf a else withNumber w (numberOf a)
+withOne w a = if w is "snap" then snapOf a else withNumber w (numeralOf a)
 
 -- a line of three words
 unfoldable pub pairedOf : List ℕ → ℕ → ℕ → Command
@@ -75,7 +75,7 @@ withNumbers w (Value m) NoNumber = BadLine
 withNumbers w NoNumber q = BadLine
 
 abbrev pub withTwo : List ℕ → List ℕ → List ℕ → Command
-withTwo w a b = withNumbers w (numberOf a) (numberOf b)
+withTwo w a b = withNumbers w (numeralOf a) (numeralOf b)
 
 abbrev pub commandOf : List (List ℕ) → Command
 commandOf [] = BadLine

@@ -14,7 +14,7 @@ ghost use Rattle.io.specs.Counts.{Counts};
 ghost use Rattle.text.specs.Bytes.{bytes, gapOf};
 ghost use Rattle.text.specs.Rooms.{mostDigits, outputLine};
 ghost use Rattle.text.specs.Feeding.{come, joined, nextAt};
-ghost use Rattle.text.specs.Number.{numberOf};
+ghost use Rattle.text.specs.Number.{numeralOf};
 ghost use Rattle.text.specs.Answers.{decimalOf, lineOf, entryText, entryLine, entryLines};
 ghost use Rattle.text.specs.declared.Line.the-variants.{Stop};
 
@@ -35,7 +35,7 @@ pub fn gap(s: &[u8], b: u8) -> usize
 
 // The number that s spells in decimal, without leading zeros and below 2^64.
 pub fn number(s: &[u8]) -> Parsed
-    ensures { λ r. ⌜ r ≡ numberOf (now (s .entry)) ⌝ }
+    ensures { λ r. ⌜ r ≡ numeralOf (now (s .entry)) ⌝ }
 {
     if s.len() == 0 {
         return Parsed::NoNumber;

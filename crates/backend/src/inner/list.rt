@@ -15,7 +15,7 @@ ghost use Rattle.state_cache.specs.State.{raw, numbersIn};
 ghost use Rattle.state_cache.specs.Inner.{Small};
 ghost use Rattle.state_cache.specs.Run.{outcome, run, settled};
 ghost use Rattle.backend.specs.Ops.{opsIn, lentOf};
-ghost use Rattle.backend.specs.Inner.{midstOf, Held, Listed, Wrote};
+ghost use Rattle.backend.specs.Inner.{midstOf, Kept, Listed, Wrote};
 
 // What is judged after the last operation: refusals 9 and 12. Every operation keeps the words in form, so the numbers alone are asked.
 fn judge_last(
@@ -25,7 +25,7 @@ fn judge_last(
     log: &[u64],
     shot: &[u64],
 ) -> Settled
-    requires { ⌜ Held (raw index (now log) (now shot)) ⌝ }
+    requires { ⌜ Kept (raw index (now log) (now shot)) ⌝ }
     requires { ⌜ Small (numbersIn before) ⌝ }
     ensures { λ r. ⌜ settled r
         ≡ settle
@@ -87,7 +87,7 @@ fn run_ops(
     SettledAt { answer, index }
 }
 
-// All operations or none: they run on copies of the words, which are written back where the whole list stands.
+// All operations or none: they run on copies of the words, which are listWritten back where the whole list stands.
 pub fn write_at(
     before: IndexRecord,
     log: &mut [u64],

@@ -17,7 +17,7 @@ ghost use Rattle.model.specs.Backend.{appendOnPrefix, trim, supplied, stepGuard
 ghost use Rattle.state_cache.specs.State.{raw, numbersIn};
 ghost use Rattle.state_cache.specs.Inner.{Small};
 ghost use Rattle.backend.specs.Ops.{opOf, lentOf};
-ghost use Rattle.backend.specs.Inner.{onlyEntries, askedKeys, askedWords, midstOf, Held, doneAt, rejoined, roomGuards, Goes, Lends};
+ghost use Rattle.backend.specs.Inner.{onlyEntries, askedKeys, askedWords, midstOf, Kept, doneAt, rejoined, roomGuards, Goes, Lends};
 
 // A list's state after an operation, and the start of the run, which may not be compacted.
 pub struct Stepped {
@@ -46,7 +46,7 @@ fn put_at(
     at: usize,
     entries: &[u64],
 ) -> Stepped
-    requires { ⌜ Held (raw index (now log) (now shot)) ⌝ }
+    requires { ⌜ Kept (raw index (now log) (now shot)) ⌝ }
     requires { ⌜ at ≤ index .retained ⌝ }
     requires { ⌜ sliceFormed (now entries) ≡ true ⌝ }
     ensures { λ r. ⌜ Goes
@@ -87,7 +87,7 @@ fn put_on_prefix(
     from: LogIndex,
     entries: &[u64],
 ) -> Stepped
-    requires { ⌜ Held (raw index (now log) (now shot)) ⌝ }
+    requires { ⌜ Kept (raw index (now log) (now shot)) ⌝ }
     requires { ⌜ Small (numbersIn before) ⌝ }
     requires { ⌜ sliceFormed (now entries) ≡ true ⌝ }
     ensures { λ r. ⌜ Goes
@@ -111,7 +111,7 @@ fn put_on_prefix(
 
 // Drops the entries below an index, and moves the run's start there if it is higher.
 fn trim_to(start: u64, index: IndexRecord, log: &mut [u64], shot: &[u64], to: LogIndex) -> Stepped
-    requires { ⌜ Held (raw index (now log) (now shot)) ⌝ }
+    requires { ⌜ Kept (raw index (now log) (now shot)) ⌝ }
     ensures { λ r. ⌜ Goes []
         (step (onlyEntries []) (trim (to .0)) (midstOf start (raw index (now (log .entry)) (now (shot .entry)))))
         r (now (log .exit)) (now (shot .entry)) ⌝ }
@@ -156,7 +156,7 @@ pub fn step(
     lent: Lent,
     o: Op,
 ) -> Stepped
-    requires { ⌜ Held (raw index (now log) (now shot)) ⌝ }
+    requires { ⌜ Kept (raw index (now log) (now shot)) ⌝ }
     requires { ⌜ Small (numbersIn before) ⌝ }
     requires { ⌜ Lends lent (now entries) (now incoming) ⌝ }
     requires { ⌜ supplied (lentOf lent (now entries) (now incoming)) (opOf o) ≡ true ⌝ }

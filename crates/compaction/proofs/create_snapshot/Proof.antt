@@ -10,7 +10,7 @@ use Rattle.model.specs.Calls.{query, create}
 use Rattle.state_cache.specs.State.{Raw, raw, formed}
 use Rattle.state_cache.specs.Run.{run}
 use Rattle.state_cache.proofs.Stands.{ready-of}
-use Rattle.compaction.specs.Written.{writtenOut}
+use Rattle.snapshot.specs.Calls.{writtenOut}
 use Rattle.compaction.proofs.Creates.{create-ill-formed, create-malformed}
 use borrow.Author.Needs.{needs}
 use Rattle.compaction.proofs.create_snapshot.Statement.{statement}

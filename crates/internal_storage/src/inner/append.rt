@@ -1,12 +1,12 @@
 // Appends of entries to a log that is known to be well formed: not for a user, whose calls are in append.rt.
-use super::super::AcceptedIdx;
-use super::super::AcceptedIdxAt;
+use super::super::MaybeIndex;
+use super::super::MaybeIndexAt;
 use super::super::Appended;
 use super::super::AppendedAt;
 use entry::Refusal;
 use entry::Said;
-use state_cache::Accepted;
-use state_cache::AcceptedAt;
+use state_cache::IndexAnswer;
+use state_cache::IndexAnswerAt;
 use state_cache::IndexRecord;
 ghost use mathlib.Core.Path.{_≡_};
 ghost use mathlib.Core.Bool.{true};
@@ -15,8 +15,8 @@ ghost use Rattle.entry.specs.Change.{saidIs, entriesIn, wholeIn};
 ghost use Rattle.model.specs.Calls.{append, appendNow};
 ghost use Rattle.state_cache.specs.State.{raw};
 ghost use Rattle.state_cache.specs.Inner.{Ready};
-ghost use Rattle.state_cache.specs.Run.{outcome, run, accepted};
-ghost use Rattle.internal_storage.specs.Replies.{appended, acceptedIdx, indexOnly, withIndexOnly};
+ghost use Rattle.state_cache.specs.Run.{outcome, run, indexSaid};
+ghost use Rattle.internal_storage.specs.Replies.{appendSaid, maybeIndexSaid, indexOnly, withIndexOnly};
 
 pub fn append_entry_with_batching(
     index: IndexRecord,
@@ -26,7 +26,7 @@ pub fn append_entry_with_batching(
     said: Said,
 ) -> AppendedAt
     requires { ⌜ Ready (raw index (now log) (now snapshot)) ⌝ }
-    ensures { λ r. ⌜ outcome (appended (r .answer)) (raw (r .index) (now (log .exit)) (now (snapshot .entry)))
+    ensures { λ r. ⌜ outcome (appendSaid (r .answer)) (raw (r .index) (now (log .exit)) (now (snapshot .entry)))
         ≡ run
         (append (record { key = key; said = saidIs said } ∷ []))
         true
@@ -43,7 +43,7 @@ pub fn append_entries_with_batching(
     entries: &[u64],
 ) -> AppendedAt
     requires { ⌜ Ready (raw index (now log) (now snapshot)) ⌝ }
-    ensures { λ r. ⌜ outcome (appended (r .answer)) (raw (r .index) (now (log .exit)) (now (snapshot .entry))) ≡ run (append (entriesIn (now (entries .entry)))) (wholeIn (now (entries .entry))) (raw index (now (log .entry)) (now (snapshot .entry))) ⌝ }
+    ensures { λ r. ⌜ outcome (appendSaid (r .answer)) (raw (r .index) (now (log .exit)) (now (snapshot .entry))) ≡ run (append (entriesIn (now (entries .entry)))) (wholeIn (now (entries .entry))) (raw index (now (log .entry)) (now (snapshot .entry))) ⌝ }
 {
     if !entry::entries_formed(entries) {
         return AppendedAt {
@@ -59,13 +59,13 @@ pub fn append_entries_without_batching(
     log: &mut [u64],
     snapshot: &[u64],
     entries: &[u64],
-) -> AcceptedAt
+) -> IndexAnswerAt
     requires { ⌜ Ready (raw index (now log) (now snapshot)) ⌝ }
-    ensures { λ r. ⌜ outcome (accepted (r .answer)) (raw (r .index) (now (log .exit)) (now (snapshot .entry))) ≡ run (appendNow (entriesIn (now (entries .entry)))) (wholeIn (now (entries .entry))) (raw index (now (log .entry)) (now (snapshot .entry))) ⌝ }
+    ensures { λ r. ⌜ outcome (indexSaid (r .answer)) (raw (r .index) (now (log .exit)) (now (snapshot .entry))) ≡ run (appendNow (entriesIn (now (entries .entry)))) (wholeIn (now (entries .entry))) (raw index (now (log .entry)) (now (snapshot .entry))) ⌝ }
 {
     if !entry::entries_formed(entries) {
-        return AcceptedAt {
-            answer: Accepted::Refused(Refusal::Malformed),
+        return IndexAnswerAt {
+            answer: IndexAnswer::Refused(Refusal::Malformed),
             index,
         };
     }
@@ -73,16 +73,16 @@ pub fn append_entries_without_batching(
 }
 
 // An append's answer without the number of entries flushed.
-fn index_only(answer: Appended) -> AcceptedIdx
-    ensures { λ r. ⌜ acceptedIdx r ≡ indexOnly (appended answer) ⌝ }
+fn index_only(answer: Appended) -> MaybeIndex
+    ensures { λ r. ⌜ maybeIndexSaid r ≡ indexOnly (appendSaid answer) ⌝ }
 {
     match answer {
-        Appended::Held => AcceptedIdx::Held,
+        Appended::Nothing => MaybeIndex::Nothing,
         Appended::Flushed {
             accepted,
             entries: _,
-        } => AcceptedIdx::At(accepted),
-        Appended::Refused(refusal) => AcceptedIdx::Refused(refusal),
+        } => MaybeIndex::At(accepted),
+        Appended::Refused(refusal) => MaybeIndex::Refused(refusal),
     }
 }
 
@@ -91,14 +91,14 @@ pub fn append_entries_and_get_accepted_idx(
     log: &mut [u64],
     snapshot: &[u64],
     entries: &[u64],
-) -> AcceptedIdxAt
+) -> MaybeIndexAt
     requires { ⌜ Ready (raw index (now log) (now snapshot)) ⌝ }
-    ensures { λ r. ⌜ outcome (acceptedIdx (r .answer)) (raw (r .index) (now (log .exit)) (now (snapshot .entry))) ≡ withIndexOnly (run (append (entriesIn (now (entries .entry)))) (wholeIn (now (entries .entry))) (raw index (now (log .entry)) (now (snapshot .entry)))) ⌝ }
+    ensures { λ r. ⌜ outcome (maybeIndexSaid (r .answer)) (raw (r .index) (now (log .exit)) (now (snapshot .entry))) ≡ withIndexOnly (run (append (entriesIn (now (entries .entry)))) (wholeIn (now (entries .entry))) (raw index (now (log .entry)) (now (snapshot .entry)))) ⌝ }
 {
     let appended = append_entries_with_batching(index, log, snapshot, entries);
     let answer = appended.answer;
     let next = appended.index;
-    AcceptedIdxAt {
+    MaybeIndexAt {
         answer: index_only(answer),
         index: next,
     }

@@ -4,8 +4,8 @@ use super::super::AppendedAt;
 use entry::LogIndex;
 use entry::Refusal;
 use entry::StopSign;
-use state_cache::Accepted;
-use state_cache::AcceptedAt;
+use state_cache::IndexAnswer;
+use state_cache::IndexAnswerAt;
 use state_cache::IndexRecord;
 ghost use mathlib.Core.Path.{_≡_};
 ghost use mathlib.Core.Bool.{true};
@@ -16,14 +16,14 @@ ghost use Rattle.model.specs.Calls.{appendStop, setStop};
 ghost use Rattle.model.specs.Inner.{Sound};
 ghost use Rattle.state_cache.specs.State.{raw, numbersIn};
 ghost use Rattle.state_cache.specs.Inner.{Ready, withStop};
-ghost use Rattle.state_cache.specs.Run.{outcome, run, accepted};
-ghost use Rattle.internal_storage.specs.Replies.{appended, asked};
+ghost use Rattle.state_cache.specs.Run.{outcome, run, indexSaid};
+ghost use Rattle.internal_storage.specs.Replies.{appendSaid, asked};
 ghost use Rattle.internal_storage.specs.Inner.{indexed, byNumbers, flushSays, allFlushed};
 
 // Refusals 4 and 9, or the batch flushed and the stop-sign after it.
 fn append_stop_at(index: IndexRecord, ss: StopSign) -> AppendedAt
     requires { ⌜ Sound (numbersIn index) ⌝ }
-    ensures { λ r. ⌜ indexed (appended (r .answer)) (r .index) ≡ byNumbers (first (appendStopGuards (numbersIn index))) (flushSays index) (withStop true ss (allFlushed index)) index ⌝ }
+    ensures { λ r. ⌜ indexed (appendSaid (r .answer)) (r .index) ≡ byNumbers (first (appendStopGuards (numbersIn index))) (flushSays index) (withStop true ss (allFlushed index)) index ⌝ }
 {
     let last = state_cache::inner::accepted(index);
     if index.stop_held {
@@ -55,7 +55,7 @@ pub fn append_stopsign(
     ss: StopSign,
 ) -> AppendedAt
     requires { ⌜ Ready (raw index (now log) (now snapshot)) ⌝ }
-    ensures { λ r. ⌜ outcome (appended (r .answer)) (raw (r .index) (now (log .entry)) (now (snapshot .entry))) ≡ run (appendStop ss) true (raw index (now (log .entry)) (now (snapshot .entry))) ⌝ }
+    ensures { λ r. ⌜ outcome (appendSaid (r .answer)) (raw (r .index) (now (log .entry)) (now (snapshot .entry))) ≡ run (appendStop ss) true (raw index (now (log .entry)) (now (snapshot .entry))) ⌝ }
 {
     if !entry::sign_formed(ss) {
         return AppendedAt {
@@ -67,21 +67,21 @@ pub fn append_stopsign(
 }
 
 // Refusals 4, 10 and 9, or the flag and the stop-sign set.
-fn set_stop_at(index: IndexRecord, held: bool, ss: StopSign) -> AcceptedAt
+fn set_stop_at(index: IndexRecord, held: bool, ss: StopSign) -> IndexAnswerAt
     requires { ⌜ Sound (numbersIn index) ⌝ }
-    ensures { λ r. ⌜ indexed (accepted (r .answer)) (r .index) ≡ byNumbers (first (setStopGuards held (numbersIn index))) (acceptedOf (numbersIn (withStop held ss index))) (withStop held ss index) index ⌝ }
+    ensures { λ r. ⌜ indexed (indexSaid (r .answer)) (r .index) ≡ byNumbers (first (setStopGuards held (numbersIn index))) (acceptedOf (numbersIn (withStop held ss index))) (withStop held ss index) index ⌝ }
 {
     let last = state_cache::inner::accepted(index);
     if state_cache::inner::stop_decided(index) {
-        return AcceptedAt {
-            answer: Accepted::Refused(Refusal::Stopped(LogIndex(last))),
+        return IndexAnswerAt {
+            answer: IndexAnswer::Refused(Refusal::Stopped(LogIndex(last))),
             index,
         };
     }
     let waiting = index.batched;
     if held & (0 < waiting) {
-        return AcceptedAt {
-            answer: Accepted::Refused(Refusal::BatchHeld(waiting)),
+        return IndexAnswerAt {
+            answer: IndexAnswer::Refused(Refusal::BatchHeld(waiting)),
             index,
         };
     }
@@ -90,13 +90,13 @@ fn set_stop_at(index: IndexRecord, held: bool, ss: StopSign) -> AcceptedAt
     next.stop = ss;
     let then = state_cache::inner::accepted(next);
     if entry::LAST_INDEX < then + waiting as u64 {
-        return AcceptedAt {
-            answer: Accepted::Refused(Refusal::PastLastIndex(LogIndex(last))),
+        return IndexAnswerAt {
+            answer: IndexAnswer::Refused(Refusal::PastLastIndex(LogIndex(last))),
             index,
         };
     }
-    AcceptedAt {
-        answer: Accepted::At(LogIndex(then)),
+    IndexAnswerAt {
+        answer: IndexAnswer::At(LogIndex(then)),
         index: next,
     }
 }
@@ -108,14 +108,14 @@ pub fn set_stopsign(
     snapshot: &[u64],
     held: bool,
     ss: StopSign,
-) -> AcceptedAt
+) -> IndexAnswerAt
     requires { ⌜ Ready (raw index (now log) (now snapshot)) ⌝ }
-    ensures { λ r. ⌜ outcome (accepted (r .answer)) (raw (r .index) (now (log .entry)) (now (snapshot .entry))) ≡ run (setStop (asked held ss)) true (raw index (now (log .entry)) (now (snapshot .entry))) ⌝ }
+    ensures { λ r. ⌜ outcome (indexSaid (r .answer)) (raw (r .index) (now (log .entry)) (now (snapshot .entry))) ≡ run (setStop (asked held ss)) true (raw index (now (log .entry)) (now (snapshot .entry))) ⌝ }
 {
     let formed = entry::sign_formed(ss);
     if held & !formed {
-        return AcceptedAt {
-            answer: Accepted::Refused(Refusal::Malformed),
+        return IndexAnswerAt {
+            answer: IndexAnswer::Refused(Refusal::Malformed),
             index,
         };
     }

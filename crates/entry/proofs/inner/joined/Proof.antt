@@ -13,25 +13,25 @@ use Rattle.words.specs.All.{allOf}
 use Rattle.words.proofs.Alls.{all-cons}
 use Rattle.words.proofs.CodedLaws.{entries-length}
 use Rattle.entry.specs.Limits.{places}
-use Rattle.entry.specs.Change.{Change, changeCode, changeFormed, formed, entriesOf}
+use Rattle.entry.specs.Change.{Change, changeCode, changeFormed, entriesFormed, entriesOf}
 use Rattle.entry.specs.Inner.{changeAt}
 use Rattle.entry.proofs.ChangeLaws.{entry-cons}
 use Rattle.entry.proofs.inner.joined.Statement.{statement}
 use Rattle.entry.proofs.inner.joined.Tie as tie
 
 abbrev Inv-loop : tie.InvT-loop
-Inv-loop s n all₀ i₀ all i = (i ≤ n) × (all < places → formed (drop i (entriesOf n s)) ≡ true → formed (entriesOf n s) ≡ true)
+Inv-loop s n all₀ i₀ all i = (i ≤ n) × (all < places → entriesFormed (drop i (entriesOf n s)) ≡ true → entriesFormed (entriesOf n s) ≡ true)
 
 abbrev μ-loop : tie.MeasureT-loop
 μ-loop s n all₀ i₀ all i = n - i
 
 -- one place more is in form
-turn : (i : ℕ) (x : Change) (l : List Change) → drop i l ≡ x ∷ drop (suc i) l → changeFormed x ≡ true → formed (drop (i + 1) l) ≡ true → formed (drop i l) ≡ true
-turn i x l e f g = ap formed e ∙ all-cons changeFormed x (drop (suc i) l) f (rw (← add-one i) g)
+turn : (i : ℕ) (x : Change) (l : List Change) → drop i l ≡ x ∷ drop (suc i) l → changeFormed x ≡ true → entriesFormed (drop (i + 1) l) ≡ true → entriesFormed (drop i l) ≡ true
+turn i x l e f g = ap entriesFormed e ∙ all-cons changeFormed x (drop (suc i) l) f (rw (← add-one i) g)
 
-none-left : (l : List Change) (i : ℕ) → length l ≤ i → formed (drop i l) ≡ true
+none-left : (l : List Change) (i : ℕ) → length l ≤ i → entriesFormed (drop i l) ≡ true
 unfolding allOf
-none-left l i h = ap formed (drop-of-length-le l {i = i} h)
+none-left l i h = ap entriesFormed (drop-of-length-le l {i = i} h)
 
 loop-holds : tie.Need-loop-holds Inv-loop μ-loop
 loop-holds c = (omega arith, λ h e. e)

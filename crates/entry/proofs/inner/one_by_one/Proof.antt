@@ -8,14 +8,14 @@ use lib.ListN.{drop}
 use denote.Ref.{now}
 use Rattle.words.proofs.Alls.{all-turn, all-end}
 use Rattle.words.proofs.CodedLaws.{entries-length}
-use Rattle.entry.specs.Change.{changeCode, changeFormed, formed, entriesOf}
+use Rattle.entry.specs.Change.{changeCode, changeFormed, entriesFormed, entriesOf}
 use Rattle.entry.specs.Inner.{changeAt}
 use Rattle.entry.proofs.ChangeLaws.{entry-cons}
 use Rattle.entry.proofs.inner.one_by_one.Statement.{statement}
 use Rattle.entry.proofs.inner.one_by_one.Tie as tie
 
 abbrev Inv-loop : tie.InvT-loop
-Inv-loop s n ok₀ i₀ ok i = (i ≤ n) × ((ok && formed (drop i (entriesOf n s))) ≡ formed (entriesOf n s))
+Inv-loop s n ok₀ i₀ ok i = (i ≤ n) × ((ok && entriesFormed (drop i (entriesOf n s))) ≡ entriesFormed (entriesOf n s))
 
 abbrev μ-loop : tie.MeasureT-loop
 μ-loop s n ok₀ i₀ ok i = n - i
@@ -50,7 +50,7 @@ loop-again c =
     let a = l .before .before .args in
     let es = entriesOf (a .n) (now (a .s)) in (
       omega arith,
-      ap (λ (t : Bool). l .loop .ok && t && formed (drop (l .loop .i + 1) es)) (c .place-formed .ensures)
+      ap (λ (t : Bool). l .loop .ok && t && entriesFormed (drop (l .loop .i + 1) es)) (c .place-formed .ensures)
           ∙ all-turn changeFormed es (l .loop .i) (l .loop .ok) _ (l .loop .inv .1) (changeAt (now (a .s)) (l .loop .i)) (entry-cons (l .loop .i) (a .n) (now (a .s)) (omega arith)),
     )
 

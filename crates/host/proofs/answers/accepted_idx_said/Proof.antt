@@ -1,5 +1,5 @@
 use mathlib.Core.Path.{sym, ap, _∙_}
-use Rattle.internal_storage.specs.Replies.{acceptedIdx}
+use Rattle.internal_storage.specs.Replies.{maybeIndexSaid}
 use Rattle.host.specs.Plain.{plain, maybeNumber}
 use borrow.Author.Needs.{needs}
 use Rattle.host.proofs.answers.accepted_idx_said.Statement.{statement}
@@ -30,7 +30,7 @@ returns-2 : tie.Need-returns-2
 returns-2 c = cc
 
 returns-3 : tie.Need-returns-3
-returns-3 c = c .refuse .ensures ∙ sym (ap (λ a. plain maybeNumber (acceptedIdx a)) (c .before .before .answer2 .given .1))
+returns-3 c = c .refuse .ensures ∙ sym (ap (λ a. plain maybeNumber (maybeIndexSaid a)) (c .before .before .answer2 .given .1))
 
 pub accepted-idx-said-spec : {M : Type 1} → statement M
 accepted-idx-said-spec =

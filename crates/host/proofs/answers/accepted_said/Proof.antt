@@ -1,5 +1,5 @@
 use mathlib.Core.Path.{sym, ap, _∙_}
-use Rattle.state_cache.specs.Run.{accepted}
+use Rattle.state_cache.specs.Run.{indexSaid}
 use Rattle.host.specs.Plain.{plain, aNumber}
 use borrow.Author.Needs.{needs}
 use Rattle.host.proofs.answers.accepted_said.Statement.{statement}

@@ -1,5 +1,5 @@
 use mathlib.Core.Path.{sym, ap, _∙_}
-use Rattle.internal_storage.specs.Replies.{appended}
+use Rattle.internal_storage.specs.Replies.{appendSaid}
 use Rattle.host.specs.Plain.{plain, maybeFlushed}
 use borrow.Author.Needs.{needs}
 use Rattle.host.proofs.answers.appended_said.Statement.{statement}

@@ -66,15 +66,15 @@ said-at-requires c κs =
     let st = d .before .before .before in
     omega (arith, newest-is c .inside, look-inside (raw (st .args .index) (now (st .args .log)) (now (st .args .snapshot))) (st .pre) (st .args .key) (d .log-decided .result) (d .log-decided .ensures))
 
-told-requires : tie.Need-told-requires
-told-requires c κs = search needs
+found-of-requires : tie.Need-found-of-requires
+found-of-requires c κs = search needs
 
 returns-2 : tie.Need-returns-2
 returns-2 c =
     let e = c .before .before in
     let d = e .before .before .before .before .before in
     let st = d .before .before .before in
-    c .told .ensures
+    c .found-of .ensures
     ∙ ap (λ (x : Said). replied (placeOf (some x))) (c .before .said-at .ensures)
     ∙ look-said (raw (st .args .index) (now (st .args .log)) (now (st .args .snapshot))) (st .pre) (st .args .key) (d .log-decided .result) (d .log-decided .ensures) _ (newest-is e .says)
 
@@ -90,5 +90,5 @@ look-spec =
     look-up-requires
     returns
     said-at-requires
-    told-requires
+    found-of-requires
     returns-2)

@@ -8,7 +8,7 @@ use Rattle.state_cache.proofs.Small.{end-le}
 use Rattle.reading.specs.Inner.{kindIs, entryIs, runOfNone}
 use Rattle.reading.specs.declared.ReadReply.the-variants.{Run}
 use Rattle.reading.specs.declared.inner.IndexEntry.the-variants.{Compacted, Entry, StopSign}
-use Rattle.reading.specs.declared.inner.Kind.the-variants.{Nothing, Held}
+use Rattle.reading.specs.declared.inner.Kind.the-variants.{Nothing, Is}
 use Rattle.reading.proofs.Replying.{case-zero, case-marker, case-past}
 use borrow.Author.Needs.{needs}
 use Rattle.reading.proofs.inner.read_at.Statement.{statement}
@@ -18,7 +18,7 @@ held : (e : tie.After-known-told) → entryIs (numbersIn (e .before .before .bef
 held e =
     let k = e .before .before .before in
     let a = k .before .before .args in
-    let h : kindIs (numbersIn (a .index)) (a .to - 1) (Held (e .before .kind .given .0 .0)) = rw (e .before .kind .given .1) at (k .kind-at .ensures) in
+    let h : kindIs (numbersIn (a .index)) (a .to - 1) (Is (e .before .kind .given .0 .0)) = rw (e .before .kind .given .1) at (k .kind-at .ensures) in
     h
 
 returns : tie.Need-returns

@@ -5,7 +5,7 @@ use borrow.Author.Tests.{le-leb, lt-leb}
 use Rattle.state_cache.specs.State.{numbersIn}
 use Rattle.reading.specs.Inner.{kindIs, entryIs}
 use Rattle.reading.specs.declared.ReadReply.the-variants.{Run}
-use Rattle.reading.specs.declared.inner.Kind.the-variants.{Nothing, Held}
+use Rattle.reading.specs.declared.inner.Kind.the-variants.{Nothing, Is}
 use Rattle.reading.proofs.Replying.{held-below, case-nothing, case-run}
 use borrow.Author.Needs.{needs}
 use Rattle.reading.proofs.inner.read_from.Statement.{statement}
@@ -15,7 +15,7 @@ held : (e : tie.After-known-told) → entryIs (numbersIn (e .before .before .bef
 held e =
     let k = e .before .before .before in
     let a = k .before .args in
-    let h : kindIs (numbersIn (a .index)) (a .from) (Held (e .before .kind .given .0 .0)) = rw (e .before .kind .given .1) at (k .kind-at .ensures) in
+    let h : kindIs (numbersIn (a .index)) (a .from) (Is (e .before .kind .given .0 .0)) = rw (e .before .kind .given .1) at (k .kind-at .ensures) in
     h
 
 kind-at-requires : tie.Need-kind-at-requires

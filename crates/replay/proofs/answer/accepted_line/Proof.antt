@@ -3,8 +3,8 @@ use Prim.Native.Nat.{ℕ}
 use mathlib.Core.Path.{sym, ap, _∙_}
 use Rattle.text.specs.Answers.{lineOf}
 use Rattle.text.specs.declared.Line.the-variants.{Refused}
-use Rattle.state_cache.specs.Run.{accepted}
-use Rattle.state_cache.specs.declared.Accepted.{Accepted}
+use Rattle.state_cache.specs.Run.{indexSaid}
+use Rattle.state_cache.specs.declared.IndexAnswer.{Accepted}
 use Rattle.replay.specs.Answering.{acceptedText}
 use borrow.Author.Needs.{needs}
 use Rattle.replay.proofs.answer.accepted_line.Statement.{statement}

@@ -3,7 +3,7 @@ use Prim.Native.Nat.{ℕ}
 use mathlib.Core.Path.{sym, ap, _∙_}
 use Rattle.text.specs.Answers.{lineOf}
 use Rattle.text.specs.declared.Line.the-variants.{Refused}
-use Rattle.internal_storage.specs.Replies.{appended}
+use Rattle.internal_storage.specs.Replies.{appendSaid}
 use Rattle.internal_storage.specs.declared.Appended.{Appended}
 use Rattle.replay.specs.Answering.{appendedText}
 use borrow.Author.Needs.{needs}

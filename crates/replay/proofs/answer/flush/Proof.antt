@@ -1,7 +1,7 @@
--- `replay::answer::flush` meets its contract: the call's outcome is what is told.
+-- `replay::answer::flush` meets its contract: the call's outcome is what is printout.
 use denote.Ref.{now}
 use Rattle.state_cache.specs.State.{raw}
-use Rattle.state_cache.specs.Run.{accepted}
+use Rattle.state_cache.specs.Run.{indexSaid}
 use Rattle.replay.specs.Answering.{acceptedText, answering}
 use Rattle.replay.proofs.Telling.{tells}
 use borrow.Author.Needs.{needs}

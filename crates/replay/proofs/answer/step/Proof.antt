@@ -1,11 +1,11 @@
--- `replay::answer::step` meets its contract: what is told is put.
+-- `replay::answer::step` meets its contract: what is printout is put.
 use Prim.Native.Nat.{ℕ}
 use mathlib.Core.Path.{ap, _∙_}
 use mathlib.Core.List.{List}
 use lib.ListN.{take}
 use denote.Ref.{now}
 use Rattle.state_cache.specs.State.{raw}
-use Rattle.replay.specs.Answering.{told}
+use Rattle.replay.specs.Answering.{printout}
 use Rattle.replay.specs.Feeding.{after}
 use borrow.Author.Needs.{needs}
 use Rattle.replay.proofs.answer.step.Statement.{statement}
@@ -32,7 +32,7 @@ returns c =
     let did = c .before .before .before .before .before .before .before .before .before .before .carry-out in
     let put = c .before .before .put-reply in
     let x = raw (did .result .index) (did .last .1 .0) (did .last .1 .1 .0) in
-    (put .ensures .0, ap (λ (l : List ℕ). told l x) (put .ensures .1 (x .snapshot)) ∙ ap (after (take (a .at) (now (a .out)))) (did .ensures))
+    (put .ensures .0, ap (λ (l : List ℕ). printout l x) (put .ensures .1 (x .snapshot)) ∙ ap (after (take (a .at) (now (a .out)))) (did .ensures))
 
 pub step-spec : {M : Type 1} → statement M
 step-spec =

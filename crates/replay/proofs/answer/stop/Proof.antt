@@ -1,12 +1,12 @@
--- `replay::answer::stop` meets its contract: the call's outcome, and the accepted index after it, are what is told.
+-- `replay::answer::stop` meets its contract: the call's outcome, and the accepted index after it, are what is printout.
 use mathlib.Core.Path.{ap, _∙_}
 use mathlib.Core.Bool.{true}
 use denote.Ref.{now}
 use Rattle.entry.specs.declared.StopSign.{StopSign}
 use Rattle.model.specs.Calls.{appendStop}
 use Rattle.state_cache.specs.State.{raw}
-use Rattle.state_cache.specs.Run.{run, accepted}
-use Rattle.internal_storage.specs.Replies.{appended}
+use Rattle.state_cache.specs.Run.{run, indexSaid}
+use Rattle.internal_storage.specs.Replies.{appendSaid}
 use Rattle.replay.specs.Answering.{answering}
 use Rattle.replay.proofs.Telling.{stops}
 use borrow.Author.Needs.{needs}
@@ -32,7 +32,7 @@ returns c =
     let to = c .before .before .before .append-stopsign in
     let last = c .before .get-accepted-idx in
     let e = to .ensures ∙ ap (λ (g : StopSign). run (appendStop g) true (raw (a .index) (now (a .log)) (now (a .snapshot)))) (c .before .before .before .before .stop-sign .ensures) in
-    stops _ (appended (to .result .answer)) (accepted (last .result)) (raw (to .result .index) (now (a .log)) (now (a .snapshot))) _ e (last .ensures) (c .stop-line .ensures)
+    stops _ (appendSaid (to .result .answer)) (accepted (last .result)) (raw (to .result .index) (now (a .log)) (now (a .snapshot))) _ e (last .ensures) (c .stop-line .ensures)
 
 pub stop-spec : {M : Type 1} → statement M
 stop-spec =

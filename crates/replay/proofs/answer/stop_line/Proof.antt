@@ -3,8 +3,8 @@ use Prim.Native.Nat.{ℕ}
 use mathlib.Core.Path.{sym, ap, _∙_}
 use Rattle.text.specs.Answers.{lineOf}
 use Rattle.text.specs.declared.Line.the-variants.{Refused}
-use Rattle.state_cache.specs.Run.{accepted}
-use Rattle.internal_storage.specs.Replies.{appended}
+use Rattle.state_cache.specs.Run.{indexSaid}
+use Rattle.internal_storage.specs.Replies.{appendSaid}
 use Rattle.internal_storage.specs.declared.Appended.{Appended}
 use Rattle.replay.specs.Answering.{stopLine}
 use borrow.Author.Needs.{needs}
@@ -30,13 +30,13 @@ number-requires : tie.Need-number-requires
 number-requires c κs = search needs
 
 returns : tie.Need-returns
-returns c = c .accepted-line .ensures ∙ sym (ap (λ (x : Appended). stopLine (appended x) (accepted (c .before .before .before .args .last))) (c .before .enum-told .given .1))
+returns c = c .accepted-line .ensures ∙ sym (ap (λ (x : Appended). stopLine (appended x) (indexSaid (c .before .before .before .args .last))) (c .before .enum-told .given .1))
 
 returns-2 : tie.Need-returns-2
-returns-2 c = c .accepted-line2 .ensures ∙ sym (ap (λ (x : Appended). stopLine (appended x) (accepted (c .before .before .before .args .last))) (c .before .enum-told2 .given .1))
+returns-2 c = c .accepted-line2 .ensures ∙ sym (ap (λ (x : Appended). stopLine (appended x) (indexSaid (c .before .before .before .args .last))) (c .before .enum-told2 .given .1))
 
 returns-3 : tie.Need-returns-3
-returns-3 c = ap (λ (n : ℕ). lineOf (Refused n)) (c .number .ensures) ∙ sym (ap (λ (x : Appended). stopLine (appended x) (accepted (c .before .before .before .before .args .last))) (c .before .before .answer .given .1))
+returns-3 c = ap (λ (n : ℕ). lineOf (Refused n)) (c .number .ensures) ∙ sym (ap (λ (x : Appended). stopLine (appended x) (indexSaid (c .before .before .before .before .args .last))) (c .before .before .answer .given .1))
 
 pub stop-line-spec : {M : Type 1} → statement M
 stop-line-spec =

@@ -33,15 +33,15 @@ said-at-requires c κs =
     let st = f .before .before in
     omega (arith, st .pre .laid .fits, spot-inside (st .args .n) (now (st .args .s)) (st .args .key) _ (sym (c .before .spot .given .1) ∙ f .search .ensures))
 
-told-requires : tie.Need-told-requires
-told-requires c κs = search needs
+found-of-requires : tie.Need-found-of-requires
+found-of-requires c κs = search needs
 
 returns-2 : tie.Need-returns-2
 returns-2 c =
     let e = c .before .before in
     let f = e .before .before .before in
     let st = f .before .before in
-    c .told .ensures
+    c .found-of .ensures
     ∙ ap (λ (x : Said). replied (placeOf (some x))) (c .before .said-at .ensures)
     ∙ ap (λ (o : Option Said). replied (placeOf o)) (look-at (st .args .n) (now (st .args .s)) (st .args .key) _ (sym (e .before .spot .given .1) ∙ f .search .ensures))
 
@@ -54,5 +54,5 @@ look-up-spec =
     enum-told
     returns
     said-at-requires
-    told-requires
+    found-of-requires
     returns-2)

@@ -5,13 +5,13 @@ use mathlib.Core.Logic.{⊎-elim}
 use native.Mathlib.Omega.{arith}
 use lib.ListN.{length, drop}
 use denote.Ref.{now}
-use Rattle.text.specs.Number.{numberOf}
+use Rattle.text.specs.Number.{numeralOf}
 use Rattle.text.proofs.ParseLaws.{whole, number-empty, number-zero, number-one, number-more, whole-step, whole-below, whole-above, whole-over, whole-end}
 use Rattle.text.proofs.inner.number.Statement.{statement}
 use Rattle.text.proofs.inner.number.Tie as tie
 
 abbrev Inv-loop : tie.InvT-loop
-Inv-loop s n₀ i₀ n i = (i ≤ length s) × (n < 2 ^ 64) × (whole n (drop i s) ≡ numberOf s)
+Inv-loop s n₀ i₀ n i = (i ≤ length s) × (n < 2 ^ 64) × (whole n (drop i s) ≡ numeralOf s)
 
 abbrev μ-loop : tie.MeasureT-loop
 μ-loop s n₀ i₀ n i = length s - i

@@ -10,7 +10,7 @@ use Rattle.model.specs.Backend.{Lent}
 use Rattle.state_cache.specs.State.{Raw, raw, numbersIn}
 use Rattle.state_cache.proofs.Small.{sound-small}
 use Rattle.backend.specs.Ops.{opOf, opsIn, lentOf}
-use Rattle.backend.specs.Inner.{midstOf, Held}
+use Rattle.backend.specs.Inner.{midstOf, Kept}
 use Rattle.backend.proofs.Turns.{Left, asked, end, is-supplied, turn-refused, turn-held, turn-left, ended, all-left, wrote-refused, wrote, ops-supplied}
 use Rattle.backend.proofs.Amid.{ready-held}
 use borrow.Author.Needs.{needs}
@@ -19,7 +19,7 @@ use Rattle.backend.proofs.inner.list.run_ops.Tie as tie
 
 abbrev Inv-loop : tie.InvT-loop
 Inv-loop before log₀ shot₀ entries incoming lent n ops start₀ index₀ i₀ log shot start index i =
-    (i ≤ n) × (Held (raw index log shot)
+    (i ≤ n) × (Kept (raw index log shot)
     × Left (numbersIn before) (lentOf lent entries incoming) (drop i (map opOf (take n ops))) (midstOf start (raw index log shot))
     (asked (raw before log₀ shot₀) (lentOf lent entries incoming) (map opOf (take n ops))) (end (raw before log₀ shot₀) (lentOf lent entries incoming) (map opOf (take n ops))))
 

@@ -1,6 +1,6 @@
 -- `internal_storage::inner::append::index_only` meets its contract: by the answer.
 use mathlib.Core.Path.{sym, ap}
-use Rattle.internal_storage.specs.Replies.{appended, indexOnly}
+use Rattle.internal_storage.specs.Replies.{appendSaid, indexOnly}
 use Rattle.internal_storage.specs.declared.Appended.{Appended}
 use borrow.Author.Needs.{needs}
 use Rattle.internal_storage.proofs.inner.append.index_only.Statement.{statement}
@@ -19,10 +19,10 @@ returns : tie.Need-returns
 returns c = search needs
 
 returns-2 : tie.Need-returns-2
-returns-2 c = ap (λ (a : Appended). indexOnly (appended a)) (sym (c .before .answer .given .1))
+returns-2 c = ap (λ (a : Appended). indexOnly (appendSaid a)) (sym (c .before .answer .given .1))
 
 returns-3 : tie.Need-returns-3
-returns-3 c = ap (λ (a : Appended). indexOnly (appended a)) (sym (c .before .answer2 .given .1))
+returns-3 c = ap (λ (a : Appended). indexOnly (appendSaid a)) (sym (c .before .answer2 .given .1))
 
 pub index-only-spec : {M : Type 1} → statement M
 index-only-spec =

@@ -6,7 +6,7 @@ use denote.Ref.{now}
 use Rattle.model.specs.Calls.{appendStop, malformed}
 use Rattle.state_cache.specs.State.{Raw, raw}
 use Rattle.state_cache.proofs.Runs.{bad-call}
-use Rattle.internal_storage.specs.Replies.{appended}
+use Rattle.internal_storage.specs.Replies.{appendSaid}
 use Rattle.internal_storage.proofs.Effects.{append-stop-run}
 use borrow.Author.Needs.{needs}
 use Rattle.internal_storage.proofs.inner.stop.append_stopsign.Statement.{statement}
@@ -31,7 +31,7 @@ returns-2 : tie.Need-returns-2
 returns-2 c =
     let f = c .before in
     let st = f .before .before .before .before in
-    append-stop-run (stateAt st) (st .pre .okay) (st .args .ss) (sym (f .before .sign-formed .ensures) ∙ not-false _ (f .if1 .left)) (appended (c .append-stop-at .result .answer)) (c .append-stop-at .result .index) (c .append-stop-at .ensures)
+    append-stop-run (stateAt st) (st .pre .okay) (st .args .ss) (sym (f .before .sign-formed .ensures) ∙ not-false _ (f .if1 .left)) (appendSaid (c .append-stop-at .result .answer)) (c .append-stop-at .result .index) (c .append-stop-at .ensures)
 
 pub append-stopsign-spec : {M : Type 1} → statement M
 append-stopsign-spec = tie.close (tie.spec sign-formed-requires returns append-stop-at-requires returns-2)

@@ -3,7 +3,7 @@ use mathlib.Core.Path.{_≡_, sym, ap, _∙_}
 use mathlib.Core.Bool.{Bool, _&&_, not}
 use denote.Ref.{now}
 use Rattle.state_cache.specs.State.{Raw, raw}
-use Rattle.state_cache.specs.Run.{accepted}
+use Rattle.state_cache.specs.Run.{indexSaid}
 use Rattle.internal_storage.proofs.Effects.{set-stop-bad, set-stop-run}
 use borrow.Author.Needs.{needs}
 use Rattle.internal_storage.proofs.inner.stop.set_stopsign.Statement.{statement}
@@ -24,7 +24,7 @@ returns-2 c =
     let st = e .before .before .before .before in
     set-stop-run (stateAt st) (st .pre .okay) (st .args .held) (st .args .ss)
     (ap (λ (t : Bool). st .args .held && not t) (sym (e .before .sign-formed .ensures)) ∙ e .if1 .left)
-    (c .before .sign-if .result) (c .before .sign-if .ensures) (accepted (c .set-stop-at .result .answer)) (c .set-stop-at .result .index) (c .set-stop-at .ensures)
+    (c .before .sign-if .result) (c .before .sign-if .ensures) (indexSaid (c .set-stop-at .result .answer)) (c .set-stop-at .result .index) (c .set-stop-at .ensures)
 
 pub set-stopsign-spec : {M : Type 1} → statement M
 set-stopsign-spec = tie.close (tie.spec (λ c κs. search needs) returns (λ c κs. search needs) (λ c κs. search needs) returns-2)

@@ -274,7 +274,7 @@ module _ (start : ℕ) (r : Raw) (h : Kept r) where
         goes-done [] (step lent (setSnapshot t) m) start (withRun (r .index .compacted) (r .index .retained) t (askedKeys t (b .keys)) (r .index)) (r .log) (askedWords t incoming) refl
         (unfold logOf in ap (λ (g : Option (List Change)). record { start = start; log = record { run = record { compacted = logOf r .run .compacted; retained = logOf r .run .retained; held = g }; tail = logOf r .tail; marks = logOf r .marks } })
         (set t (b .«snapshot_lent») e))
-        (record { log = h .log; snapshot = fine t (b .«snapshot_lent») e (unfold incomingFormed in and-right (eqb (length incoming) snapshotWords) (not (b .«snapshot_lent») || snapshotFormed (b .keys) incoming) (f .shot)); none-held = kept t; sign = unfold signHeld in h .sign })
+        (record { log = h .log; snapshot = fine t (b .«snapshot_lent») e (unfold incomingFormed in and-right (eqb (length incoming) snapshotWords) (not (b .«snapshot_lent») || snapshotFormed (b .keys) incoming) (f .snapshot)); none-held = kept t; sign = unfold signHeld in h .sign })
       where
         set : (t u : Bool) → (not t || given (if u then some (entriesOf (b .keys) incoming) else none)) ≡ true
             → (if t then some (entriesOf (askedKeys t (b .keys)) (askedWords t incoming)) else none) ≡ (if t then (if u then some (entriesOf (b .keys) incoming) else none) else none)

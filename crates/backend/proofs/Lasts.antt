@@ -20,7 +20,7 @@ use Rattle.snapshot.specs.Calls.{snapshotFormed}
 use Rattle.model.specs.Numbers.{Numbers, endOf, acceptedOf, numbersFormed}
 use Rattle.model.specs.Log.{numbersOf, wellFormed}
 use Rattle.model.specs.Backend.{lastGuards}
-use Rattle.state_cache.specs.State.{Raw, numbersIn, oneIf, signHeld, shotHeld, formed, logOf}
+use Rattle.state_cache.specs.State.{Raw, numbersIn, oneIf, signHeld, snapshotHeld, formed, logOf}
 use Rattle.state_cache.specs.Inner.{Small}
 use Rattle.state_cache.specs.declared.IndexRecord.{IndexRecord}
 use Rattle.state_cache.proofs.Stands.{shot-tests, log-formed, given-by}
@@ -54,7 +54,7 @@ pub formed-numbers : (r : Raw) → Kept r → numbersFormed (numbersIn (r .index
 unfolding formed snapshotFormed
 formed-numbers r h = sym (and-true (numbersFormed (numbersIn (r .index)))) ∙ ap (λ (t : Bool). numbersFormed (numbersIn (r .index)) && t) (sym rest)
   where
-    rest : (signHeld (r .index) && (storedIn logWords (r .index .retained + r .index .batched) (r .log) && shotHeld (r .index) (r .snapshot))) ≡ true
+    rest : (signHeld (r .index) && (storedIn logWords (r .index .retained + r .index .batched) (r .log) && snapshotHeld (r .index) (r .snapshot))) ≡ true
     rest =
         both-true (signHeld (r .index)) _ (h .sign)
         (both-true (storedIn logWords (r .index .retained + r .index .batched) (r .log)) _ (stored-of logWords _ (r .log) (h .log))

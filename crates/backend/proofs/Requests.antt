@@ -21,7 +21,7 @@ use Rattle.entry.specs.Guards.{refused}
 use Rattle.entry.specs.declared.StopSign.{StopSign}
 use Rattle.snapshot.specs.Calls.{snapshotFormed}
 use Rattle.snapshot.proofs.Calling.{snapshot-holds}
-use Rattle.model.specs.Log.{given, ifGiven, shotFormed}
+use Rattle.model.specs.Log.{given, ifGiven, keysFormed}
 use Rattle.model.specs.Backend.{Op, appendEntries, appendOnPrefix, setDecided, setCompacted, trim, setPromise, setRound, setSign, setSnapshot, Lent, supplied, opsFormed}
 use Rattle.model.specs.Calls.{write, malformed}
 use Rattle.model.proofs.Forms.{of-shot}
@@ -51,7 +51,7 @@ module _ (b : CodeLent) (o : CodeOp) where
 module _ (b : CodeLent) (entries incoming : List ℕ) (f : Lends b entries incoming) where
   pub long-incoming : length incoming ≡ snapshotWords
   unfolding incomingFormed
-  long-incoming = eqb-true (length incoming) snapshotWords (and-left (eqb (length incoming) snapshotWords) (not (b .«snapshot_lent») || snapshotFormed (b .keys) incoming) (f .shot))
+  long-incoming = eqb-true (length incoming) snapshotWords (and-left (eqb (length incoming) snapshotWords) (not (b .«snapshot_lent») || snapshotFormed (b .keys) incoming) (f .snapshot))
 
 -- the operations of a list by value, one after the other
 module _ (ops : List CodeOp) (n : ℕ) (few : n ≤ mostOps) (eight : length ops ≡ mostOps) where
@@ -91,11 +91,11 @@ supplied-any b entries incoming (setSnapshot t) =
     ap (λ (u : Bool). not t || u) (given-by (b .«snapshot_lent») (entriesOf (b .keys) []) ∙ sym (given-by (b .«snapshot_lent») (entriesOf (b .keys) incoming)))
 
 -- a snapshot that is lent in form
-shot-lent : (b : CodeLent) (entries incoming : List ℕ) → incomingFormed b incoming ≡ true → ifGiven shotFormed (lentOf b entries incoming .snapshot) ≡ true
+shot-lent : (b : CodeLent) (entries incoming : List ℕ) → incomingFormed b incoming ≡ true → ifGiven keysFormed (lentOf b entries incoming .snapshot) ≡ true
 unfolding incomingFormed
 shot-lent b entries incoming e = go (b .«snapshot_lent») (and-right (eqb (length incoming) snapshotWords) (not (b .«snapshot_lent») || snapshotFormed (b .keys) incoming) e)
   where
-    go : (t : Bool) → (not t || snapshotFormed (b .keys) incoming) ≡ true → ifGiven shotFormed (if t then some (entriesOf (b .keys) incoming) else none) ≡ true
+    go : (t : Bool) → (not t || snapshotFormed (b .keys) incoming) ≡ true → ifGiven keysFormed (if t then some (entriesOf (b .keys) incoming) else none) ≡ true
     go true q =
         let h = snapshot-holds (b .keys) incoming q in
         of-shot (entriesOf (b .keys) incoming) (record { rises = h .rises; fine = h .laid .fine }) (omega (arith, entries-length changeCode (b .keys) incoming, h .laid .fits))
@@ -146,7 +146,7 @@ module _ (b : CodeLent) (entries incoming : List ℕ) (list : OpList) where
           sign-lent (b .«stop_lent») (b .stop),
         )
         (shuffle (wholeIn entries) (entriesFormed (entriesIn entries)) (incomingFormed b incoming) (ifGiven signFormed (lent .sign)) (leb 1 (list .count)) (allOf (supplied lent) (opsIn list))
-        (ifGiven shotFormed (lent .snapshot)) (shot-lent b entries incoming))
+        (ifGiven keysFormed (lent .snapshot)) (shot-lent b entries incoming))
 
   -- what a request in form is known to be, and one that is not is refused
   lends-of : wholeLent b entries incoming ≡ true → opsFormed lent (opsIn list) ≡ true → Lends b entries incoming
@@ -154,10 +154,10 @@ module _ (b : CodeLent) (entries incoming : List ℕ) (list : OpList) where
   lends-of p f =
       let f₁ = and-right (leb 1 (length (opsIn list)) && leb (length (opsIn list)) mostOps) _ f in
       let f₂ = and-right (entriesFormed (entriesIn entries)) _ f₁ in
-      let f₃ = and-right (ifGiven shotFormed (lent .snapshot)) _ f₂ in
+      let f₃ = and-right (ifGiven keysFormed (lent .snapshot)) _ f₂ in
       record {
         whole = both-true (wholeIn entries) (entriesFormed (entriesIn entries)) (and-left (wholeIn entries) (incomingFormed b incoming) p) (and-left (entriesFormed (entriesIn entries)) _ f₁);
-        shot = and-right (wholeIn entries) (incomingFormed b incoming) p;
+        snapshot = and-right (wholeIn entries) (incomingFormed b incoming) p;
         sign = and-left (ifGiven signFormed (lent .sign)) _ f₃;
       }
 

@@ -18,7 +18,7 @@ use Rattle.entry.specs.Refusals.{numberOf, carriedOf}
 use Rattle.entry.specs.declared.Refusal.{Refusal}
 use Rattle.entry.proofs.GuardLaws.{first-left, first-right}
 use Rattle.model.specs.Numbers.{Numbers}
-use Rattle.model.specs.Log.{ifGiven, shotFormed}
+use Rattle.model.specs.Log.{ifGiven, keysFormed}
 use Rattle.model.specs.Backend.{Op, Lent, supplied, opsFormed, Midst, step, steps, stepGuards, lastGuards, opGuards, midst, writeGuards, listWritten}
 use Rattle.model.specs.Calls.{write, malformed, further, effect, replyOf}
 use Rattle.state_cache.specs.State.{Raw, raw, numbersIn, formed, logOf}
@@ -134,7 +134,7 @@ unfolding opsFormed
 ops-supplied l ops e =
     let e₁ = and-right (leb 1 (length ops) && leb (length ops) mostOps) _ e in
     let e₂ = and-right (entriesFormed (l .entries)) _ e₁ in
-    let e₃ = and-right (ifGiven shotFormed (l .snapshot)) _ e₂ in
+    let e₃ = and-right (ifGiven keysFormed (l .snapshot)) _ e₂ in
     and-right (ifGiven signFormed (l .sign)) _ e₃
 
 -- on copies of the words

@@ -70,7 +70,7 @@ pub record Goes (gs : List Guard) (next : Midst) (s : Stepped) (log snapshot : L
 -- what is known of the parts that are lent beside a list in form
 pub record Lends (b : CodeLent) (entries incoming : List ℕ) : Type 0 where
   pub whole : sliceFormed entries ≡ true
-  pub shot : incomingFormed b incoming ≡ true
+  pub snapshot : incomingFormed b incoming ≡ true
   pub sign : ifGiven signFormed (lentOf b entries incoming .sign) ≡ true
 
 -- what a list needs to run: a well-formed state, and a request in form

@@ -10,7 +10,7 @@ use lib.Dec.{ltb}
 use Rattle.entry.specs.Change.{Change}
 use Rattle.entry.specs.Guards.{Verdict, passes, refuses, first, Answer, refused, settle}
 use Rattle.entry.proofs.GuardLaws.{passing, stopping, found, first-goes-on}
-use Rattle.snapshot.specs.Calls.{outcome as shotOutcome, writtenBy, foldGuards, writtenOut}
+use Rattle.snapshot.specs.Calls.{outcome as snapshotOutcome, writtenBy, foldGuards, writtenOut}
 use Rattle.snapshot.specs.Inner.{foldWritten, foldedOut}
 use Rattle.model.specs.Numbers.{Numbers}
 use Rattle.model.specs.Log.{Log, numbersOf, foldedTo}
@@ -37,11 +37,11 @@ module _ (r : Raw) (i : ℕ) (out : List ℕ) where
   abbrev s : Log
   s = logOf r
 
-  pub create-ill-formed : (whole : Bool) → formed r ≡ false → shotOutcome (refused 12 0) out ≡ writtenOut (run c whole r .answer) out
+  pub create-ill-formed : (whole : Bool) → formed r ≡ false → snapshotOutcome (refused 12 0) out ≡ writtenOut (run c whole r .answer) out
   create-ill-formed whole e = ap (λ (o : Outcome (List Change)). writtenOut (o .answer) out) (ill-formed c whole r e)
 
   module _ (ok : formed r ≡ true) where
-    pub create-malformed : (whole : Bool) → whole ≡ false → shotOutcome (refused 11 0) out ≡ writtenOut (run c whole r .answer) out
+    pub create-malformed : (whole : Bool) → whole ≡ false → snapshotOutcome (refused 11 0) out ≡ writtenOut (run c whole r .answer) out
     create-malformed whole e = ap (λ (o : Outcome (List Change)). writtenOut (o .answer) out) (not-whole c whole r ok e)
 
     st : Stands s r
@@ -55,7 +55,7 @@ module _ (r : Raw) (i : ℕ) (out : List ℕ) where
     told : (v : Verdict) → v ≡ first (further c s) → writtenBy v (created i s) out ≡ writtenOut (run c true r .answer) out
     told v e = ap (λ (a : Answer (List Change)). writtenOut a out) (answers v e)
 
-    pub create-below : i < r .index .compacted .0 → shotOutcome (refused 3 (r .index .compacted .0)) out ≡ writtenOut (run c true r .answer) out
+    pub create-below : i < r .index .compacted .0 → snapshotOutcome (refused 3 (r .index .compacted .0)) out ≡ writtenOut (run c true r .answer) out
     unfolding further queryGuards createGuards
     create-below h =
         told (refuses 3 (r .index .compacted .0))
@@ -65,7 +65,7 @@ module _ (r : Raw) (i : ℕ) (out : List ℕ) where
       from : ltb i (s .run .compacted) ≡ false
       from = le-ltb i (s .run .compacted) (omega (arith, st .run .start, low))
 
-      pub create-above : pastDecided (some i) (numbersIn (r .index)) ≡ true → shotOutcome (refused 2 (r .index .decided .0)) out ≡ writtenOut (run c true r .answer) out
+      pub create-above : pastDecided (some i) (numbersIn (r .index)) ≡ true → snapshotOutcome (refused 2 (r .index .decided .0)) out ≡ writtenOut (run c true r .answer) out
       unfolding further queryGuards createGuards
       create-above h =
           told (refuses 2 (r .index .decided .0))

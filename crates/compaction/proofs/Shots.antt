@@ -13,7 +13,7 @@ use Rattle.entry.specs.Guards.{Guard, passes, refuses, first, replied, refusedB
 use Rattle.entry.specs.Refusals.{numberOf, carriedOf}
 use Rattle.entry.specs.declared.Refusal.{Refusal}
 use Rattle.snapshot.specs.Folds.{foldOnto}
-use Rattle.snapshot.specs.Calls.{outcome as shotOutcome, folded, foldGuards}
+use Rattle.snapshot.specs.Calls.{outcome as snapshotOutcome, folded, foldGuards}
 use Rattle.snapshot.specs.Inner.{foldWritten}
 use Rattle.snapshot.specs.declared.Folded.{Folded}
 use Rattle.snapshot.specs.declared.Folded.the-variants.{Keys, Refused}
@@ -58,12 +58,12 @@ module _ (r : Raw) (ok : formed r ≡ true) (upto : Option ℕ) where
 
   -- a fold of the entries below the target, with nothing folded after it
   module _ (to : ℕ) (u : Up upto (r .index) to) (a : Folded) (exit : List ℕ)
-      (f : shotOutcome (folded a) exit ≡ foldWritten (foldOnto (foldOnto (entriesOf (r .index .keys) (r .snapshot)) (entriesOf (to - r .index .compacted .0) (r .log))) (entriesOf 0 [])) (r .snapshot)) where
+      (f : snapshotOutcome (folded a) exit ≡ foldWritten (foldOnto (foldOnto (entriesOf (r .index .keys) (r .snapshot)) (entriesOf (to - r .index .compacted .0) (r .log))) (entriesOf 0 [])) (r .snapshot)) where
     folds : foldOnto (foldOnto (entriesOf (r .index .keys) (r .snapshot)) (entriesOf (to - r .index .compacted .0) (r .log))) (entriesOf 0 []) ≡ foldedUpto upto s
     unfolding foldOnto entriesAt foldedUpto
     folds = fold-is r ok to (in-run r ok upto to u) ∙ ap (λ (j : ℕ). foldedTo j (s .run)) (sym (ends-at r ok upto to u))
 
-    wrote : shotOutcome (folded a) exit ≡ foldWritten (foldedUpto upto s) (r .snapshot)
+    wrote : snapshotOutcome (folded a) exit ≡ foldWritten (foldedUpto upto s) (r .snapshot)
     wrote = f ∙ ap (λ (es : List Change). foldWritten es (r .snapshot)) folds
 
     verdict : first (further (snapshot upto) s) ≡ first (foldGuards (foldedUpto upto s))

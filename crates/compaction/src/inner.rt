@@ -11,7 +11,7 @@ ghost use mathlib.Core.Bool.{true};
 ghost use lib.ListN.{length};
 ghost use Rattle.entry.specs.Limits.{snapshotWords};
 ghost use Rattle.entry.specs.Upto.{uptoOf};
-ghost use Rattle.snapshot.specs.Calls.{outcome as shotOutcome, folded, writtenOut};
+ghost use Rattle.snapshot.specs.Calls.{outcome as snapshotOutcome, folded, writtenOut};
 ghost use Rattle.model.specs.Calls.{query, create, trim, snapshot as snapshotCall};
 ghost use Rattle.model.specs.Compact.{target, pastDecided};
 ghost use Rattle.state_cache.specs.State.{raw, numbersIn};
@@ -106,17 +106,22 @@ pub fn trim_at(index: IndexRecord, log: &mut [u64], snapshot: &[u64], idx: LogIn
 }
 
 // Refusals 2 and 8, or the entries below the target folded and dropped.
-pub fn snapshot_at(index: IndexRecord, log: &mut [u64], shot: &mut [u64], upto: Upto) -> SettledAt
-    requires { ⌜ Ready (raw index (now log) (now shot)) ⌝ }
-    ensures { λ r. ⌜ outcome (settled (r .answer)) (raw (r .index) (now (log .exit)) (now (shot .exit)))
-        ≡ run (snapshotCall (uptoOf upto)) true (raw index (now (log .entry)) (now (shot .entry))) ⌝ }
+pub fn snapshot_at(
+    index: IndexRecord,
+    log: &mut [u64],
+    snapshot: &mut [u64],
+    upto: Upto,
+) -> SettledAt
+    requires { ⌜ Ready (raw index (now log) (now snapshot)) ⌝ }
+    ensures { λ r. ⌜ outcome (settled (r .answer)) (raw (r .index) (now (log .exit)) (now (snapshot .exit)))
+        ≡ run (snapshotCall (uptoOf upto)) true (raw index (now (log .entry)) (now (snapshot .entry))) ⌝ }
 {
     let way = reach_of(index, upto);
     match way {
         Reach::Stays(answer) => SettledAt { answer, index },
         Reach::To(to) => {
             let gone = (to - index.compacted.0) as usize;
-            let folded = snapshot::inner::fold_over(shot, index.keys, log, gone, &[], 0);
+            let folded = snapshot::inner::fold_over(snapshot, index.keys, log, gone, &[], 0);
             match folded {
                 Folded::Refused(refusal) => SettledAt {
                     answer: Settled::Refused(refusal),
@@ -138,14 +143,14 @@ pub fn snapshot_at(index: IndexRecord, log: &mut [u64], shot: &mut [u64], upto: 
 pub fn create_at(
     index: IndexRecord,
     log: &[u64],
-    shot: &[u64],
+    snapshot: &[u64],
     idx: LogIndex,
     out: &mut [u64],
 ) -> Folded
-    requires { ⌜ Ready (raw index (now log) (now shot)) × (length (now out) ≡ snapshotWords) ⌝ }
-    ensures { λ r. ⌜ shotOutcome (folded r) (now (out .exit))
+    requires { ⌜ Ready (raw index (now log) (now snapshot)) × (length (now out) ≡ snapshotWords) ⌝ }
+    ensures { λ r. ⌜ snapshotOutcome (folded r) (now (out .exit))
         ≡ writtenOut
-        (run (query (create (idx .0))) true (raw index (now (log .entry)) (now (shot .entry))) .answer)
+        (run (query (create (idx .0))) true (raw index (now (log .entry)) (now (snapshot .entry))) .answer)
         (now (out .entry)) ⌝ }
 {
     let start = index.compacted;
@@ -159,5 +164,5 @@ pub fn create_at(
     }
     let to = target(index, upto);
     let n = (to - start.0) as usize;
-    snapshot::inner::fold_aside(shot, index.keys, log, n, out)
+    snapshot::inner::fold_aside(snapshot, index.keys, log, n, out)
 }

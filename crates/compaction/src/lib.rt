@@ -13,7 +13,7 @@ ghost use lib.Dec.{eqb};
 ghost use lib.ListN.{length};
 ghost use Rattle.entry.specs.Limits.{snapshotWords};
 ghost use Rattle.entry.specs.Upto.{uptoOf};
-ghost use Rattle.snapshot.specs.Calls.{outcome as shotOutcome, folded, writtenOut};
+ghost use Rattle.snapshot.specs.Calls.{outcome as snapshotOutcome, folded, writtenOut};
 ghost use Rattle.model.specs.Calls.{query, create, trim, snapshot as snapshotCall};
 ghost use Rattle.state_cache.specs.State.{raw};
 ghost use Rattle.state_cache.specs.Run.{outcome, run, settled};
@@ -59,7 +59,7 @@ pub fn create_snapshot(
     idx: LogIndex,
     out: &mut [u64],
 ) -> Folded
-    ensures { λ r. ⌜ shotOutcome (folded r) (now (out .exit)) ≡ writtenOut (run (query (create (idx .0))) (eqb (length (now (out .entry))) snapshotWords) (raw index (now (log .entry)) (now (snapshot .entry))) .answer) (now (out .entry)) ⌝ }
+    ensures { λ r. ⌜ snapshotOutcome (folded r) (now (out .exit)) ≡ writtenOut (run (query (create (idx .0))) (eqb (length (now (out .entry))) snapshotWords) (raw index (now (log .entry)) (now (snapshot .entry))) .answer) (now (out .entry)) ⌝ }
 {
     if !state_cache::well_formed(index, log, snapshot) {
         return Folded::Refused(Refusal::IllFormed);

@@ -14,7 +14,7 @@ use Rattle.entry.specs.Refusals.{numberOf, carriedOf}
 use Rattle.entry.specs.declared.Refusal.the-variants.{Malformed, IllFormed}
 use Rattle.entry.proofs.SliceLaws.{stored-entries}
 use Rattle.snapshot.specs.Folds.{fold}
-use Rattle.snapshot.specs.Calls.{outcome as shotOutcome, folded, foldGuards}
+use Rattle.snapshot.specs.Calls.{outcome as snapshotOutcome, folded, foldGuards}
 use Rattle.snapshot.specs.Inner.{foldWritten, foldedOut}
 use Rattle.snapshot.specs.declared.Folded.{Folded}
 use Rattle.snapshot.specs.declared.Folded.the-variants.{Keys, Refused as FoldRefused}
@@ -100,7 +100,7 @@ module _ (r : Raw) (i : ℕ) (out : List ℕ) where
         given-is : orEmpty (snapshotIn (diffOf i s)) ≡ es
         given-is = ap (λ (g : Given). orEmpty (snapshotIn g)) is ∙ ap orEmpty (kind-holds kind es)
 
-        wrote : (a : Folded) → shotOutcome (folded a) exit ≡ foldWritten es out → Told (foldTold kind (record { 0 = last }) a) exit true
+        wrote : (a : Folded) → snapshotOutcome (folded a) exit ≡ foldWritten es out → Told (foldTold kind (record { 0 = last }) a) exit true
         wrote (FoldRefused x) f =
             let q = wrote-nothing (first (foldGuards es)) es out exit (FoldRefused x) f x refl in
             told (Refused x) exit true (refusedBy x) (answers (refuses (numberOf x) (carriedOf x)) (sym (q .0) ∙ verdict es given-is)) refl (q .1)
@@ -114,7 +114,7 @@ module _ (r : Raw) (i : ℕ) (out : List ℕ) where
 
       -- of all that is decided
       pub complete-wrote : i ≤ r .index .compacted .0 → (r .index .«snapshot_held» || ltb (r .index .compacted .0) last) ≡ true → (a : Folded) (exit : List ℕ)
-          → shotOutcome (folded a) exit ≡ foldedOut (r .index .keys) (r .snapshot) (last - r .index .compacted .0) (r .log) out
+          → snapshotOutcome (folded a) exit ≡ foldedOut (r .index .keys) (r .snapshot) (last - r .index .compacted .0) (r .log) out
           → Told (foldTold false (record { 0 = last }) a) exit true
       complete-wrote h g a exit f =
           wrote false (foldedTo last (s .run)) (diff-complete r ok i last l h g) (complete-formed r ok i last l) exit a
@@ -122,7 +122,7 @@ module _ (r : Raw) (i : ℕ) (out : List ℕ) where
 
       -- of what is decided from an index on
       pub delta-wrote : (h : r .index .compacted .0 < i) (start : ℕ) (e : start ≡ min i last) (a : Folded) (exit : List ℕ)
-          → shotOutcome (folded a) exit ≡ foldedOut 0 [] (last - start) (drop ((start - r .index .compacted .0) * width) (r .log)) out
+          → snapshotOutcome (folded a) exit ≡ foldedOut 0 [] (last - start) (drop ((start - r .index .compacted .0) * width) (r .log)) out
           → Told (foldTold true (record { 0 = last }) a) exit true
       unfolding fold entriesAt
       delta-wrote h start e a exit f = wrote true _ (diff-delta r ok i last l h start e) (delta-formed r ok i last l h start e) exit a f

@@ -49,16 +49,16 @@ fn tell(delta: bool, r: Folded, log_decided: LogIndex) -> Diff
 pub fn diff_at(
     index: IndexRecord,
     log: &[u64],
-    shot: &[u64],
+    snapshot: &[u64],
     from: LogIndex,
     out: &mut [u64],
 ) -> Diff
-    requires { ⌜ Ready (raw index (now log) (now shot)) × (length (now out) ≡ snapshotWords) ⌝ }
+    requires { ⌜ Ready (raw index (now log) (now snapshot)) × (length (now out) ≡ snapshotWords) ⌝ }
     ensures { λ r. ⌜ diffSaid (now (out .exit)) r
-        ≡ run (query (diff (from .0))) true (raw index (now (log .entry)) (now (shot .entry))) .answer ⌝ }
+        ≡ run (query (diff (from .0))) true (raw index (now (log .entry)) (now (snapshot .entry))) .answer ⌝ }
     ensures { λ r. ⌜ now (out .exit)
         ≡ outAfter
-        (run (query (diff (from .0))) true (raw index (now (log .entry)) (now (shot .entry))) .answer)
+        (run (query (diff (from .0))) true (raw index (now (log .entry)) (now (snapshot .entry))) .answer)
         (now (out .entry)) ⌝ }
 {
     let low = index.compacted.0;
@@ -72,6 +72,6 @@ pub fn diff_at(
     if !(index.snapshot_held | (low < last)) {
         return Diff::Nothing { log_decided };
     }
-    let r = snapshot::inner::fold_aside(shot, index.keys, log, (last - low) as usize, out);
+    let r = snapshot::inner::fold_aside(snapshot, index.keys, log, (last - low) as usize, out);
     tell(false, r, log_decided)
 }

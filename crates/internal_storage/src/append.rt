@@ -1,8 +1,8 @@
 // Appends of entries, with and without batching.
-use super::MaybeIndex;
-use super::MaybeIndexAt;
 use super::Appended;
 use super::AppendedAt;
+use super::MaybeIndex;
+use super::MaybeIndexAt;
 use entry::Refusal;
 use entry::Said;
 use state_cache::IndexAnswer;

@@ -12,7 +12,7 @@ use Rattle.entry.specs.Sign.{signFormed}
 use Rattle.entry.specs.Guards.{passes, refuses, first}
 use Rattle.snapshot.specs.Folds.{insert, foldOnto, fold, merge, climbs, rising}
 use Rattle.model.specs.Numbers.{endOf, acceptedOf, stopDecided, logDecided, numbersFormed}
-use Rattle.model.specs.Log.{Run, foldedTo, shotFormed, wellFormed, noBallot, freshLog}
+use Rattle.model.specs.Log.{Run, foldedTo, keysFormed, wellFormed, noBallot, freshLog}
 use Rattle.model.specs.Append.{appendGuards, fills, appended}
 use Rattle.model.specs.Backend.{opsFormed}
 use Rattle.model.specs.Compact.{target, passesStart, foldedUpto, trimGuards, snapshotGuards, movedTo, snapshotTo}
@@ -49,7 +49,7 @@ trace =
     ∷ [])
 
 pub premise-met : AllTruthful trace (fresh 0)
-unfolding AllTruthful Stands allOf signFormed first insert foldOnto fold merge climbs rising endOf acceptedOf stopDecided logDecided numbersFormed foldedTo shotFormed wellFormed freshLog appendGuards fills appended target passesStart foldedUpto trimGuards snapshotGuards movedTo snapshotTo opsFormed partFormed deltaOnto runThen partNumberGuards partGuards partSynced malformed decideGuards syncGuards further guards synced effect stateAfter syncedHistory grown next told fresh
+unfolding AllTruthful Stands allOf signFormed first insert foldOnto fold merge climbs rising endOf acceptedOf stopDecided logDecided numbersFormed foldedTo keysFormed wellFormed freshLog appendGuards fills appended target passesStart foldedUpto trimGuards snapshotGuards movedTo snapshotTo opsFormed partFormed deltaOnto runThen partNumberGuards partGuards partSynced malformed decideGuards syncGuards further guards synced effect stateAfter syncedHistory grown next told fresh
 premise-met =
     (λ q. plainly, (λ q. plainly, (λ q. plainly, (λ q. plainly, (λ q. absurd (never 2 3 q), (λ q. (refl, (refl, refl)), (λ q. absurd (never 11 0 q), (λ q. (refl, (refl, refl)), tt))))))))
   where
@@ -64,9 +64,9 @@ abbrev runAt : ℕ → List Change → List Change → Run
 runAt c r h = record { compacted = c; retained = r; held = some h }
 
 pub delta-held : told toDelta (fresh 0) .log .run ≡ runAt 5 (put 5 500 ∷ []) (put 4 200 ∷ put 6 600 ∷ put 7 700 ∷ del 9 ∷ [])
-unfolding allOf signFormed first insert foldOnto fold merge climbs rising endOf acceptedOf stopDecided logDecided numbersFormed foldedTo shotFormed wellFormed freshLog appendGuards fills appended target passesStart foldedUpto trimGuards snapshotGuards movedTo snapshotTo opsFormed partFormed deltaOnto runThen partNumberGuards partGuards partSynced malformed decideGuards syncGuards further guards synced effect stateAfter syncedHistory grown next told fresh
+unfolding allOf signFormed first insert foldOnto fold merge climbs rising endOf acceptedOf stopDecided logDecided numbersFormed foldedTo keysFormed wellFormed freshLog appendGuards fills appended target passesStart foldedUpto trimGuards snapshotGuards movedTo snapshotTo opsFormed partFormed deltaOnto runThen partNumberGuards partGuards partSynced malformed decideGuards syncGuards further guards synced effect stateAfter syncedHistory grown next told fresh
 delta-held = refl
 
 pub complete-held : told trace (fresh 0) .log .run ≡ runAt 6 (put 4 400 ∷ []) (put 1 10 ∷ del 4 ∷ [])
-unfolding allOf signFormed first insert foldOnto fold merge climbs rising endOf acceptedOf stopDecided logDecided numbersFormed foldedTo shotFormed wellFormed freshLog appendGuards fills appended target passesStart foldedUpto trimGuards snapshotGuards movedTo snapshotTo opsFormed partFormed deltaOnto runThen partNumberGuards partGuards partSynced malformed decideGuards syncGuards further guards synced effect stateAfter syncedHistory grown next told fresh
+unfolding allOf signFormed first insert foldOnto fold merge climbs rising endOf acceptedOf stopDecided logDecided numbersFormed foldedTo keysFormed wellFormed freshLog appendGuards fills appended target passesStart foldedUpto trimGuards snapshotGuards movedTo snapshotTo opsFormed partFormed deltaOnto runThen partNumberGuards partGuards partSynced malformed decideGuards syncGuards further guards synced effect stateAfter syncedHistory grown next told fresh
 complete-held = refl

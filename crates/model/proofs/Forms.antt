@@ -20,7 +20,7 @@ use Rattle.snapshot.proofs.Algebra.{merge-rises}
 use Rattle.snapshot.proofs.Forming.{formed-merge}
 use Rattle.model.specs.Inner.{Sound}
 use Rattle.model.specs.Numbers.{Numbers, endOf, acceptedOf, stopDecided, logDecided, numbersFormed}
-use Rattle.model.specs.Log.{Log, ifGiven, numbersOf, orEmpty, foldedTo, shotFormed, wellFormed}
+use Rattle.model.specs.Log.{Log, ifGiven, numbersOf, orEmpty, foldedTo, keysFormed, wellFormed}
 
 -- log-decided is the lesser of decided and the end
 pub log-min : (n : Numbers) → n .decided ≤ acceptedOf n → logDecided n ≡ min (n .decided) (endOf n)
@@ -109,7 +109,7 @@ pub record Formed (s : Log) : Type 0 where
   pub numbers : Sound (numbersOf s)
   pub entries : entriesFormed (s .run .retained) ≡ true
   pub batch : entriesFormed (s .tail .batched) ≡ true
-  pub shot : ifGiven shotFormed (s .run .held) ≡ true
+  pub shot : ifGiven keysFormed (s .run .held) ≡ true
   pub stop : ifGiven signFormed (s .tail .sign) ≡ true
 
 pub formed-of : (s : Log) → wellFormed s ≡ true → Formed s
@@ -123,7 +123,7 @@ formed-of s e =
       entries = and-left _ _ e₁;
       batch = and-left _ _ e₂;
       shot = and-left _ _ e₃;
-      stop = and-right (ifGiven shotFormed (s .run .held)) _ e₃;
+      stop = and-right (ifGiven keysFormed (s .run .held)) _ e₃;
     }
 
 pub of-formed : (s : Log) → Formed s → wellFormed s ≡ true
@@ -131,7 +131,7 @@ unfolding wellFormed
 of-formed s f =
     both-true (numbersFormed (numbersOf s)) _ (of-sound (numbersOf s) (f .numbers))
     (both-true (entriesFormed (s .run .retained)) _ (f .entries)
-    (both-true (entriesFormed (s .tail .batched)) _ (f .batch) (both-true (ifGiven shotFormed (s .run .held)) _ (f .shot) (f .stop))))
+    (both-true (entriesFormed (s .tail .batched)) _ (f .batch) (both-true (ifGiven keysFormed (s .run .held)) _ (f .shot) (f .stop))))
 
 -- ---- snapshots: the one held, and those made from it
 
@@ -139,8 +139,8 @@ pub record Shot (t : List Change) : Type 0 where
   pub rises : rising t ≡ true
   pub fine : entriesFormed t ≡ true
 
-pub shot-held : (h : Option (List Change)) → ifGiven shotFormed h ≡ true → Shot (orEmpty h)
-unfolding shotFormed rising allOf
+pub shot-held : (h : Option (List Change)) → ifGiven keysFormed h ≡ true → Shot (orEmpty h)
+unfolding keysFormed rising allOf
 shot-held none e = record { rises = refl; fine = refl }
 shot-held (some t) e =
     let q = and-right (rising t) (leb (length t) keyRoom && entriesFormed t) e in
@@ -149,8 +149,8 @@ shot-held (some t) e =
 pub shot-merge : (t r : List Change) → Shot t → entriesFormed r ≡ true → Shot (merge t r)
 shot-merge t r a b = record { rises = merge-rises t r (a .rises); fine = formed-merge t r (a .fine) b }
 
-pub of-shot : (t : List Change) → Shot t → length t ≤ keyRoom → shotFormed t ≡ true
-unfolding shotFormed
+pub of-shot : (t : List Change) → Shot t → length t ≤ keyRoom → keysFormed t ≡ true
+unfolding keysFormed
 of-shot t a h = both-true (rising t) _ (a .rises) (both-true (leb (length t) keyRoom) (entriesFormed t) (le-leb (length t) keyRoom h) (a .fine))
 
 pub shot-folded : (i : ℕ) (s : Log) → Formed s → Shot (foldedTo i (s .run))

@@ -20,7 +20,7 @@ use Rattle.entry.specs.declared.Ballot.{Ballot}
 use Rattle.entry.specs.declared.StopSign.{StopSign}
 use Rattle.entry.proofs.GuardLaws.{Passed, passed, passed-right, Clear, clear}
 use Rattle.model.specs.Numbers.{Numbers, endOf, acceptedOf, stopDecided, logDecided}
-use Rattle.model.specs.Log.{Log, given, ifGiven, numbersOf, foldedTo, shotFormed, wellFormed, withMarks, deciding, freshLog}
+use Rattle.model.specs.Log.{Log, given, ifGiven, numbersOf, foldedTo, keysFormed, wellFormed, withMarks, deciding, freshLog}
 use Rattle.model.specs.Append.{appendGuards, appendStopGuards, setStopGuards, joined, batchWith, fills, appended, appendedNow, flushed, stopAppended, stopSet, reloaded}
 use Rattle.model.specs.Backend.{Op, Lent, Midst, step, steps, stepGuards, lastGuards, opGuards, midst, writeGuards, listWritten}
 use Rattle.model.specs.Compact.{target, passesStart, foldedUpto, snapshotGuards, movedTo, trimmedTo, snapshotTo}
@@ -201,7 +201,7 @@ module _ (s : Log) (f : Formed s) where
   }
 
   -- the run's start moved up to a decided index
-  moved-keeps : (upto : Option ℕ) (held : Option (List Change)) → (passesStart upto s ≡ true → ifGiven shotFormed held ≡ true) → Formed (movedTo upto held s)
+  moved-keeps : (upto : Option ℕ) (held : Option (List Change)) → (passesStart upto s ≡ true → ifGiven keysFormed held ≡ true) → Formed (movedTo upto held s)
   unfolding movedTo passesStart acceptedOf endOf
   moved-keeps upto held w =
       let to = target upto (numbersOf s) in
@@ -239,7 +239,7 @@ module _ (s : Log) (f : Formed s) where
       moved-keeps upto (some all) (λ e. of-shot all (shot-folded _ s f) (ltb-false keyRoom (length all) (rw e at (clr 8))))
 
   -- the whole record of a sync with a log part: where the run starts, how long it is, and what is held before it
-  part-formed : (b : Ballot) (d : ℕ) (p : Part) → entriesFormed (runThen p s .retained) ≡ true → ifGiven shotFormed (runThen p s .held) ≡ true → ifGiven signFormed (p .stop) ≡ true
+  part-formed : (b : Ballot) (d : ℕ) (p : Part) → entriesFormed (runThen p s .retained) ≡ true → ifGiven keysFormed (runThen p s .held) ≡ true → ifGiven signFormed (p .stop) ≡ true
       → runThen p s .compacted + length (runThen p s .retained) ≡ p .idx + length (p .suffix)
       → runThen p s .compacted ≤ max d (s .marks .decided)
       → length (runThen p s .retained) + length (s .tail .batched) ≤ entryRoom
@@ -279,22 +279,22 @@ module _ (s : Log) (f : Formed s) where
       (omega (arith, ltb-false entryRoom (i - s .run .compacted + length es + length (s .tail .batched)) (clr 1)))
       clr
   part-cases b d i (complete c) es z w clr =
-      let v = and-right (shotFormed c) (entriesFormed es && ifGiven signFormed z) w in
+      let v = and-right (keysFormed c) (entriesFormed es && ifGiven signFormed z) w in
       part-formed b d (part i (complete c) es z)
       (and-left (entriesFormed es) (ifGiven signFormed z) v)
-      (and-left (shotFormed c) _ w)
+      (and-left (keysFormed c) _ w)
       (and-right (entriesFormed es) (ifGiven signFormed z) v)
       refl
       (ltb-false (max d (s .marks .decided)) i (clr 2))
       (omega (arith, ltb-false entryRoom (0 + length es + length (s .tail .batched)) (clr 1)))
       clr
   part-cases b d i (delta c) es z w clr =
-      let v = and-right (shotFormed c) (entriesFormed es && ifGiven signFormed z) w in
+      let v = and-right (keysFormed c) (entriesFormed es && ifGiven signFormed z) w in
       let base = foldedTo (logDecided (numbersOf s)) (s .run) in
       part-formed b d (part i (delta c) es z)
       (and-left (entriesFormed es) (ifGiven signFormed z) v)
       (of-shot (deltaOnto c s)
-      (unfold deltaOnto in shot-merge base c (shot-folded (logDecided (numbersOf s)) s f) (shot-held (some c) (and-left (shotFormed c) _ w) .fine))
+      (unfold deltaOnto in shot-merge base c (shot-folded (logDecided (numbersOf s)) s f) (shot-held (some c) (and-left (keysFormed c) _ w) .fine))
       (ltb-false keyRoom (length (deltaOnto c s)) (clr 8)))
       (and-right (entriesFormed es) (ifGiven signFormed z) v)
       refl

@@ -14,7 +14,7 @@ use Rattle.entry.specs.Guards.{Guard, guard}
 use Rattle.entry.specs.declared.Ballot.{Ballot}
 use Rattle.entry.specs.declared.StopSign.{StopSign}
 use Rattle.model.specs.Numbers.{Numbers, endOf, acceptedOf}
-use Rattle.model.specs.Log.{Run, Tail, Marks, Log, given, ifGiven, numbersOf, shotFormed, wellFormed}
+use Rattle.model.specs.Log.{Run, Tail, Marks, Log, given, ifGiven, numbersOf, keysFormed, wellFormed}
 use Rattle.model.specs.Log.{compactedAt, retaining, holding, signed, deciding, promising, rounding, withRun, withTail, withMarks}
 
 -- "those of `StorageOp` but `AppendEntry`"; the last two set what is lent, or none
@@ -46,7 +46,7 @@ unfoldable pub opsFormed : Lent → List Op → Bool
 opsFormed l ops =
     (leb 1 (length ops) && leb (length ops) mostOps)
     && (entriesFormed (l .entries)
-    && (ifGiven shotFormed (l .snapshot) && (ifGiven signFormed (l .sign) && allOf (supplied l) ops)))
+    && (ifGiven keysFormed (l .snapshot) && (ifGiven signFormed (l .sign) && allOf (supplied l) ops)))
 
 -- a state in the midst of a list: the run's start may not be compacted
 pub record Midst : Type 0 where

@@ -59,8 +59,8 @@ unfoldable pub foldedTo : ℕ → Run → List Change
 foldedTo i r = merge (orEmpty (r .held)) (take (i - r .compacted) (r .retained))
 
 -- forms: of a snapshot, of what may be given, and of a whole state
-unfoldable pub shotFormed : List Change → Bool
-shotFormed s = rising s && (leb (length s) keyRoom && entriesFormed s)
+unfoldable pub keysFormed : List Change → Bool
+keysFormed s = rising s && (leb (length s) keyRoom && entriesFormed s)
 
 abbrev pub ifGiven : {A : Type 0} → (A → Bool) → Option A → Bool
 ifGiven f none = true
@@ -70,7 +70,7 @@ unfoldable pub wellFormed : Log → Bool
 wellFormed s =
     numbersFormed (numbersOf s)
     && (entriesFormed (s .run .retained)
-    && (entriesFormed (s .tail .batched) && (ifGiven shotFormed (s .run .held) && ifGiven signFormed (s .tail .sign))))
+    && (entriesFormed (s .tail .batched) && (ifGiven keysFormed (s .run .held) && ifGiven signFormed (s .tail .sign))))
 
 -- parts with one field set, and states with one part set
 abbrev pub compactedAt : ℕ → Run → Run

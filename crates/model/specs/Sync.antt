@@ -15,7 +15,7 @@ use Rattle.entry.specs.declared.StopSign.{StopSign}
 use Rattle.snapshot.specs.Folds.{merge}
 use Rattle.snapshot.specs.Calls.{foldGuards}
 use Rattle.model.specs.Numbers.{Numbers, endOf, acceptedOf, stopDecided, logDecided}
-use Rattle.model.specs.Log.{Run, Log, given, ifGiven, numbersOf, foldedTo, shotFormed, signed, deciding, rounding, withMarks}
+use Rattle.model.specs.Log.{Run, Log, given, ifGiven, numbersOf, foldedTo, keysFormed, signed, deciding, rounding, withMarks}
 use Rattle.model.specs.Diff.{Given, plain, complete, delta, snapshotIn}
 
 -- a sync's log part
@@ -26,7 +26,7 @@ pub record Part : Type 0 where
   pub stop : Option StopSign
 
 unfoldable pub partFormed : Part → Bool
-partFormed p = ifGiven shotFormed (snapshotIn (p .snapshot)) && (entriesFormed (p .suffix) && ifGiven signFormed (p .stop))
+partFormed p = ifGiven keysFormed (snapshotIn (p .snapshot)) && (entriesFormed (p .suffix) && ifGiven signFormed (p .stop))
 
 abbrev pub plain? : Given → Bool
 plain? plain = true

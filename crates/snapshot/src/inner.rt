@@ -178,26 +178,26 @@ pub fn fold_aside(base: &[u64], kept: usize, entries: &[u64], n: usize, out: &mu
 // Folds the first n entries, and then m more, onto a snapshot in its place. The fold is made aside, so that one with too many keys
 // writes nothing; where the first part has too many so has the whole, since keys are only added.
 pub fn fold_over(
-    shot: &mut [u64],
+    snapshot: &mut [u64],
     kept: usize,
     entries: &[u64],
     n: usize,
     more: &[u64],
     m: usize,
 ) -> Folded
-    requires { ⌜ Aside kept (now shot) n (now entries) (now shot) × Shows m (now more) ⌝ }
-    ensures { λ r. ⌜ outcome (folded r) (now (shot .exit))
+    requires { ⌜ Aside kept (now snapshot) n (now entries) (now snapshot) × Shows m (now more) ⌝ }
+    ensures { λ r. ⌜ outcome (folded r) (now (snapshot .exit))
         ≡ foldWritten
         (foldOnto
-        (foldOnto (entriesOf kept (now (shot .entry))) (entriesOf n (now (entries .entry))))
+        (foldOnto (entriesOf kept (now (snapshot .entry))) (entriesOf n (now (entries .entry))))
         (entriesOf m (now (more .entry))))
-        (now (shot .entry)) ⌝ }
+        (now (snapshot .entry)) ⌝ }
 {
     let mut scratch = [0u64; entry::SNAPSHOT_WORDS];
-    words::copy_words(shot, &mut scratch);
+    words::copy_words(snapshot, &mut scratch);
     let r = fold_onto(&mut scratch, kept, entries, n);
     let Folded::Keys(keys) = r else {
         return r;
     };
-    fold_out(&mut scratch, keys, more, m, shot)
+    fold_out(&mut scratch, keys, more, m, snapshot)
 }

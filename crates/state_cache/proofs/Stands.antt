@@ -26,9 +26,9 @@ use Rattle.snapshot.specs.Folds.{rising}
 use Rattle.snapshot.specs.Calls.{snapshotFormed}
 use Rattle.snapshot.proofs.Calling.{snapshot-holds, snapshot-stored}
 use Rattle.model.specs.Numbers.{Numbers, numbersFormed}
-use Rattle.model.specs.Log.{Run, Tail, Marks, Log, given, ifGiven, numbersOf, orEmpty, shotFormed, wellFormed}
+use Rattle.model.specs.Log.{Run, Tail, Marks, Log, given, ifGiven, numbersOf, orEmpty, keysFormed, wellFormed}
 use Rattle.model.proofs.Forms.{sound-of, Formed, formed-of, of-formed}
-use Rattle.state_cache.specs.State.{Raw, numbersIn, signHeld, shotHeld, formed, logOf, signOr, indexOf, rawOf}
+use Rattle.state_cache.specs.State.{Raw, numbersIn, signHeld, snapshotHeld, formed, logOf, signOr, indexOf, rawOf}
 use Rattle.state_cache.specs.Inner.{Ready}
 use Rattle.state_cache.specs.declared.IndexRecord.{IndexRecord}
 
@@ -99,8 +99,8 @@ none-formed : (ws : List ℕ) → blank snapshotWords ws ≡ snapshotFormed 0 ws
 unfolding blank snapshotFormed storedIn entriesAt rising allOf
 none-formed ws = sym (and-true (eqb (length ws) snapshotWords && allZero ws))
 
-pub shot-tests : (x : IndexRecord) (ws : List ℕ) → shotHeld x ws ≡ (snapshotFormed (x .keys) ws && (x .«snapshot_held» || eqb (x .keys) 0))
-unfolding shotHeld
+pub shot-tests : (x : IndexRecord) (ws : List ℕ) → snapshotHeld x ws ≡ (snapshotFormed (x .keys) ws && (x .«snapshot_held» || eqb (x .keys) 0))
+unfolding snapshotHeld
 shot-tests x ws = go (x .«snapshot_held») (eqb (x .keys) 0) refl
   where
     kept : (a : Bool) → (a || false) ≡ (a && true)
@@ -228,7 +228,7 @@ numbers-are t x s =
 
 -- ---- the log of a well-formed state is well formed
 
-shot-formed-by : (b : Bool) (t : List Change) → shotFormed t ≡ true → ifGiven shotFormed (if b then some t else none) ≡ true
+shot-formed-by : (b : Bool) (t : List Change) → keysFormed t ≡ true → ifGiven keysFormed (if b then some t else none) ≡ true
 shot-formed-by true t e = e
 shot-formed-by false t e = refl
 
@@ -240,8 +240,8 @@ sign-formed-by true g e = go (signFormed g) e
     go false e = e
 sign-formed-by false g e = refl
 
-shot-of : (r : Raw) → Ready r → shotFormed (entriesOf (r .index .keys) (r .snapshot)) ≡ true
-unfolding shotFormed
+shot-of : (r : Raw) → Ready r → keysFormed (entriesOf (r .index .keys) (r .snapshot)) ≡ true
+unfolding keysFormed
 shot-of r g =
     let t : List Change = entriesOf (r .index .keys) (r .snapshot) in
     let few : length t ≤ keyRoom = omega (arith, entries-length changeCode (r .index .keys) (r .snapshot), g .snapshot .laid .fits) in
@@ -281,8 +281,8 @@ record ShotFacts (t : List Change) : Type 0 where
   few : length t ≤ keyRoom
   fine : entriesFormed t ≡ true
 
-shot-facts : (o : Option (List Change)) → ifGiven shotFormed o ≡ true → ShotFacts (orEmpty o)
-unfolding shotFormed rising allOf
+shot-facts : (o : Option (List Change)) → ifGiven keysFormed o ≡ true → ShotFacts (orEmpty o)
+unfolding keysFormed rising allOf
 shot-facts none e = record { rises = refl; few = omega arith; fine = refl }
 shot-facts (some t) e =
     let q = and-right (rising t) (leb (length t) keyRoom && entriesFormed t) e in

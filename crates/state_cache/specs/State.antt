@@ -43,8 +43,8 @@ unfoldable pub signHeld : IndexRecord → Bool
 signHeld r = (r .«stop_held» && signFormed (r .stop)) || (not (r .«stop_held») && signBlank (r .stop))
 
 -- no snapshot held: no key, and every word zero
-unfoldable pub shotHeld : IndexRecord → List ℕ → Bool
-shotHeld r ws =
+unfoldable pub snapshotHeld : IndexRecord → List ℕ → Bool
+snapshotHeld r ws =
     (r .«snapshot_held» && snapshotFormed (r .keys) ws)
     || (not (r .«snapshot_held») && (eqb (r .keys) 0 && blank snapshotWords ws))
 
@@ -52,7 +52,7 @@ unfoldable pub formed : Raw → Bool
 formed r =
     numbersFormed (numbersIn (r .index))
     && (signHeld (r .index)
-    && (storedIn logWords (r .index .retained + r .index .batched) (r .log) && shotHeld (r .index) (r .snapshot)))
+    && (storedIn logWords (r .index .retained + r .index .batched) (r .log) && snapshotHeld (r .index) (r .snapshot)))
 
 -- ---- the log that it stands for, and back
 

@@ -13,7 +13,7 @@ ghost use Rattle.entry.specs.Limits.{lastIndex};
 ghost use Rattle.model.specs.Log.{freshLog};
 ghost use Rattle.model.specs.Calls.{reload};
 ghost use Rattle.model.specs.Numbers.{endOf, acceptedOf, stopDecided, logDecided, numbersFormed};
-ghost use Rattle.state_cache.specs.State.{raw, numbersIn, oneIf, signHeld, shotHeld, indexOf};
+ghost use Rattle.state_cache.specs.State.{raw, numbersIn, oneIf, signHeld, snapshotHeld, indexOf};
 ghost use Rattle.state_cache.specs.Inner.{Small, sizesFormed, Ready};
 ghost use Rattle.state_cache.specs.Run.{outcome, run, indexSaid};
 
@@ -131,8 +131,8 @@ pub fn stop_formed(index: IndexRecord) -> bool
 }
 
 // The snapshot is in form, and has no key where none is held.
-pub fn shot_formed(index: IndexRecord, snapshot: &[u64]) -> bool
-    ensures { λ x. ⌜ x ≡ shotHeld index (now (snapshot .entry)) ⌝ }
+pub fn snapshot_held_formed(index: IndexRecord, snapshot: &[u64]) -> bool
+    ensures { λ x. ⌜ x ≡ snapshotHeld index (now (snapshot .entry)) ⌝ }
 {
     let fine = snapshot::snapshot_formed(snapshot, index.keys);
     fine & (index.snapshot_held | (index.keys == 0))

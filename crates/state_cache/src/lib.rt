@@ -66,8 +66,8 @@ pub fn well_formed(index: IndexRecord, log: &[u64], snapshot: &[u64]) -> bool
     let numbers = inner::numbers_formed(index);
     let stop = inner::stop_formed(index);
     let entries = entry::inner::laid_out(log, entry::LOG_WORDS, index.retained + index.batched);
-    let shot = inner::shot_formed(index, snapshot);
-    numbers & (stop & (entries & shot))
+    let keys = inner::snapshot_held_formed(index, snapshot);
+    numbers & (stop & (entries & keys))
 }
 
 // A fresh log: zeros over both slices, and the record of a log with that batch size. Where it is refused the record is that of size 0.
@@ -75,9 +75,9 @@ pub fn fresh(batch_size: u64, log: &mut [u64], snapshot: &mut [u64]) -> SettledA
     ensures { λ r. ⌜ outcome (settled (r .answer)) (raw (r .index) (now (log .exit)) (now (snapshot .exit))) ≡ freshCall «batch_size» (now (log .entry)) (now (snapshot .entry)) ⌝ }
 {
     let words = log.len();
-    let shot_words = snapshot.len();
+    let snapshot_words = snapshot.len();
     let sized = batch_size <= entry::LARGEST_BATCH;
-    let roomy = (words == entry::LOG_WORDS) & (shot_words == entry::SNAPSHOT_WORDS);
+    let roomy = (words == entry::LOG_WORDS) & (snapshot_words == entry::SNAPSHOT_WORDS);
     if !(sized & roomy) {
         return SettledAt {
             answer: Settled::Refused(Refusal::Malformed),
@@ -85,7 +85,7 @@ pub fn fresh(batch_size: u64, log: &mut [u64], snapshot: &mut [u64]) -> SettledA
         };
     }
     words::clear(log, 0, words);
-    words::clear(snapshot, 0, shot_words);
+    words::clear(snapshot, 0, snapshot_words);
     SettledAt {
         answer: Settled::Done,
         index: inner::fresh_index(batch_size),

@@ -20,7 +20,7 @@ use Rattle.snapshot.specs.Folds.{rising}
 use Rattle.snapshot.specs.Inner.{Holds}
 use Rattle.snapshot.proofs.Calling.{snapshot-holds}
 use Rattle.model.specs.Numbers.{endOf, acceptedOf}
-use Rattle.model.specs.Log.{Log, ifGiven, shotFormed}
+use Rattle.model.specs.Log.{Log, ifGiven, keysFormed}
 use Rattle.model.specs.Diff.{snapshotIn}
 use Rattle.model.specs.Sync.{partFormed, roundGuards}
 use Rattle.model.specs.Calls.{Call, sync, malformed, further, syncGuards, synced, effect, replyOf}
@@ -48,16 +48,16 @@ and-none true = refl
 and-none false = refl
 
 -- a snapshot in its words is one of the model's in form, of either kind
-shot-formed : (k : SnapshotType) (n : ℕ) (ws : List ℕ) → (plainBy k ≡ false → Holds snapshotWords n ws) → ifGiven shotFormed (snapshotIn (givenBy k (entriesOf n ws))) ≡ true
+shot-formed : (k : SnapshotType) (n : ℕ) (ws : List ℕ) → (plainBy k ≡ false → Holds snapshotWords n ws) → ifGiven keysFormed (snapshotIn (givenBy k (entriesOf n ws))) ≡ true
 shot-formed k n ws h = go k h
   where
-    fine : Holds snapshotWords n ws → shotFormed (entriesOf n ws) ≡ true
+    fine : Holds snapshotWords n ws → keysFormed (entriesOf n ws) ≡ true
     fine l =
-        unfold shotFormed in
+        unfold keysFormed in
         both-true (rising (entriesOf n ws)) _ (l .rises)
         (both-true (leb (length (entriesOf n ws)) keyRoom) (entriesFormed (entriesOf n ws)) (le-leb (length (entriesOf n ws)) keyRoom (omega (arith, entries-length changeCode n ws, l .laid .fits))) (l .laid .fine))
 
-    go : (k : SnapshotType) → (plainBy k ≡ false → Holds snapshotWords n ws) → ifGiven shotFormed (snapshotIn (givenBy k (entriesOf n ws))) ≡ true
+    go : (k : SnapshotType) → (plainBy k ≡ false → Holds snapshotWords n ws) → ifGiven keysFormed (snapshotIn (givenBy k (entriesOf n ws))) ≡ true
     go Plain h = refl
     go Complete h = fine (h refl)
     go Delta h = fine (h refl)
@@ -106,7 +106,7 @@ module _ (r : Raw) (ok : formed r ≡ true) (x : LogSync) (incoming suffix : Lis
   unfolding malformed partFormed
   bad true e =
       let q : (entriesFormed (entriesIn suffix) && ifGiven signFormed (asked (x .«stop_held») (x .stopsign))) ≡ false = rw (sign-is (x .«stop_held») (x .stopsign)) e in
-      rw q (ap not (and-none (ifGiven shotFormed (snapshotIn (givenBy (x .«decided_snapshot») (entriesOf (x .keys) incoming))))))
+      rw q (ap not (and-none (ifGiven keysFormed (snapshotIn (givenBy (x .«decided_snapshot») (entriesOf (x .keys) incoming))))))
   bad false e = absurd (true≢false e)
 
   pub ask-refused : (held : Bool) → requestFormed held x incoming suffix ≡ false → outcome (refused 11 0) r ≡ run (callOf held) (wholeOf held) r
@@ -137,7 +137,7 @@ module _ (r : Raw) (ok : formed r ≡ true) (x : LogSync) (incoming suffix : Lis
         whole = and-left (wholeIn suffix) _ q;
         lent = lent;
         fine =
-            both-true (ifGiven shotFormed (snapshotIn (givenBy (x .«decided_snapshot») (entriesOf (x .keys) incoming)))) _
+            both-true (ifGiven keysFormed (snapshotIn (givenBy (x .«decided_snapshot») (entriesOf (x .keys) incoming)))) _
             (shot-formed (x .«decided_snapshot») (x .keys) incoming lent)
             (rw (sign-is (x .«stop_held») (x .stopsign)) (rest-is true e));
       }

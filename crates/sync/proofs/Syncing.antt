@@ -21,7 +21,7 @@ use Rattle.entry.specs.declared.Refusal.{Refusal}
 use Rattle.entry.proofs.ChangeLaws.{changeOk}
 use Rattle.entry.proofs.GuardLaws.{first-left, first-right, Clear, clear, passed}
 use Rattle.snapshot.specs.Folds.{foldOnto, merge}
-use Rattle.snapshot.specs.Calls.{outcome as shotOutcome, folded, foldGuards}
+use Rattle.snapshot.specs.Calls.{outcome as snapshotOutcome, folded, foldGuards}
 use Rattle.snapshot.specs.Inner.{Holds, foldWritten}
 use Rattle.snapshot.specs.declared.Folded.{Folded}
 use Rattle.snapshot.specs.declared.Folded.the-variants.{Keys, Refused}
@@ -41,7 +41,7 @@ use Rattle.internal_storage.specs.Replies.{asked}
 use Rattle.internal_storage.proofs.Effects.{numbers}
 use Rattle.compaction.proofs.Folding.{decided-high, shot-is, fold-is}
 use Rattle.sync.specs.Requests.{givenBy, plainBy, partBy, numbersBy}
-use Rattle.sync.specs.Inner.{shotThen, marked, keptBy, syncedIndex, Fits, Taken, Syncs}
+use Rattle.sync.specs.Inner.{snapshotThen, marked, keptBy, syncedIndex, Fits, Taken, Syncs}
 use Rattle.sync.specs.declared.LogSync.{LogSync}
 use Rattle.sync.specs.declared.SnapshotType.{SnapshotType}
 use Rattle.sync.specs.declared.SnapshotType.the-variants.{Plain, Complete, Delta}
@@ -160,15 +160,15 @@ module _ (r : Raw) (x : LogSync) (incoming suffix : List ℕ) (w : Syncs r x inc
 
     -- 8 comes of a delta alone
     tested : (k : SnapshotType) → (plainBy k ≡ false → Holds snapshotWords (x .keys) incoming)
-        → first (foldGuards (shotThen k held decided lent)) ≡ first (foldGuards (foldThen (givenBy k lent) s))
+        → first (foldGuards (snapshotThen k held decided lent)) ≡ first (foldGuards (foldThen (givenBy k lent) s))
     unfolding first
     tested Plain h = rw (few-keys (r .index .keys) (r .snapshot) (w .ready .snapshot))
     tested Complete h = rw (few-keys (x .keys) incoming (h refl))
     tested Delta h = ap (λ (u : List Change). first (foldGuards u)) (sym delta-is)
 
-    module _ (a : Folded) (exit : List ℕ) (f : shotOutcome (folded a) exit ≡ foldWritten (shotThen kind held decided lent) (r .snapshot)) where
+    module _ (a : Folded) (exit : List ℕ) (f : snapshotOutcome (folded a) exit ≡ foldWritten (snapshotThen kind held decided lent) (r .snapshot)) where
       abbrev shot : List Change
-      shot = shotThen kind held decided lent
+      shot = snapshotThen kind held decided lent
 
       verdict : first (foldGuards shot) ≡ first (further c s)
       verdict = tested kind (w .lent) ∙ sym (first-right gs last-guard pass) ∙ sym guards-are
@@ -216,7 +216,7 @@ module _ (r : Raw) (x : LogSync) (incoming suffix : List ℕ) (w : Syncs r x inc
         holds Complete = sym (or-true (r .index .«snapshot_held»))
         holds Delta = sym (or-true (r .index .«snapshot_held»))
 
-        shows : (k : SnapshotType) → orEmpty (runThen (partAs k) s .held) ≡ shotThen k held decided lent
+        shows : (k : SnapshotType) → orEmpty (runThen (partAs k) s .held) ≡ snapshotThen k held decided lent
         unfolding runThen
         shows Plain = sym (shot-is r ok)
         shows Complete = refl

@@ -23,10 +23,10 @@ use Rattle.sync.specs.declared.SnapshotType.{SnapshotType}
 use Rattle.sync.specs.declared.SnapshotType.the-variants.{Plain, Complete, Delta}
 
 -- the snapshot held before, the one lent, or the one lent over all that was decided
-abbrev pub shotThen : SnapshotType → List Change → List Change → List Change → List Change
-shotThen Plain held decided lent = held
-shotThen Complete held decided lent = lent
-shotThen Delta held decided lent = foldOnto (foldOnto held decided) lent
+abbrev pub snapshotThen : SnapshotType → List Change → List Change → List Change → List Change
+snapshotThen Plain held decided lent = held
+snapshotThen Complete held decided lent = lent
+snapshotThen Delta held decided lent = foldOnto (foldOnto held decided) lent
 
 -- the round, and the larger decided index
 abbrev pub marked : Ballot → ℕ → IndexRecord → IndexRecord

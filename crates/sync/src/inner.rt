@@ -17,7 +17,7 @@ ghost use Rattle.words.specs.If.{if_then_else_};
 ghost use Rattle.entry.specs.Guards.{first};
 ghost use Rattle.entry.specs.Limits.{snapshotWords};
 ghost use Rattle.entry.specs.Change.{entriesOf};
-ghost use Rattle.snapshot.specs.Calls.{outcome as shotOutcome, folded};
+ghost use Rattle.snapshot.specs.Calls.{outcome as snapshotOutcome, folded};
 ghost use Rattle.snapshot.specs.Inner.{Holds, foldWritten};
 ghost use Rattle.model.specs.Numbers.{acceptedOf, logDecided};
 ghost use Rattle.model.specs.Sync.{partNumberGuards, roundGuards};
@@ -28,7 +28,7 @@ ghost use Rattle.state_cache.specs.Inner.{Ready};
 ghost use Rattle.state_cache.specs.Run.{outcome, run, indexSaid};
 ghost use Rattle.internal_storage.specs.Inner.{verdictOf, indexed, byNumbers};
 ghost use Rattle.sync.specs.Requests.{plainBy, partBy, numbersBy, requestFormed};
-ghost use Rattle.sync.specs.Inner.{shotThen, marked, Fits, Taken, Syncs};
+ghost use Rattle.sync.specs.Inner.{snapshotThen, marked, Fits, Taken, Syncs};
 
 fn is_plain(kind: SnapshotType) -> bool
     ensures { λ r. ⌜ r ≡ plainBy kind ⌝ }
@@ -49,10 +49,10 @@ pub fn request_formed(held: bool, log_sync: LogSync, incoming: &[u64], suffix: &
     let sized = incoming.len() == entry::SNAPSHOT_WORDS;
     let words = suffix.len();
     let whole = words % entry::WIDTH == 0;
-    let shot = snapshot::snapshot_formed(incoming, log_sync.keys);
+    let keys = snapshot::snapshot_formed(incoming, log_sync.keys);
     let fine = entry::inner::places_formed(suffix, words / entry::WIDTH);
     let stop = entry::sign_formed(log_sync.stopsign);
-    (sized & (whole & (!held | (plain | shot)))) & (!held | (fine & (!log_sync.stop_held | stop)))
+    (sized & (whole & (!held | (plain | keys)))) & (!held | (fine & (!log_sync.stop_held | stop)))
 }
 
 // How many of the retained entries stay: of a plain sync those below its index.
@@ -142,30 +142,30 @@ pub fn round_at(index: IndexRecord, accepted_round: Ballot, decided_idx: LogInde
 fn hold(
     index: IndexRecord,
     log: &[u64],
-    shot: &mut [u64],
+    snapshot: &mut [u64],
     kind: SnapshotType,
     incoming: &[u64],
     keys: usize,
 ) -> Folded
-    requires { ⌜ Ready (raw index (now log) (now shot)) × (plainBy kind ≡ false → Holds snapshotWords keys (now incoming)) ⌝ }
-    ensures { λ r. ⌜ shotOutcome (folded r) (now (shot .exit))
+    requires { ⌜ Ready (raw index (now log) (now snapshot)) × (plainBy kind ≡ false → Holds snapshotWords keys (now incoming)) ⌝ }
+    ensures { λ r. ⌜ snapshotOutcome (folded r) (now (snapshot .exit))
         ≡ foldWritten
-        (shotThen kind
-        (entriesOf (index .keys) (now (shot .entry)))
+        (snapshotThen kind
+        (entriesOf (index .keys) (now (snapshot .entry)))
         (entriesOf (logDecided (numbersIn index) - index .compacted .0) (now (log .entry)))
         (entriesOf keys (now (incoming .entry))))
-        (now (shot .entry)) ⌝ }
+        (now (snapshot .entry)) ⌝ }
 {
     match kind {
         SnapshotType::Plain => Folded::Keys(index.keys),
         SnapshotType::Complete => {
-            words::copy_words(incoming, shot);
+            words::copy_words(incoming, snapshot);
             Folded::Keys(keys)
         }
         SnapshotType::Delta => {
             let decided = state_cache::inner::log_decided(index);
             let n = (decided - index.compacted.0) as usize;
-            snapshot::inner::fold_over(shot, index.keys, log, n, incoming, keys)
+            snapshot::inner::fold_over(snapshot, index.keys, log, n, incoming, keys)
         }
     }
 }
@@ -221,15 +221,15 @@ fn take_suffix(
 pub fn sync_at(
     index: IndexRecord,
     log: &mut [u64],
-    shot: &mut [u64],
+    snapshot: &mut [u64],
     accepted_round: Ballot,
     decided_idx: LogIndex,
     log_sync: LogSync,
     incoming: &[u64],
     suffix: &[u64],
 ) -> IndexAnswerAt
-    requires { ⌜ Syncs (raw index (now log) (now shot)) «log_sync» (now incoming) (now suffix) ⌝ }
-    ensures { λ r. ⌜ outcome (indexSaid (r .answer)) (raw (r .index) (now (log .exit)) (now (shot .exit))) ≡ run (syncCall «accepted_round» («decided_idx» .0) (some (partBy «log_sync» (now (incoming .entry)) (now (suffix .entry))))) true (raw index (now (log .entry)) (now (shot .entry))) ⌝ }
+    requires { ⌜ Syncs (raw index (now log) (now snapshot)) «log_sync» (now incoming) (now suffix) ⌝ }
+    ensures { λ r. ⌜ outcome (indexSaid (r .answer)) (raw (r .index) (now (log .exit)) (now (snapshot .exit))) ≡ run (syncCall «accepted_round» («decided_idx» .0) (some (partBy «log_sync» (now (incoming .entry)) (now (suffix .entry))))) true (raw index (now (log .entry)) (now (snapshot .entry))) ⌝ }
 {
     let n = suffix.len() / entry::WIDTH;
     let check = check_sync(index, decided_idx, log_sync, n);
@@ -241,7 +241,7 @@ pub fn sync_at(
     }
     let marked = mark(index, accepted_round, decided_idx);
     let kind = log_sync.decided_snapshot;
-    let r = hold(index, log, shot, kind, incoming, log_sync.keys);
+    let r = hold(index, log, snapshot, kind, incoming, log_sync.keys);
     match r {
         Folded::Refused(refusal) => IndexAnswerAt {
             answer: IndexAnswer::Refused(refusal),

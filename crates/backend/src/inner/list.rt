@@ -23,13 +23,13 @@ fn judge_last(
     start: u64,
     index: IndexRecord,
     log: &[u64],
-    shot: &[u64],
+    snapshot: &[u64],
 ) -> Settled
-    requires { ⌜ Kept (raw index (now log) (now shot)) ⌝ }
+    requires { ⌜ Kept (raw index (now log) (now snapshot)) ⌝ }
     requires { ⌜ Small (numbersIn before) ⌝ }
     ensures { λ r. ⌜ settled r
         ≡ settle
-        (first (lastGuards (numbersIn before) (midstOf start (raw index (now (log .entry)) (now (shot .entry))))))
+        (first (lastGuards (numbersIn before) (midstOf start (raw index (now (log .entry)) (now (snapshot .entry))))))
         tt ⌝ }
 {
     let last = state_cache::inner::accepted(before);
@@ -50,19 +50,19 @@ fn judge_last(
 fn run_ops(
     before: IndexRecord,
     log: &mut [u64],
-    shot: &mut [u64],
+    snapshot: &mut [u64],
     entries: &[u64],
     incoming: &[u64],
     lent: Lent,
     list: OpList,
 ) -> SettledAt
-    requires { ⌜ Listed (raw before (now log) (now shot)) lent (now entries) (now incoming) list ⌝ }
+    requires { ⌜ Listed (raw before (now log) (now snapshot)) lent (now entries) (now incoming) list ⌝ }
     ensures { λ r. ⌜ Wrote
-        (raw before (now (log .entry)) (now (shot .entry)))
+        (raw before (now (log .entry)) (now (snapshot .entry)))
         (lentOf lent (now (entries .entry)) (now (incoming .entry)))
         (opsIn list)
         (r .answer)
-        (raw (r .index) (now (log .exit)) (now (shot .exit))) ⌝ }
+        (raw (r .index) (now (log .exit)) (now (snapshot .exit))) ⌝ }
 {
     let n = list.count;
     let ops = list.ops;
@@ -71,7 +71,17 @@ fn run_ops(
     let mut i = 0;
     while i < n {
         let o = ops[i];
-        let s = super::step::step(before, start, index, log, shot, entries, incoming, lent, o);
+        let s = super::step::step(
+            before,
+            start,
+            index,
+            log,
+            snapshot,
+            entries,
+            incoming,
+            lent,
+            o,
+        );
         let answer = s.answer;
         if let Settled::Refused(refusal) = answer {
             return SettledAt {
@@ -83,7 +93,7 @@ fn run_ops(
         index = s.index;
         i += 1;
     }
-    let answer = judge_last(before, start, index, log, shot);
+    let answer = judge_last(before, start, index, log, snapshot);
     SettledAt { answer, index }
 }
 
@@ -105,10 +115,10 @@ pub fn write_at(
         (raw before (now (log .entry)) (now (snapshot .entry))) ⌝ }
 {
     let mut words = [0u64; entry::LOG_WORDS];
-    let mut shot = [0u64; entry::SNAPSHOT_WORDS];
+    let mut keys = [0u64; entry::SNAPSHOT_WORDS];
     words::copy_words(log, &mut words);
-    words::copy_words(snapshot, &mut shot);
-    let r = run_ops(before, &mut words, &mut shot, entries, incoming, lent, list);
+    words::copy_words(snapshot, &mut keys);
+    let r = run_ops(before, &mut words, &mut keys, entries, incoming, lent, list);
     let answer = r.answer;
     let after = r.index;
     if let Settled::Refused(refusal) = answer {
@@ -118,7 +128,7 @@ pub fn write_at(
         };
     }
     words::copy_words(&words, log);
-    words::copy_words(&shot, snapshot);
+    words::copy_words(&keys, snapshot);
     SettledAt {
         answer: Settled::Done,
         index: after,

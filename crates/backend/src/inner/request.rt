@@ -68,8 +68,8 @@ pub fn request_formed(entries: &[u64], incoming: &[u64], lent: Lent, list: OpLis
         return false;
     }
     let fine = entry::entries_formed(entries);
-    let shot = incoming_formed(lent, incoming);
+    let keys = incoming_formed(lent, incoming);
     let sign = entry::sign_formed(stop);
     let ready = all_supplied(lent, list);
-    fine & (shot & ((!lent.stop_lent | sign) & ((1 <= count) & ready)))
+    fine & (keys & ((!lent.stop_lent | sign) & ((1 <= count) & ready)))
 }

@@ -42,19 +42,19 @@ fn put_at(
     start: u64,
     index: IndexRecord,
     log: &mut [u64],
-    shot: &[u64],
+    snapshot: &[u64],
     at: usize,
     entries: &[u64],
 ) -> Stepped
-    requires { ⌜ Kept (raw index (now log) (now shot)) ⌝ }
+    requires { ⌜ Kept (raw index (now log) (now snapshot)) ⌝ }
     requires { ⌜ at ≤ index .retained ⌝ }
     requires { ⌜ sliceFormed (now entries) ≡ true ⌝ }
     ensures { λ r. ⌜ Goes
         (roomGuards at (length (entriesIn (now (entries .entry))))
-        (midstOf start (raw index (now (log .entry)) (now (shot .entry)))))
+        (midstOf start (raw index (now (log .entry)) (now (snapshot .entry)))))
         (rejoined at (entriesIn (now (entries .entry)))
-        (midstOf start (raw index (now (log .entry)) (now (shot .entry)))))
-        r (now (log .exit)) (now (shot .entry)) ⌝ }
+        (midstOf start (raw index (now (log .entry)) (now (snapshot .entry)))))
+        r (now (log .exit)) (now (snapshot .entry)) ⌝ }
 {
     let n = entries.len() / entry::WIDTH;
     if entry::ENTRIES < at + index.batched + n {
@@ -83,19 +83,19 @@ fn put_on_prefix(
     start: u64,
     index: IndexRecord,
     log: &mut [u64],
-    shot: &[u64],
+    snapshot: &[u64],
     from: LogIndex,
     entries: &[u64],
 ) -> Stepped
-    requires { ⌜ Kept (raw index (now log) (now shot)) ⌝ }
+    requires { ⌜ Kept (raw index (now log) (now snapshot)) ⌝ }
     requires { ⌜ Small (numbersIn before) ⌝ }
     requires { ⌜ sliceFormed (now entries) ≡ true ⌝ }
     ensures { λ r. ⌜ Goes
         (stepGuards (numbersIn before) (onlyEntries (now (entries .entry))) (appendOnPrefix (from .0))
-        (midstOf start (raw index (now (log .entry)) (now (shot .entry)))))
+        (midstOf start (raw index (now (log .entry)) (now (snapshot .entry)))))
         (step (onlyEntries (now (entries .entry))) (appendOnPrefix (from .0))
-        (midstOf start (raw index (now (log .entry)) (now (shot .entry)))))
-        r (now (log .exit)) (now (shot .entry)) ⌝ }
+        (midstOf start (raw index (now (log .entry)) (now (snapshot .entry)))))
+        r (now (log .exit)) (now (snapshot .entry)) ⌝ }
 {
     let end = state_cache::inner::end(before);
     let kept = state_cache::inner::above(from.0, start);
@@ -106,15 +106,21 @@ fn put_on_prefix(
             index,
         };
     }
-    put_at(start, index, log, shot, kept as usize, entries)
+    put_at(start, index, log, snapshot, kept as usize, entries)
 }
 
 // Drops the entries below an index, and moves the run's start there if it is higher.
-fn trim_to(start: u64, index: IndexRecord, log: &mut [u64], shot: &[u64], to: LogIndex) -> Stepped
-    requires { ⌜ Kept (raw index (now log) (now shot)) ⌝ }
+fn trim_to(
+    start: u64,
+    index: IndexRecord,
+    log: &mut [u64],
+    snapshot: &[u64],
+    to: LogIndex,
+) -> Stepped
+    requires { ⌜ Kept (raw index (now log) (now snapshot)) ⌝ }
     ensures { λ r. ⌜ Goes []
-        (step (onlyEntries []) (trim (to .0)) (midstOf start (raw index (now (log .entry)) (now (shot .entry)))))
-        r (now (log .exit)) (now (shot .entry)) ⌝ }
+        (step (onlyEntries []) (trim (to .0)) (midstOf start (raw index (now (log .entry)) (now (snapshot .entry)))))
+        r (now (log .exit)) (now (snapshot .entry)) ⌝ }
 {
     let below = state_cache::inner::above(to.0, start);
     let gone = state_cache::inner::least(below, index.retained as u64) as usize;
@@ -132,15 +138,15 @@ fn keys_if(given: bool, keys: usize) -> usize
 }
 
 // The snapshot's words: those that are lent, or zeros.
-fn write_shot(shot: &mut [u64], given: bool, incoming: &[u64])
-    requires { ⌜ length (now shot) ≡ snapshotWords ⌝ }
+fn write_snapshot(snapshot: &mut [u64], given: bool, incoming: &[u64])
+    requires { ⌜ length (now snapshot) ≡ snapshotWords ⌝ }
     requires { ⌜ length (now incoming) ≡ snapshotWords ⌝ }
-    ensures { λ _. ⌜ now (shot .exit) ≡ askedWords given (now (incoming .entry)) ⌝ }
+    ensures { λ _. ⌜ now (snapshot .exit) ≡ askedWords given (now (incoming .entry)) ⌝ }
 {
     if given {
-        words::copy_words(incoming, shot);
+        words::copy_words(incoming, snapshot);
     } else {
-        words::clear(shot, 0, entry::SNAPSHOT_WORDS);
+        words::clear(snapshot, 0, entry::SNAPSHOT_WORDS);
     }
 }
 
@@ -150,22 +156,22 @@ pub fn step(
     start: u64,
     index: IndexRecord,
     log: &mut [u64],
-    shot: &mut [u64],
+    snapshot: &mut [u64],
     entries: &[u64],
     incoming: &[u64],
     lent: Lent,
     o: Op,
 ) -> Stepped
-    requires { ⌜ Kept (raw index (now log) (now shot)) ⌝ }
+    requires { ⌜ Kept (raw index (now log) (now snapshot)) ⌝ }
     requires { ⌜ Small (numbersIn before) ⌝ }
     requires { ⌜ Lends lent (now entries) (now incoming) ⌝ }
     requires { ⌜ supplied (lentOf lent (now entries) (now incoming)) (opOf o) ≡ true ⌝ }
     ensures { λ r. ⌜ Goes
         (stepGuards (numbersIn before) (lentOf lent (now (entries .entry)) (now (incoming .entry))) (opOf o)
-        (midstOf start (raw index (now (log .entry)) (now (shot .entry)))))
+        (midstOf start (raw index (now (log .entry)) (now (snapshot .entry)))))
         (step (lentOf lent (now (entries .entry)) (now (incoming .entry))) (opOf o)
-        (midstOf start (raw index (now (log .entry)) (now (shot .entry)))))
-        r (now (log .exit)) (now (shot .exit)) ⌝ }
+        (midstOf start (raw index (now (log .entry)) (now (snapshot .entry)))))
+        r (now (log .exit)) (now (snapshot .exit)) ⌝ }
 {
     let kind = o.kind;
     let idx = o.index;
@@ -173,8 +179,8 @@ pub fn step(
     let given = o.given;
     let mut next = index;
     match kind {
-        OpKind::AppendEntries => put_at(start, index, log, shot, index.retained, entries),
-        OpKind::AppendOnPrefix => put_on_prefix(before, start, index, log, shot, idx, entries),
+        OpKind::AppendEntries => put_at(start, index, log, snapshot, index.retained, entries),
+        OpKind::AppendOnPrefix => put_on_prefix(before, start, index, log, snapshot, idx, entries),
         OpKind::SetPromise => {
             next.promise = ballot;
             done(start, next)
@@ -191,14 +197,14 @@ pub fn step(
             next.compacted = idx;
             done(start, next)
         }
-        OpKind::Trim => trim_to(start, index, log, shot, idx),
+        OpKind::Trim => trim_to(start, index, log, snapshot, idx),
         OpKind::SetStopsign => {
             next.stop = entry::inner::sign_if(given, lent.stop);
             next.stop_held = given;
             done(start, next)
         }
         OpKind::SetSnapshot => {
-            write_shot(shot, given, incoming);
+            write_snapshot(snapshot, given, incoming);
             next.keys = keys_if(given, lent.keys);
             next.snapshot_held = given;
             done(start, next)

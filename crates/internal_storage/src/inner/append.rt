@@ -1,8 +1,8 @@
 // Appends of entries to a log that is known to be well formed: not for a user, whose calls are in append.rt.
-use super::super::MaybeIndex;
-use super::super::MaybeIndexAt;
 use super::super::Appended;
 use super::super::AppendedAt;
+use super::super::MaybeIndex;
+use super::super::MaybeIndexAt;
 use entry::Refusal;
 use entry::Said;
 use state_cache::IndexAnswer;

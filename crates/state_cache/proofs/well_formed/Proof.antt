@@ -33,8 +33,8 @@ add-laid-out c =
 laid-out-requires : tie.Need-laid-out-requires
 laid-out-requires c κs = search needs
 
-shot-formed-requires : tie.Need-shot-formed-requires
-shot-formed-requires c κs = search needs
+snapshot-held-formed-requires : tie.Need-snapshot-held-formed-requires
+snapshot-held-formed-requires c κs = search needs
 
 returns-2 : tie.Need-returns-2
 unfolding formed
@@ -50,5 +50,5 @@ well-formed-spec =
     stop-formed-requires
     add-laid-out
     laid-out-requires
-    shot-formed-requires
+    snapshot-held-formed-requires
     returns-2)

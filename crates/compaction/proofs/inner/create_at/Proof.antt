@@ -14,7 +14,7 @@ use Rattle.compaction.proofs.inner.create_at.Statement.{statement}
 use Rattle.compaction.proofs.inner.create_at.Tie as tie
 
 abbrev stateAt : tie.Start → Raw
-stateAt c = raw (c .args .index) (now (c .args .log)) (now (c .args .shot))
+stateAt c = raw (c .args .index) (now (c .args .log)) (now (c .args .snapshot))
 
 abbrev startOf : tie.Else1 → tie.Start
 startOf e = e .before .before .before .before .before .before .before

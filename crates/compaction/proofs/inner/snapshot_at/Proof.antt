@@ -17,7 +17,7 @@ use Rattle.compaction.proofs.inner.snapshot_at.Statement.{statement}
 use Rattle.compaction.proofs.inner.snapshot_at.Tie as tie
 
 abbrev stateAt : tie.Start → Raw
-stateAt c = raw (c .args .index) (now (c .args .log)) (now (c .args .shot))
+stateAt c = raw (c .args .index) (now (c .args .log)) (now (c .args .snapshot))
 
 abbrev startOf : tie.After-known-told2 → tie.Start
 startOf k = k .before .before .before .before .before .before
@@ -39,7 +39,7 @@ unfolding entriesAt allOf
 fold-over-requires c κs =
     let k = c .before .before .before .before in
     let st = startOf k in (
-      fold-needs (stateAt st) (st .pre .okay) _ (in-run (stateAt st) (st .pre .okay) (uptoOf (st .args .upto)) _ (up k)) (now (st .args .shot)) (st .pre .snapshot .laid .long),
+      fold-needs (stateAt st) (st .pre .okay) _ (in-run (stateAt st) (st .pre .okay) (uptoOf (st .args .upto)) _ (up k)) (now (st .args .snapshot)) (st .pre .snapshot .laid .long),
       record { inside = omega arith; sound = refl },
     )
 

@@ -15,7 +15,7 @@ abbrev startOf : tie.After-log-decided → tie.Start
 startOf k = k .before .before .before .before
 
 abbrev stateAt : tie.After-log-decided → Raw
-stateAt k = let st = startOf k in raw (st .args .index) (now (st .args .log)) (now (st .args .shot))
+stateAt k = let st = startOf k in raw (st .args .index) (now (st .args .log)) (now (st .args .snapshot))
 
 abbrev knownOf : tie.After-least → tie.After-log-decided
 knownOf m = m .before .before .before

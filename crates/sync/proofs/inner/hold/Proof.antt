@@ -11,7 +11,7 @@ use Rattle.sync.proofs.inner.hold.Statement.{statement}
 use Rattle.sync.proofs.inner.hold.Tie as tie
 
 abbrev stateAt : tie.Start → Raw
-stateAt c = raw (c .args .index) (now (c .args .log)) (now (c .args .shot))
+stateAt c = raw (c .args .index) (now (c .args .log)) (now (c .args .snapshot))
 
 abbrev startOf : tie.After-log-decided → tie.Start
 startOf k = k .before .before .before .before .before .before
@@ -44,7 +44,7 @@ fold-over-requires : tie.Need-fold-over-requires
 fold-over-requires c κs =
     let k = c .before .before in
     let st = startOf k in (
-      fold-needs (stateAt st) (st .pre .0 .okay) (k .log-decided .result) (decided-high (numbersIn (st .args .index)) (st .pre .0 .numbers) (k .log-decided .result) (k .log-decided .ensures)) (now (st .args .shot)) (st .pre .0 .snapshot .laid .long),
+      fold-needs (stateAt st) (st .pre .0 .okay) (k .log-decided .result) (decided-high (numbersIn (st .args .index)) (st .pre .0 .numbers) (k .log-decided .result) (k .log-decided .ensures)) (now (st .args .snapshot)) (st .pre .0 .snapshot .laid .long),
       held-shows (st .args .keys) (now (st .args .incoming)) (st .pre .1 (ap plainBy (k .before .enum-told3 .given .1))),
     )
 

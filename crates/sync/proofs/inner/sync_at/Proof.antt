@@ -22,7 +22,7 @@ use Rattle.sync.proofs.inner.mark.Reads as mark-reads
 use Rattle.sync.proofs.inner.take_suffix.Reads as take-suffix-reads
 
 abbrev stateAt : tie.Start → Raw
-stateAt c = raw (c .args .index) (now (c .args .log)) (now (c .args .shot))
+stateAt c = raw (c .args .index) (now (c .args .log)) (now (c .args .snapshot))
 
 abbrev startOf : tie.After-enum-told → tie.Start
 startOf t = t .before .before .before .before .before .before .before

@@ -20,7 +20,7 @@ use Rattle.state_cache.proofs.inner.one_if.Reads as one-if-reads
 use Rattle.state_cache.proofs.inner.past_last.Reads as past-last-reads
 
 abbrev stateAt : tie.Start → Raw
-stateAt c = raw (c .args .index) (now (c .args .log)) (now (c .args .shot))
+stateAt c = raw (c .args .index) (now (c .args .log)) (now (c .args .snapshot))
 
 -- the sum as it is judged: compacted, the retained entries, and the stop-sign and the batch after them
 past : (p : tie.After-past-last) → let x = p .before .before .before .before .before .args .index in

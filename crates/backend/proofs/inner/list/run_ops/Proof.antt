@@ -30,7 +30,7 @@ abbrev S : Type 0
 S = tie.Start Inv-loop μ-loop
 
 abbrev stateAt : S → Raw
-stateAt c = raw (c .args .before) (now (c .args .log)) (now (c .args .shot))
+stateAt c = raw (c .args .before) (now (c .args .log)) (now (c .args .snapshot))
 
 abbrev lentAt : S → Lent
 lentAt c = lentOf (c .args .lent) (now (c .args .entries)) (now (c .args .incoming))
@@ -63,7 +63,7 @@ step-requires c κs =
         sound-small (numbersIn (a .before)) (st .pre .ready .numbers),
         (
           st .pre .lends,
-          is-supplied (numbersIn (a .before)) (lentAt st) (a .list .ops) (a .list .count) (st .pre .few) (eight st) (asked (stateAt st) (lentAt st) (opsIn (a .list))) (end (stateAt st) (lentAt st) (opsIn (a .list))) (midstOf (v .start) (raw (v .index) (v .log) (v .shot))) (v .i) (v .inv .1 .1) (c .before .before .before .loop-test .taken)
+          is-supplied (numbersIn (a .before)) (lentAt st) (a .list .ops) (a .list .count) (st .pre .few) (eight st) (asked (stateAt st) (lentAt st) (opsIn (a .list))) (end (stateAt st) (lentAt st) (opsIn (a .list))) (midstOf (v .start) (raw (v .index) (v .log) (v .snapshot))) (v .i) (v .inv .1 .1) (c .before .before .before .loop-test .taken)
               (ops-supplied (lentAt st) (opsIn (a .list)) (st .pre .okay)),
         ),
       ),
@@ -82,7 +82,7 @@ same-length-2 : tie.Need-same-length-2 Inv-loop μ-loop
 same-length-2 c =
     let b = c .before .before .before .before in
     let l = b .before .before .before .before .before .before .before .before in
-    b .shot .given ∙ l .loop .inv .1 .0 .snapshot .laid .long ∙ sym (startOf l .pre .ready .snapshot .laid .long)
+    b .snapshot .given ∙ l .loop .inv .1 .0 .snapshot .laid .long ∙ sym (startOf l .pre .ready .snapshot .laid .long)
 
 returns : tie.Need-returns Inv-loop μ-loop
 returns c =
@@ -93,7 +93,7 @@ returns c =
     let a = st .args in
     let v = l .loop in
     wrote-refused (stateAt st) (lentAt st) (opsIn (a .list)) _ (raw (v .index) (p .step .last .1 .1 .1 .0) (p .step .last .1 .1 .1 .1 .0))
-    (turn-refused (numbersIn (a .before)) (lentAt st) (a .list .ops) (a .list .count) (st .pre .few) (eight st) (asked (stateAt st) (lentAt st) (opsIn (a .list))) (end (stateAt st) (lentAt st) (opsIn (a .list))) (midstOf (v .start) (raw (v .index) (v .log) (v .shot))) (v .i) (v .inv .1 .1) (t .loop-test .taken)
+    (turn-refused (numbersIn (a .before)) (lentAt st) (a .list .ops) (a .list .count) (st .pre .few) (eight st) (asked (stateAt st) (lentAt st) (opsIn (a .list))) (end (stateAt st) (lentAt st) (opsIn (a .list))) (midstOf (v .start) (raw (v .index) (v .log) (v .snapshot))) (v .i) (v .inv .1 .1) (t .loop-test .taken)
     (p .step .result) (p .step .last .1 .1 .1 .0) (p .step .last .1 .1 .1 .1 .0) (p .step .ensures) _ (c .before .answer .given .1))
 
 enum-told : tie.Need-enum-told Inv-loop μ-loop
@@ -116,7 +116,7 @@ loop-again c =
     let n = numbersIn (a .before) in
     let k = asked (stateAt st) (lentAt st) (opsIn (a .list)) in
     let z = end (stateAt st) (lentAt st) (opsIn (a .list)) in
-    let m = midstOf (v .start) (raw (v .index) (v .log) (v .shot)) in (
+    let m = midstOf (v .start) (raw (v .index) (v .log) (v .snapshot)) in (
       omega (arith, t .loop-test .taken),
       (
         turn-held n (lentAt st) (a .list .ops) (a .list .count) (st .pre .few) (eight st) k z m (v .i) (v .inv .1 .1) (t .loop-test .taken) (p .step .result) (p .step .last .1 .1 .1 .0) (p .step .last .1 .1 .1 .1 .0) (p .step .ensures) (c .before .enum-told .given .1),
@@ -146,7 +146,7 @@ returns-2 c =
     let st = startOf l in
     let a = st .args in
     let v = l .loop in
-    let x = raw (v .index) (v .log) (v .shot) in
+    let x = raw (v .index) (v .log) (v .snapshot) in
     wrote (stateAt st) (lentAt st) (opsIn (a .list)) (numbersIn (a .before)) (v .start) x (c .judge-last .result) (v .inv .1 .0)
     (ended (numbersIn (a .before)) (lentAt st) (a .list .ops) (a .list .count) (st .pre .few) (eight st) (asked (stateAt st) (lentAt st) (opsIn (a .list))) (end (stateAt st) (lentAt st) (opsIn (a .list))) (midstOf (v .start) x) (v .i) (v .inv .1 .1) (t .loop-test .left))
     (c .judge-last .ensures)

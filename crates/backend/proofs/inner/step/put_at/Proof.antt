@@ -12,7 +12,7 @@ use Rattle.backend.proofs.inner.step.done.Reads as done-reads
 use Rattle.words.proofs.splice.Reads as splice-reads
 
 abbrev stateAt : tie.Start → Raw
-stateAt c = raw (c .args .index) (now (c .args .log)) (now (c .args .shot))
+stateAt c = raw (c .args .index) (now (c .args .log)) (now (c .args .snapshot))
 
 add-if1 : tie.Need-add-if1
 add-if1 c = search needs

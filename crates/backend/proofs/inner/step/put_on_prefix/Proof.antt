@@ -7,7 +7,7 @@ use Rattle.backend.proofs.inner.step.put_on_prefix.Statement.{statement
 use Rattle.backend.proofs.inner.step.put_on_prefix.Tie as tie
 
 abbrev stateAt : tie.Start → Raw
-stateAt c = raw (c .args .index) (now (c .args .log)) (now (c .args .shot))
+stateAt c = raw (c .args .index) (now (c .args .log)) (now (c .args .snapshot))
 
 end-requires : tie.Need-end-requires
 end-requires c κs = search needs

@@ -18,11 +18,11 @@ use Rattle.backend.proofs.inner.step.keys_if.Reads as keys-if-reads
 use Rattle.backend.proofs.inner.step.put_at.Reads as put-at-reads
 use Rattle.backend.proofs.inner.step.put_on_prefix.Reads as put-on-prefix-reads
 use Rattle.backend.proofs.inner.step.trim_to.Reads as trim-to-reads
-use Rattle.backend.proofs.inner.step.write_shot.Reads as write-shot-reads
+use Rattle.backend.proofs.inner.step.write_snapshot.Reads as write-snapshot-reads
 use Rattle.entry.proofs.inner.sign_if.Reads as sign-if-reads
 
 abbrev stateAt : tie.Start → Raw
-stateAt c = raw (c .args .index) (now (c .args .log)) (now (c .args .shot))
+stateAt c = raw (c .args .index) (now (c .args .log)) (now (c .args .snapshot))
 
 abbrev numbersAt : tie.Start → Numbers
 numbersAt c = numbersIn (c .args .before)
@@ -87,8 +87,8 @@ done-requires-5 c κs = search needs
 enum-told-9 : tie.Need-enum-told-9
 enum-told-9 c = search needs
 
-write-shot-requires : tie.Need-write-shot-requires
-write-shot-requires c κs =
+write-snapshot-requires : tie.Need-write-snapshot-requires
+write-snapshot-requires c κs =
     let st = c .before .before .before .before .before .before .before .before .before in
     (st .pre .0 .snapshot .laid .long, long-incoming (st .args .lent) (now (st .args .entries)) (now (st .args .incoming)) (st .pre .1 .1 .0))
 
@@ -109,7 +109,7 @@ returns c =
     let p = c .before .before in
     let e = p .before .before .before in
     let st = e .before .before .before .before .before .before .before .before in
-    goes-of (numbersAt st) (lentAt st) (midstAt st) (st .args .o) AppendEntries (p .put-at .result) (p .put-at .last .1 .1 .0) (now (st .args .shot)) (e .enum-told .given .1) (append-goes (st .args .start) (stateAt st) (st .pre .0) (numbersAt st) (lentAt st) (p .put-at .result) (p .put-at .last .1 .1 .0) (p .put-at .ensures))
+    goes-of (numbersAt st) (lentAt st) (midstAt st) (st .args .o) AppendEntries (p .put-at .result) (p .put-at .last .1 .1 .0) (now (st .args .snapshot)) (e .enum-told .given .1) (append-goes (st .args .start) (stateAt st) (st .pre .0) (numbersAt st) (lentAt st) (p .put-at .result) (p .put-at .last .1 .1 .0) (p .put-at .ensures))
 
 same-length-3 : tie.Need-same-length-3
 same-length-3 c = search needs
@@ -122,35 +122,35 @@ returns-2 c =
     let p = c .before .before in
     let e = p .before .before .before in
     let st = e .before .before .before .before .before .before .before .before in
-    goes-of (numbersAt st) (lentAt st) (midstAt st) (st .args .o) AppendOnPrefix (p .put-on-prefix .result) (p .put-on-prefix .last .1 .1 .1 .0) (now (st .args .shot)) (e .enum-told2 .given .1) (on-prefix-goes (st .args .start) (stateAt st) (st .pre .0) (numbersAt st) (lentAt st) (now (st .args .entries)) (st .args .o .index .0) (p .put-on-prefix .result) (p .put-on-prefix .last .1 .1 .1 .0) refl (p .put-on-prefix .ensures))
+    goes-of (numbersAt st) (lentAt st) (midstAt st) (st .args .o) AppendOnPrefix (p .put-on-prefix .result) (p .put-on-prefix .last .1 .1 .1 .0) (now (st .args .snapshot)) (e .enum-told2 .given .1) (on-prefix-goes (st .args .start) (stateAt st) (st .pre .0) (numbersAt st) (lentAt st) (now (st .args .entries)) (st .args .o .index .0) (p .put-on-prefix .result) (p .put-on-prefix .last .1 .1 .1 .0) refl (p .put-on-prefix .ensures))
 
 returns-3 : tie.Need-returns-3
 returns-3 c =
     let e = c .before in
     let st = e .before .before .before .before .before .before .before .before in
     rw (c .done .ensures)
-    (goes-of (numbersAt st) (lentAt st) (midstAt st) (st .args .o) SetPromise _ (now (st .args .log)) (now (st .args .shot)) (e .enum-told3 .given .1) (promise-goes (st .args .start) (stateAt st) (st .pre .0) (numbersAt st) (lentAt st) (st .args .o .ballot)))
+    (goes-of (numbersAt st) (lentAt st) (midstAt st) (st .args .o) SetPromise _ (now (st .args .log)) (now (st .args .snapshot)) (e .enum-told3 .given .1) (promise-goes (st .args .start) (stateAt st) (st .pre .0) (numbersAt st) (lentAt st) (st .args .o .ballot)))
 
 returns-4 : tie.Need-returns-4
 returns-4 c =
     let e = c .before in
     let st = e .before .before .before .before .before .before .before .before in
     rw (c .done2 .ensures)
-    (goes-of (numbersAt st) (lentAt st) (midstAt st) (st .args .o) SetDecidedIndex _ (now (st .args .log)) (now (st .args .shot)) (e .enum-told4 .given .1) (decided-goes (st .args .start) (stateAt st) (st .pre .0) (numbersAt st) (lentAt st) (st .args .o .index)))
+    (goes-of (numbersAt st) (lentAt st) (midstAt st) (st .args .o) SetDecidedIndex _ (now (st .args .log)) (now (st .args .snapshot)) (e .enum-told4 .given .1) (decided-goes (st .args .start) (stateAt st) (st .pre .0) (numbersAt st) (lentAt st) (st .args .o .index)))
 
 returns-5 : tie.Need-returns-5
 returns-5 c =
     let e = c .before in
     let st = e .before .before .before .before .before .before .before .before in
     rw (c .done3 .ensures)
-    (goes-of (numbersAt st) (lentAt st) (midstAt st) (st .args .o) SetAcceptedRound _ (now (st .args .log)) (now (st .args .shot)) (e .enum-told5 .given .1) (round-goes (st .args .start) (stateAt st) (st .pre .0) (numbersAt st) (lentAt st) (st .args .o .ballot)))
+    (goes-of (numbersAt st) (lentAt st) (midstAt st) (st .args .o) SetAcceptedRound _ (now (st .args .log)) (now (st .args .snapshot)) (e .enum-told5 .given .1) (round-goes (st .args .start) (stateAt st) (st .pre .0) (numbersAt st) (lentAt st) (st .args .o .ballot)))
 
 returns-6 : tie.Need-returns-6
 returns-6 c =
     let e = c .before in
     let st = e .before .before .before .before .before .before .before .before in
     rw (c .done4 .ensures)
-    (goes-of (numbersAt st) (lentAt st) (midstAt st) (st .args .o) SetCompactedIdx _ (now (st .args .log)) (now (st .args .shot)) (e .enum-told6 .given .1) (compacted-goes (st .args .start) (stateAt st) (st .pre .0) (numbersAt st) (lentAt st) (st .args .o .index)))
+    (goes-of (numbersAt st) (lentAt st) (midstAt st) (st .args .o) SetCompactedIdx _ (now (st .args .log)) (now (st .args .snapshot)) (e .enum-told6 .given .1) (compacted-goes (st .args .start) (stateAt st) (st .pre .0) (numbersAt st) (lentAt st) (st .args .o .index)))
 
 same-length-5 : tie.Need-same-length-5
 same-length-5 c = search needs
@@ -163,7 +163,7 @@ returns-7 c =
     let p = c .before .before in
     let e = p .before .before .before in
     let st = e .before .before .before .before .before .before .before .before in
-    goes-of (numbersAt st) (lentAt st) (midstAt st) (st .args .o) Trim (p .trim-to .result) (p .trim-to .last .1 .1 .0) (now (st .args .shot)) (e .enum-told7 .given .1) (trimmed-goes (st .args .start) (stateAt st) (st .pre .0) (numbersAt st) (lentAt st) (st .args .o .index .0) (p .trim-to .result) (p .trim-to .last .1 .1 .0) (p .trim-to .ensures))
+    goes-of (numbersAt st) (lentAt st) (midstAt st) (st .args .o) Trim (p .trim-to .result) (p .trim-to .last .1 .1 .0) (now (st .args .snapshot)) (e .enum-told7 .given .1) (trimmed-goes (st .args .start) (stateAt st) (st .pre .0) (numbersAt st) (lentAt st) (st .args .o .index .0) (p .trim-to .result) (p .trim-to .last .1 .1 .0) (p .trim-to .ensures))
 
 returns-8 : tie.Need-returns-8
 returns-8 c =
@@ -183,7 +183,7 @@ returns-9 c =
     let st = e .before .before .before .before .before .before .before .before in
     let a = st .args in
     rw (c .done6 .ensures)
-    (shot-done (a .start) (stateAt st) (st .pre .0) (numbersAt st) (a .lent) (now (a .entries)) (now (a .incoming)) (st .pre .1 .1 .0) (a .o) (e .enum-told9 .given .1) (st .pre .1 .1 .1) (c .before .keys-if .result) (p .write-shot .last .0) (c .before .keys-if .ensures) (p .write-shot .ensures))
+    (shot-done (a .start) (stateAt st) (st .pre .0) (numbersAt st) (a .lent) (now (a .entries)) (now (a .incoming)) (st .pre .1 .1 .0) (a .o) (e .enum-told9 .given .1) (st .pre .1 .1 .1) (c .before .keys-if .result) (p .write-snapshot .last .0) (c .before .keys-if .ensures) (p .write-snapshot .ensures))
 
 pub step-spec : {M : Type 1} → statement M
 step-spec =
@@ -207,7 +207,7 @@ step-spec =
     sign-if-requires
     done-requires-5
     enum-told-9
-    write-shot-requires
+    write-snapshot-requires
     keys-if-requires
     done-requires-6
     same-length

@@ -1,10 +1,10 @@
--- `backend::inner::step::write_shot` meets its contract: a copy, or zeros over all.
+-- `backend::inner::step::write_snapshot` meets its contract: a copy, or zeros over all.
 use mathlib.Core.Path.{_∙_}
 use denote.Ref.{now}
 use Rattle.backend.proofs.Amid.{cleared}
 use borrow.Author.Needs.{needs}
-use Rattle.backend.proofs.inner.step.write_shot.Statement.{statement}
-use Rattle.backend.proofs.inner.step.write_shot.Tie as tie
+use Rattle.backend.proofs.inner.step.write_snapshot.Statement.{statement}
+use Rattle.backend.proofs.inner.step.write_snapshot.Tie as tie
 
 copy-words-requires : tie.Need-copy-words-requires
 copy-words-requires c κs = search needs
@@ -24,9 +24,9 @@ same-length-2 c = search needs
 returns-2 : tie.Need-returns-2
 returns-2 c =
     let st = c .before .before .before .before .before .before .before in
-    rw (c .before .before .before .before .if1 .left) (c .before .before .clear .ensures ∙ cleared (now (st .args .shot)) (st .pre .0))
+    rw (c .before .before .before .before .if1 .left) (c .before .before .clear .ensures ∙ cleared (now (st .args .snapshot)) (st .pre .0))
 
-pub write-shot-spec : {M : Type 1} → statement M
-write-shot-spec =
+pub write-snapshot-spec : {M : Type 1} → statement M
+write-snapshot-spec =
     tie.close
     (tie.spec copy-words-requires clear-requires same-length returns same-length-2 returns-2)

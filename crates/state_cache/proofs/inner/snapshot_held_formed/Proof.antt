@@ -1,12 +1,12 @@
--- `state_cache::inner::shot_formed` meets its contract: the callee says its own test.
+-- `state_cache::inner::snapshot_held_formed` meets its contract: the callee says its own test.
 use mathlib.Core.Path.{sym, ap, _∙_}
 use mathlib.Core.Bool.{Bool, _&&_, _||_}
 use denote.Ref.{now}
 use lib.Dec.{eqb}
 use Rattle.state_cache.proofs.Stands.{shot-tests}
 use borrow.Author.Needs.{needs}
-use Rattle.state_cache.proofs.inner.shot_formed.Statement.{statement}
-use Rattle.state_cache.proofs.inner.shot_formed.Tie as tie
+use Rattle.state_cache.proofs.inner.snapshot_held_formed.Statement.{statement}
+use Rattle.state_cache.proofs.inner.snapshot_held_formed.Tie as tie
 
 returns : tie.Need-returns
 returns c =
@@ -14,5 +14,5 @@ returns c =
     let a = k .before .before .args in
     ap (λ (t : Bool). t && (a .index .«snapshot_held» || eqb (a .index .keys) 0)) (k .snapshot-formed .ensures) ∙ sym (shot-tests (a .index) (now (a .snapshot)))
 
-pub shot-formed-spec : {M : Type 1} → statement M
-shot-formed-spec = tie.close (tie.spec (λ c κs. search needs) returns)
+pub snapshot-held-formed-spec : {M : Type 1} → statement M
+snapshot-held-formed-spec = tie.close (tie.spec (λ c κs. search needs) returns)

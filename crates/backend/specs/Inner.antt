@@ -1,5 +1,5 @@
--- What the inner functions say. In the midst of an operation list: the record and the words, whatever the numbers are, and what an
--- operation comes to; and a lent slice of operations as a list by value.
+-- What the inner functions say. In the midst of an operation list: the record and the words, whatever the numbers
+-- are, and what an operation comes to; and a lent slice of operations as a list by value.
 use Prim.Native.Nat.{ℕ, _+_, _≤_}
 use mathlib.Core.Path.{_≡_}
 use mathlib.Core.Bool.{Bool, true, false, _||_}
@@ -61,7 +61,8 @@ roomGuards at n m = guard 1 0 (ltb entryRoom (at + length (m .log .tail .batched
 abbrev pub doneAt : ℕ → IndexRecord → Stepped
 doneAt start x = record { answer = Done; start = start; index = x }
 
--- what an operation comes to: its answer, by the first refusal that applies; and where none does the record and the words after it
+-- what an operation comes to: its answer, by the first refusal that applies; and where none does the record and the
+-- words after it
 pub record Goes (gs : List Guard) (next : Midst) (s : Stepped) (log snapshot : List ℕ) : Type 0 where
   pub verdict : settled (s .answer) ≡ settle (first gs) tt
   pub after : settled (s .answer) ≡ replied tt
@@ -80,7 +81,8 @@ pub record Listed (r : Raw) (b : CodeLent) (entries incoming : List ℕ) (list :
   pub few : list .count ≤ mostOps
   pub okay : opsFormed (lentOf b entries incoming) (opsIn list) ≡ true
 
--- what it comes to: the first refusal that applies; and where none does a well-formed state that stands for what the list wrote
+-- what it comes to: the first refusal that applies; and where none does a well-formed state that stands for what the
+-- list wrote
 pub record Wrote (r : Raw) (l : Lent) (ops : List Op) (answer : Settled) (x : Raw) : Type 0 where
   pub verdict : settled answer ≡ settle (first (writeGuards l ops (logOf r))) tt
   pub after : settled answer ≡ replied tt → (formed x ≡ true) × (logOf x ≡ listWritten l ops (logOf r))

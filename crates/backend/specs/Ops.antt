@@ -12,10 +12,13 @@ use Rattle.entry.specs.Sign.{noSign}
 use Rattle.entry.specs.declared.StopSign.{StopSign}
 use Rattle.snapshot.specs.Calls.{snapshotFormed}
 use Rattle.model.specs.Log.{noBallot}
-use Rattle.model.specs.Backend.{Op, appendEntries, appendOnPrefix, setDecided, setCompacted, trim, setPromise, setRound, setSign, setSnapshot, Lent}
+use Rattle.model.specs.Backend.{Op, appendEntries, appendOnPrefix, setDecided, setCompacted, trim, setPromise, setRound}
+use Rattle.model.specs.Backend.{setSign, setSnapshot, Lent}
 use Rattle.backend.specs.declared.Op.{Op as CodeOp}
 use Rattle.backend.specs.declared.OpKind.{OpKind}
-use Rattle.backend.specs.declared.OpKind.the-variants.{AppendEntries, AppendOnPrefix, SetPromise, SetDecidedIndex, SetAcceptedRound, SetCompactedIdx, Trim, SetStopsign, SetSnapshot}
+use Rattle.backend.specs.declared.OpKind.the-variants.{AppendEntries, AppendOnPrefix, SetPromise, SetDecidedIndex}
+use Rattle.backend.specs.declared.OpKind.the-variants.{SetAcceptedRound, SetCompactedIdx, Trim, SetStopsign}
+use Rattle.backend.specs.declared.OpKind.the-variants.{SetSnapshot}
 use Rattle.backend.specs.declared.OpList.{OpList}
 use Rattle.backend.specs.declared.Lent.{Lent as CodeLent}
 

@@ -1,5 +1,5 @@
-// Module 4 of document 01: the operation list. The contract is one equation with `run`: the reply, the record and every lent word after
-// the call. Names are the Rust's.
+// Module 4 of document 01: the operation list. The contract is one equation with `run`: the reply, the record and
+// every lent word after the call. Names are the Rust's.
 use entry::Ballot;
 use entry::LogIndex;
 use entry::Refusal;
@@ -34,7 +34,8 @@ pub enum OpKind {
     SetSnapshot,
 }
 
-// An operation; fields that its kind does not use are not looked at. `given` says whether the last two kinds set what is lent, or none.
+// An operation; fields that its kind does not use are not looked at. `given` says whether the last two kinds set what
+// is lent, or none.
 pub struct Op {
     pub kind: OpKind,
     pub index: LogIndex,
@@ -57,8 +58,8 @@ pub struct Lent {
     pub stop: StopSign,
 }
 
-// All operations of a list or none, in their order: the entries, the snapshot and the stop-sign are lent once, and each operation that
-// needs one takes it whole.
+// All operations of a list or none, in their order: the entries, the snapshot and the stop-sign are lent once, and
+// each operation that needs one takes it whole.
 pub fn write_list(
     index: IndexRecord,
     log: &mut [u64],
@@ -68,7 +69,10 @@ pub fn write_list(
     lent: Lent,
     list: OpList,
 ) -> SettledAt
-    ensures { λ r. ⌜ outcome (settled (r .answer)) (raw (r .index) (now (log .exit)) (now (snapshot .exit))) ≡ run (write (lentOf lent (now (entries .entry)) (now (incoming .entry))) (opsIn list)) (wholeList lent (now (entries .entry)) (now (incoming .entry)) list) (raw index (now (log .entry)) (now (snapshot .entry))) ⌝ }
+    ensures { λ r. ⌜ outcome (settled (r .answer)) (raw (r .index) (now (log .exit)) (now (snapshot .exit)))
+        ≡ run (write (lentOf lent (now (entries .entry)) (now (incoming .entry))) (opsIn list))
+        (wholeList lent (now (entries .entry)) (now (incoming .entry)) list)
+        (raw index (now (log .entry)) (now (snapshot .entry))) ⌝ }
 {
     if !state_cache::well_formed(index, log, snapshot) {
         return SettledAt {
@@ -95,7 +99,10 @@ pub fn write_atomically(
     lent: Lent,
     ops: &[Op],
 ) -> SettledAt
-    ensures { λ r. ⌜ outcome (settled (r .answer)) (raw (r .index) (now (log .exit)) (now (snapshot .exit))) ≡ run (write (lentOf lent (now (entries .entry)) (now (incoming .entry))) (map opOf (now (ops .entry)))) (wholeLent lent (now (entries .entry)) (now (incoming .entry))) (raw index (now (log .entry)) (now (snapshot .entry))) ⌝ }
+    ensures { λ r. ⌜ outcome (settled (r .answer)) (raw (r .index) (now (log .exit)) (now (snapshot .exit)))
+        ≡ run (write (lentOf lent (now (entries .entry)) (now (incoming .entry))) (map opOf (now (ops .entry))))
+        (wholeLent lent (now (entries .entry)) (now (incoming .entry)))
+        (raw index (now (log .entry)) (now (snapshot .entry))) ⌝ }
 {
     let list = inner::gather::gather(ops);
     write_list(index, log, snapshot, entries, incoming, lent, list)

@@ -29,8 +29,8 @@ fn past_decided(index: IndexRecord, upto: Upto) -> bool
     }
 }
 
-// Where a trim or a snapshot ends. An index that is decided is no more than log-decided, but for that of a decided stop-sign, which is no
-// entry to compact.
+// Where a trim or a snapshot ends. An index that is decided is no more than log-decided, but for that of a decided
+// stop-sign, which is no entry to compact.
 fn target(index: IndexRecord, upto: Upto) -> u64
     requires { ⌜ Small (numbersIn index) ⌝ }
     ensures { λ r. ⌜ r ≡ target (uptoOf upto) (numbersIn index) ⌝ }
@@ -63,7 +63,8 @@ fn reach_of(index: IndexRecord, upto: Upto) -> Reach
     Reach::To(to)
 }
 
-// Moves the run's start up to an index: the entries below it are cut out. The snapshot that is then held is the caller's.
+// Moves the run's start up to an index: the entries below it are cut out. The snapshot that is then held is the
+// caller's.
 pub fn move_to(
     index: IndexRecord,
     log: &mut [u64],

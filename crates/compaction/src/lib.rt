@@ -1,5 +1,5 @@
-// The calls of document 01's module 6 on a lent log: trims and snapshots. Each contract is one equation with `run`: the reply, the
-// record and every lent word after the call. Names are the Rust's.
+// The calls of document 01's module 6 on a lent log: trims and snapshots. Each contract is one equation with `run`:
+// the reply, the record and every lent word after the call. Names are the Rust's.
 use entry::LogIndex;
 use entry::Refusal;
 use entry::Upto;
@@ -22,7 +22,8 @@ pub mod inner;
 
 // Drops the entries below an index, whatever stands in the snapshot.
 pub fn try_trim(index: IndexRecord, log: &mut [u64], snapshot: &[u64], idx: LogIndex) -> SettledAt
-    ensures { λ r. ⌜ outcome (settled (r .answer)) (raw (r .index) (now (log .exit)) (now (snapshot .entry))) ≡ run (trim (idx .0)) true (raw index (now (log .entry)) (now (snapshot .entry))) ⌝ }
+    ensures { λ r. ⌜ outcome (settled (r .answer)) (raw (r .index) (now (log .exit)) (now (snapshot .entry)))
+        ≡ run (trim (idx .0)) true (raw index (now (log .entry)) (now (snapshot .entry))) ⌝ }
 {
     if !state_cache::well_formed(index, log, snapshot) {
         return SettledAt {
@@ -33,14 +34,16 @@ pub fn try_trim(index: IndexRecord, log: &mut [u64], snapshot: &[u64], idx: LogI
     inner::trim_at(index, log, snapshot, idx)
 }
 
-// Folds the entries below an index onto the held snapshot and drops them. Where the fold has too many keys nothing changes.
+// Folds the entries below an index onto the held snapshot and drops them. Where the fold has too many keys nothing
+// changes.
 pub fn try_snapshot(
     index: IndexRecord,
     log: &mut [u64],
     snapshot: &mut [u64],
     idx: Upto,
 ) -> SettledAt
-    ensures { λ r. ⌜ outcome (settled (r .answer)) (raw (r .index) (now (log .exit)) (now (snapshot .exit))) ≡ run (snapshotCall (uptoOf idx)) true (raw index (now (log .entry)) (now (snapshot .entry))) ⌝ }
+    ensures { λ r. ⌜ outcome (settled (r .answer)) (raw (r .index) (now (log .exit)) (now (snapshot .exit)))
+        ≡ run (snapshotCall (uptoOf idx)) true (raw index (now (log .entry)) (now (snapshot .entry))) ⌝ }
 {
     if !state_cache::well_formed(index, log, snapshot) {
         return SettledAt {
@@ -59,7 +62,10 @@ pub fn create_snapshot(
     idx: LogIndex,
     out: &mut [u64],
 ) -> Folded
-    ensures { λ r. ⌜ snapshotOutcome (folded r) (now (out .exit)) ≡ writtenOut (run (query (create (idx .0))) (eqb (length (now (out .entry))) snapshotWords) (raw index (now (log .entry)) (now (snapshot .entry))) .answer) (now (out .entry)) ⌝ }
+    ensures { λ r. ⌜ snapshotOutcome (folded r) (now (out .exit))
+        ≡ writtenOut
+        (run (query (create (idx .0))) (eqb (length (now (out .entry))) snapshotWords)
+        (raw index (now (log .entry)) (now (snapshot .entry))) .answer) (now (out .entry)) ⌝ }
 {
     if !state_cache::well_formed(index, log, snapshot) {
         return Folded::Refused(Refusal::IllFormed);

@@ -45,7 +45,8 @@ fn tell(delta: bool, r: Folded, log_decided: LogIndex) -> Diff
     }
 }
 
-// Refusal 8, or the diff written out. Where nothing is retained below log-decided, the fold onto the held snapshot is a copy of it.
+// Refusal 8, or the diff written out. Where nothing is retained below log-decided, the fold onto the held snapshot is
+// a copy of it.
 pub fn diff_at(
     index: IndexRecord,
     log: &[u64],

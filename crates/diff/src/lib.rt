@@ -13,8 +13,8 @@ ghost use Rattle.diff.specs.Replies.{diffSaid, outAfter};
 
 pub mod inner;
 
-// What was written to the output slice, with its number of keys: a snapshot of all that is decided, one of what is decided from an
-// index on, or none. Beside each the index up to which it goes.
+// What was written to the output slice, with its number of keys: a snapshot of all that is decided, one of what is
+// decided from an index on, or none. Beside each the index up to which it goes.
 pub enum Diff {
     Nothing { log_decided: LogIndex },
     Complete { keys: usize, log_decided: LogIndex },
@@ -30,8 +30,13 @@ pub fn create_diff_snapshot(
     from: LogIndex,
     out: &mut [u64],
 ) -> Diff
-    ensures { λ r. ⌜ diffSaid (now (out .exit)) r ≡ run (query (diff (from .0))) (eqb (length (now (out .entry))) snapshotWords) (raw index (now (log .entry)) (now (snapshot .entry))) .answer ⌝ }
-    ensures { λ r. ⌜ now (out .exit) ≡ outAfter (run (query (diff (from .0))) (eqb (length (now (out .entry))) snapshotWords) (raw index (now (log .entry)) (now (snapshot .entry))) .answer) (now (out .entry)) ⌝ }
+    ensures { λ r. ⌜ diffSaid (now (out .exit)) r
+        ≡ run (query (diff (from .0))) (eqb (length (now (out .entry))) snapshotWords)
+        (raw index (now (log .entry)) (now (snapshot .entry))) .answer ⌝ }
+    ensures { λ r. ⌜ now (out .exit)
+        ≡ outAfter
+        (run (query (diff (from .0))) (eqb (length (now (out .entry))) snapshotWords)
+        (raw index (now (log .entry)) (now (snapshot .entry))) .answer) (now (out .entry)) ⌝ }
 {
     if !state_cache::well_formed(index, log, snapshot) {
         return Diff::Refused(Refusal::IllFormed);

@@ -1,5 +1,5 @@
--- An entry: "a 64-bit key with either a block place below 2^48 or removed". Its form, and the words that it is: nothing but this
--- crate says how many there are, and what each of them means.
+-- An entry: "a 64-bit key with either a block place below 2^48 or removed". Its form, and the words that it is:
+-- nothing but this crate says how many there are, and what each of them means.
 use Prim.Native.Nat.{ℕ, _*_, _/_, _%_, _≤_}
 use mathlib.Core.Path.{_≡_}
 use mathlib.Core.Bool.{Bool, true, _&&_}
@@ -82,7 +82,8 @@ stored n es = laidOut changeCode n es
 -- whether some words are such a slice, of so many words and with n entries in form
 unfoldable pub storedIn : ℕ → ℕ → List ℕ → Bool
 storedIn words n ws =
-    eqb (length ws) words && (leb (n * width) words && (entriesFormed (entriesOf n ws) && allZero (drop (n * width) ws)))
+    eqb (length ws) words
+    && (leb (n * width) words && (entriesFormed (entriesOf n ws) && allZero (drop (n * width) ws)))
 
 -- the same as facts, each with its name
 pub record Laid (words n : ℕ) (ws : List ℕ) : Type 0 where

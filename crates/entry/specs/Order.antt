@@ -17,8 +17,10 @@ thenBy Equal o = o
 thenBy Greater o = Greater
 
 abbrev pub ballotOrder : Ballot → Ballot → Ordering
-ballotOrder a b = thenBy (compareOf (a .n) (b .n)) (thenBy (compareOf (a .priority) (b .priority)) (compareOf (a .pid) (b .pid)))
+ballotOrder a b =
+    thenBy (compareOf (a .n) (b .n)) (thenBy (compareOf (a .priority) (b .priority)) (compareOf (a .pid) (b .pid)))
 
 abbrev pub sameBallot : Ballot → Ballot → Bool
 sameBallot a b =
-    eqb (a .«config_id») (b .«config_id») && (eqb (a .n) (b .n) && (eqb (a .priority) (b .priority) && eqb (a .pid) (b .pid)))
+    eqb (a .«config_id») (b .«config_id»)
+    && (eqb (a .n) (b .n) && (eqb (a .priority) (b .priority) && eqb (a .pid) (b .pid)))

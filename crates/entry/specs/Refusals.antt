@@ -1,7 +1,9 @@
 -- Document 01's table of refusals: the number of each, and the number that it carries.
 use Prim.Native.Nat.{ℕ}
 use Rattle.entry.specs.declared.Refusal.{Refusal}
-use Rattle.entry.specs.declared.Refusal.the-variants.{NoRoom, AboveDecided, BelowCompacted, Stopped, BelowDecided, AboveAccepted, OutsideRun, TooManyKeys, PastLastIndex, BatchHeld, Malformed, IllFormed}
+use Rattle.entry.specs.declared.Refusal.the-variants.{NoRoom, AboveDecided, BelowCompacted, Stopped, BelowDecided}
+use Rattle.entry.specs.declared.Refusal.the-variants.{AboveAccepted, OutsideRun, TooManyKeys, PastLastIndex}
+use Rattle.entry.specs.declared.Refusal.the-variants.{BatchHeld, Malformed, IllFormed}
 
 abbrev pub numberOf : Refusal → ℕ
 numberOf NoRoom = 1

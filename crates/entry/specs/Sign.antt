@@ -1,5 +1,6 @@
--- A stop-sign: "a 32-bit configuration id, up to seven node ids and up to 32 metadata bytes, or no metadata. At least one node;
--- unused array elements are zero." The id's 32 bits and the arrays' lengths are known by the struct's types.
+-- A stop-sign: "a 32-bit configuration id, up to seven node ids and up to 32 metadata bytes, or no metadata. At least
+-- one node; unused array elements are zero." The id's 32 bits and the arrays' lengths are known by the struct's
+-- types.
 use Prim.Native.Nat.{ℕ}
 use mathlib.Core.Bool.{Bool, false, _&&_, _||_, not}
 use mathlib.Core.List.{List}

@@ -78,7 +78,8 @@ fn one_by_one(s: &[u64], n: usize) -> bool
     ok
 }
 
-// Whether the first n entries of s are in form. The `or` tells it of nearly all that are; where it does not, each place is looked at.
+// Whether the first n entries of s are in form. The `or` tells it of nearly all that are; where it does not, each
+// place is looked at.
 pub fn places_formed(s: &[u64], n: usize) -> bool
     requires { ⌜ n * width ≤ length (now s) ⌝ }
     ensures { λ r. ⌜ r ≡ entriesFormed (entriesOf n (now (s .entry))) ⌝ }

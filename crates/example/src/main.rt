@@ -1,5 +1,5 @@
-// The library from a program: two runs of changes are folded, the folds are merged, and keys are looked up; then a log takes an entry,
-// which is decided and looked up.
+// The library from a program: two runs of changes are folded, the folds are merged, and keys are looked up; then a
+// log takes an entry, which is decided and looked up.
 use entry::BlockPlace;
 use entry::LogIndex;
 use entry::Said;

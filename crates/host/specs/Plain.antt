@@ -46,7 +46,12 @@ abbrev pub aSpan : Span → Said
 aSpan p = tells 1 (p .first) (length (p .entries))
 
 abbrev pub aDiff : Diff → Said
-aDiff d = elim (d .given) [ given ↦ tells 1 0 (d .upto) | complete s ↦ tells 2 (length s) (d .upto) | delta s ↦ tells 3 (length s) (d .upto) ]
+aDiff d =
+    elim (d .given) [
+      | given ↦ tells 1 0 (d .upto)
+      | complete s ↦ tells 2 (length s) (d .upto)
+      | delta s ↦ tells 3 (length s) (d .upto)
+    ]
 
 -- what a call leaves: what it said, and the state after it
 pub record Left : Type 0 where

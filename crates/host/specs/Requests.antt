@@ -1,4 +1,5 @@
--- Requests as the host writes them. A kind is its place in the library's enum, from 0; one that there is not makes a request malformed.
+-- Requests as the host writes them. A kind is its place in the library's enum, from 0; one that there is not makes a
+-- request malformed.
 use Prim.Native.Nat.{ℕ}
 use mathlib.Core.Bool.{Bool, _&&_, _||_}
 use mathlib.Core.List.{List, [], _∷_, map}
@@ -16,7 +17,9 @@ use Rattle.backend.specs.Ops.{opOf}
 use Rattle.backend.specs.declared.Op.{Op}
 use Rattle.backend.specs.declared.OpList.{OpList}
 use Rattle.backend.specs.declared.OpKind.{OpKind}
-use Rattle.backend.specs.declared.OpKind.the-variants.{AppendEntries, AppendOnPrefix, SetPromise, SetDecidedIndex, SetAcceptedRound, SetCompactedIdx, Trim, SetStopsign, SetSnapshot}
+use Rattle.backend.specs.declared.OpKind.the-variants.{AppendEntries, AppendOnPrefix, SetPromise, SetDecidedIndex}
+use Rattle.backend.specs.declared.OpKind.the-variants.{SetAcceptedRound, SetCompactedIdx, Trim, SetStopsign}
+use Rattle.backend.specs.declared.OpKind.the-variants.{SetSnapshot}
 use Rattle.sync.specs.declared.LogSync.{LogSync}
 use Rattle.sync.specs.declared.SnapshotType.{SnapshotType}
 use Rattle.sync.specs.declared.SnapshotType.the-variants.{Plain, Complete, Delta}
@@ -40,7 +43,10 @@ orderAs Greater = 2
 -- an end of a range: any other kind is an end past the last word, which is malformed
 abbrev pub endAt : Bound → PlainBound → Bound
 endAt past b =
-    if eqb (b .kind) 0 then included (b .index .0) else if eqb (b .kind) 1 then excluded (b .index .0) else if eqb (b .kind) 2 then unbounded else past
+    if eqb (b .kind) 0 then included (b .index .0)
+    else if eqb (b .kind) 1 then excluded (b .index .0)
+    else if eqb (b .kind) 2 then unbounded
+    else past
 
 unfoldable pub kindAt : ℕ → OpKind
 kindAt n =
@@ -70,11 +76,17 @@ knownAll l =
     && (knownAt (l .count) 4 (l .e)
     && (knownAt (l .count) 5 (l .f) && (knownAt (l .count) 6 (l .g) && knownAt (l .count) 7 (l .h)))))))
 
+-- all eight, and more after them
+abbrev pub eightWith : List Op → PlainOps → List Op
+eightWith more l =
+    opAt (l .a) ∷ opAt (l .b) ∷ opAt (l .c) ∷ opAt (l .d)
+    ∷ (opAt (l .e) ∷ opAt (l .f) ∷ opAt (l .g) ∷ opAt (l .h) ∷ more)
+
 -- with a kind that there is not, the list counts as one of nine, which is malformed
 abbrev pub listAt : PlainOps → OpList
 listAt l = record {
   count = if knownAll l then l .count else 9;
-  ops = opAt (l .a) ∷ opAt (l .b) ∷ opAt (l .c) ∷ opAt (l .d) ∷ opAt (l .e) ∷ opAt (l .f) ∷ opAt (l .g) ∷ opAt (l .h) ∷ [];
+  ops = eightWith [] l;
 }
 
 -- the same as a slice of at most nine
@@ -82,7 +94,7 @@ abbrev pub countAt : PlainOps → ℕ
 countAt l = let n = if knownAll l then l .count else 9 in if ltb n 9 then n else 9
 
 abbrev pub nineAt : PlainOps → List Op
-nineAt l = opAt (l .a) ∷ opAt (l .b) ∷ opAt (l .c) ∷ opAt (l .d) ∷ opAt (l .e) ∷ opAt (l .f) ∷ opAt (l .g) ∷ opAt (l .h) ∷ opAt (l .h) ∷ []
+nineAt l = eightWith (opAt (l .h) ∷ []) l
 
 abbrev pub sliceAt : PlainOps → List ModelOp
 sliceAt l = map opOf (take (countAt l) (nineAt l))

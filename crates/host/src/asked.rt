@@ -22,7 +22,8 @@ ghost use Rattle.entry.specs.Change.{saidIs};
 ghost use Rattle.entry.specs.Upto.{uptoOf};
 ghost use Rattle.model.specs.Read.{included, excluded};
 ghost use Rattle.reading.specs.Replies.{boundOf};
-ghost use Rattle.host.specs.Requests.{ofFlag, lentSaid, endAt, kindAt, opAt, knownAt, knownAll, listAt, countAt, nineAt, typeAt, keysAt, syncAt};
+ghost use Rattle.host.specs.Requests.{ofFlag, lentSaid, endAt, kindAt, opAt, knownAt, knownAll, listAt, countAt};
+ghost use Rattle.host.specs.Requests.{nineAt, typeAt, keysAt, syncAt};
 
 pub(crate) fn entry_said(removed: bool, place: BlockPlace) -> EntrySaid
     ensures { λ s. ⌜ saidIs s ≡ lentSaid removed (place .0) ⌝ }

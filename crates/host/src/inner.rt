@@ -1,6 +1,7 @@
-// The calls without the judging of the state's form: every call keeps a well-formed state well formed (`runs-formed`), so a host that owns
-// its state and lets nobody else write its words need not have it judged again at each call; the total calls are for every other caller.
-// Each requires a well-formed state, and says then what the call of the same name says.
+// The calls without the judging of the state's form: every call keeps a well-formed state well formed
+// (`runs-formed`), so a host that owns its state and lets nobody else write its words need not have it judged again
+// at each call; the total calls are for every other caller. Each requires a well-formed state, and says then what the
+// call of the same name says.
 use super::PlainBound;
 use super::Reply;
 use super::Said;
@@ -21,12 +22,14 @@ ghost use Rattle.entry.specs.Limits.{lastWord};
 ghost use Rattle.entry.specs.Change.{entriesIn, wholeIn};
 ghost use Rattle.model.specs.Numbers.{acceptedOf, stopDecided, logDecided};
 ghost use Rattle.model.specs.Read.{included, excluded};
-ghost use Rattle.model.specs.Calls.{query, read, readDecided, getEntries, getSuffix, lookup as lookupCall, append, appendNow, flush, flushEntries, appendStop, setStop, setPromise, decide, trim};
+ghost use Rattle.model.specs.Calls.{query, read, readDecided, getEntries, getSuffix, lookup as lookupCall, append};
+ghost use Rattle.model.specs.Calls.{appendNow, flush, flushEntries, appendStop, setStop, setPromise, decide, trim};
 ghost use Rattle.state_cache.specs.State.{raw};
 ghost use Rattle.state_cache.specs.Inner.{Ready};
 ghost use Rattle.state_cache.specs.Run.{run, ofNumbers};
 ghost use Rattle.internal_storage.specs.Replies.{asked as askedSign, withIndexOnly};
-ghost use Rattle.host.specs.Plain.{plain, left, plainly, nothing, aNumber, aFlag, maybeNumber, maybeFlushed, aSpan};
+ghost use Rattle.host.specs.Plain.{plain, left, plainly, nothing, aNumber, aFlag, maybeNumber, maybeFlushed};
+ghost use Rattle.host.specs.Plain.{aSpan};
 ghost use Rattle.host.specs.Requests.{endAt, lentSaid};
 ghost use Rattle.host.specs.Reads.{shownAs};
 
@@ -39,7 +42,9 @@ pub extern "C" fn kotuseraw_inner_lookup(
     key: u64,
 ) -> Said
     requires { ⌜ Ready (raw index (now log) (now snapshot)) ⌝ }
-    ensures { λ s. ⌜ s ≡ plain maybeNumber (run (query (lookupCall key)) true (raw index (now (log .entry)) (now (snapshot .entry))) .answer) ⌝ }
+    ensures { λ s. ⌜ s
+        ≡ plain maybeNumber
+        (run (query (lookupCall key)) true (raw index (now (log .entry)) (now (snapshot .entry))) .answer) ⌝ }
 {
     answers::found_said(reading::inner::look(index, log, snapshot, key))
 }
@@ -166,7 +171,9 @@ pub extern "C" fn kotuseraw_inner_append_entry_with_batching(
 ) -> Reply
     requires { ⌜ Ready (raw index (now log) (now snapshot)) ⌝ }
     ensures { λ r. ⌜ left (r .said) (raw (r .index) (now (log .exit)) (now (snapshot .entry)))
-        ≡ plainly maybeFlushed (run (append (record { key = key; said = lentSaid removed (place .0) } ∷ [])) true (raw index (now (log .entry)) (now (snapshot .entry)))) ⌝ }
+        ≡ plainly maybeFlushed
+        (run (append (record { key = key; said = lentSaid removed (place .0) } ∷ [])) true
+        (raw index (now (log .entry)) (now (snapshot .entry)))) ⌝ }
 {
     let entry = asked::entry_said(removed, place);
     answers::appended_reply(internal_storage::inner::append::append_entry_with_batching(
@@ -188,7 +195,9 @@ pub extern "C" fn kotuseraw_inner_append_entries_with_batching(
 ) -> Reply
     requires { ⌜ Ready (raw index (now log) (now snapshot)) ⌝ }
     ensures { λ r. ⌜ left (r .said) (raw (r .index) (now (log .exit)) (now (snapshot .entry)))
-        ≡ plainly maybeFlushed (run (append (entriesIn (now (entries .entry)))) (wholeIn (now (entries .entry))) (raw index (now (log .entry)) (now (snapshot .entry)))) ⌝ }
+        ≡ plainly maybeFlushed
+        (run (append (entriesIn (now (entries .entry)))) (wholeIn (now (entries .entry)))
+        (raw index (now (log .entry)) (now (snapshot .entry)))) ⌝ }
 {
     answers::appended_reply(internal_storage::inner::append::append_entries_with_batching(
         index,
@@ -208,7 +217,10 @@ pub extern "C" fn kotuseraw_inner_append_entries_and_get_accepted_idx(
 ) -> Reply
     requires { ⌜ Ready (raw index (now log) (now snapshot)) ⌝ }
     ensures { λ r. ⌜ left (r .said) (raw (r .index) (now (log .exit)) (now (snapshot .entry)))
-        ≡ plainly maybeNumber (withIndexOnly (run (append (entriesIn (now (entries .entry)))) (wholeIn (now (entries .entry))) (raw index (now (log .entry)) (now (snapshot .entry))))) ⌝ }
+        ≡ plainly maybeNumber
+        (withIndexOnly
+        (run (append (entriesIn (now (entries .entry)))) (wholeIn (now (entries .entry)))
+        (raw index (now (log .entry)) (now (snapshot .entry))))) ⌝ }
 {
     answers::accepted_idx_reply(internal_storage::inner::append::append_entries_and_get_accepted_idx(
         index,
@@ -228,7 +240,9 @@ pub extern "C" fn kotuseraw_inner_append_entries_without_batching(
 ) -> Reply
     requires { ⌜ Ready (raw index (now log) (now snapshot)) ⌝ }
     ensures { λ r. ⌜ left (r .said) (raw (r .index) (now (log .exit)) (now (snapshot .entry)))
-        ≡ plainly aNumber (run (appendNow (entriesIn (now (entries .entry)))) (wholeIn (now (entries .entry))) (raw index (now (log .entry)) (now (snapshot .entry)))) ⌝ }
+        ≡ plainly aNumber
+        (run (appendNow (entriesIn (now (entries .entry)))) (wholeIn (now (entries .entry)))
+        (raw index (now (log .entry)) (now (snapshot .entry)))) ⌝ }
 {
     answers::accepted_reply(internal_storage::inner::append::append_entries_without_batching(
         index,
@@ -301,7 +315,8 @@ pub extern "C" fn kotuseraw_inner_set_stopsign(
 ) -> Reply
     requires { ⌜ Ready (raw index (now log) (now snapshot)) ⌝ }
     ensures { λ r. ⌜ left (r .said) (raw (r .index) (now (log .entry)) (now (snapshot .entry)))
-        ≡ plainly aNumber (run (setStop (askedSign held ss)) true (raw index (now (log .entry)) (now (snapshot .entry)))) ⌝ }
+        ≡ plainly aNumber
+        (run (setStop (askedSign held ss)) true (raw index (now (log .entry)) (now (snapshot .entry)))) ⌝ }
 {
     answers::accepted_reply(internal_storage::inner::stop::set_stopsign(
         index,

@@ -1,6 +1,7 @@
-// What a Rust or a C program links: every call of the library as an `extern "C"` function. Records and requests go in and come back by
-// value, slices are lent as a pointer and a length, and each answer is one struct of numbers. A contract is the library's, with the same
-// right side: what document 01's model says, read by `plainly`. docs/HOST.md is the reference.
+// What a Rust or a C program links: every call of the library as an `extern "C"` function. Records and requests go in
+// and come back by value, slices are lent as a pointer and a length, and each answer is one struct of numbers. A
+// contract is the library's, with the same right side: what document 01's model says, read by `plainly`. docs/HOST.md
+// is the reference.
 use entry::Ballot;
 use entry::LogIndex;
 use entry::StopSign;
@@ -17,7 +18,8 @@ pub mod snapshots;
 pub mod standing;
 pub mod state;
 
-// Number 0: the call stands, and where `told` is not 0 `first` and `second` are what it tells. Any other: the refusal, and what it carries.
+// Number 0: the call stands, and where `told` is not 0 `first` and `second` are what it tells. Any other: the
+// refusal, and what it carries.
 #[repr(C)]
 pub struct Said {
     pub number: u64,
@@ -34,7 +36,8 @@ pub struct Reply {
     pub index: IndexRecord,
 }
 
-// What a read says: where `told` is 1, the marker (0: none; 1: trimmed; 2: a snapshot), the part of the lent log, and the stop-sign.
+// What a read says: where `told` is 1, the marker (0: none; 1: trimmed; 2: a snapshot), the part of the lent log, and
+// the stop-sign.
 #[repr(C)]
 pub struct ShownSaid {
     pub number: u64,

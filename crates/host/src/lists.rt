@@ -25,7 +25,10 @@ pub extern "C" fn kotuseraw_write_list(
     ops: PlainOps,
 ) -> Reply
     ensures { λ r. ⌜ left (r .said) (raw (r .index) (now (log .exit)) (now (snapshot .exit)))
-        ≡ plainly nothing (run (write (lentOf lent (now (entries .entry)) (now (incoming .entry))) (opsIn (listAt ops))) (wholeList lent (now (entries .entry)) (now (incoming .entry)) (listAt ops)) (raw index (now (log .entry)) (now (snapshot .entry)))) ⌝ }
+        ≡ plainly nothing
+        (run (write (lentOf lent (now (entries .entry)) (now (incoming .entry))) (opsIn (listAt ops)))
+        (wholeList lent (now (entries .entry)) (now (incoming .entry)) (listAt ops))
+        (raw index (now (log .entry)) (now (snapshot .entry)))) ⌝ }
 {
     let list = asked::list_of(ops);
     answers::settled_reply(backend::write_list(index, log, snapshot, entries, incoming, lent, list))
@@ -43,7 +46,10 @@ pub extern "C" fn kotuseraw_write_atomically(
     ops: PlainOps,
 ) -> Reply
     ensures { λ r. ⌜ left (r .said) (raw (r .index) (now (log .exit)) (now (snapshot .exit)))
-        ≡ plainly nothing (run (write (lentOf lent (now (entries .entry)) (now (incoming .entry))) (sliceAt ops)) (wholeLent lent (now (entries .entry)) (now (incoming .entry))) (raw index (now (log .entry)) (now (snapshot .entry)))) ⌝ }
+        ≡ plainly nothing
+        (run (write (lentOf lent (now (entries .entry)) (now (incoming .entry))) (sliceAt ops))
+        (wholeLent lent (now (entries .entry)) (now (incoming .entry)))
+        (raw index (now (log .entry)) (now (snapshot .entry)))) ⌝ }
 {
     let n = asked::counted_in(ops);
     let nine = asked::nine_of(ops);

@@ -12,7 +12,8 @@ ghost use mathlib.Core.Path.{_≡_};
 ghost use mathlib.Core.Bool.{true};
 ghost use mathlib.Core.List.{[], _∷_};
 ghost use Rattle.entry.specs.Change.{entriesIn, wholeIn};
-ghost use Rattle.model.specs.Calls.{append, appendNow, flush, flushEntries, appendStop, setStop, setPromise, decide, trim, snapshot as snapshotCall, sync as syncCall};
+ghost use Rattle.model.specs.Calls.{append, appendNow, flush, flushEntries, appendStop, setStop, setPromise, decide};
+ghost use Rattle.model.specs.Calls.{trim, snapshot as snapshotCall, sync as syncCall};
 ghost use Rattle.state_cache.specs.State.{raw};
 ghost use Rattle.state_cache.specs.Run.{run};
 ghost use Rattle.internal_storage.specs.Replies.{asked as askedSign, withIndexOnly};
@@ -31,7 +32,9 @@ pub extern "C" fn kotuseraw_append_entry_with_batching(
     place: BlockPlace,
 ) -> Reply
     ensures { λ r. ⌜ left (r .said) (raw (r .index) (now (log .exit)) (now (snapshot .entry)))
-        ≡ plainly maybeFlushed (run (append (record { key = key; said = lentSaid removed (place .0) } ∷ [])) true (raw index (now (log .entry)) (now (snapshot .entry)))) ⌝ }
+        ≡ plainly maybeFlushed
+        (run (append (record { key = key; said = lentSaid removed (place .0) } ∷ [])) true
+        (raw index (now (log .entry)) (now (snapshot .entry)))) ⌝ }
 {
     let entry = asked::entry_said(removed, place);
     answers::appended_reply(internal_storage::append_entry_with_batching(
@@ -52,7 +55,9 @@ pub extern "C" fn kotuseraw_append_entries_with_batching(
     entries: &[u64],
 ) -> Reply
     ensures { λ r. ⌜ left (r .said) (raw (r .index) (now (log .exit)) (now (snapshot .entry)))
-        ≡ plainly maybeFlushed (run (append (entriesIn (now (entries .entry)))) (wholeIn (now (entries .entry))) (raw index (now (log .entry)) (now (snapshot .entry)))) ⌝ }
+        ≡ plainly maybeFlushed
+        (run (append (entriesIn (now (entries .entry)))) (wholeIn (now (entries .entry)))
+        (raw index (now (log .entry)) (now (snapshot .entry)))) ⌝ }
 {
     answers::appended_reply(internal_storage::append_entries_with_batching(
         index,
@@ -71,7 +76,10 @@ pub extern "C" fn kotuseraw_append_entries_and_get_accepted_idx(
     entries: &[u64],
 ) -> Reply
     ensures { λ r. ⌜ left (r .said) (raw (r .index) (now (log .exit)) (now (snapshot .entry)))
-        ≡ plainly maybeNumber (withIndexOnly (run (append (entriesIn (now (entries .entry)))) (wholeIn (now (entries .entry))) (raw index (now (log .entry)) (now (snapshot .entry))))) ⌝ }
+        ≡ plainly maybeNumber
+        (withIndexOnly
+        (run (append (entriesIn (now (entries .entry)))) (wholeIn (now (entries .entry)))
+        (raw index (now (log .entry)) (now (snapshot .entry))))) ⌝ }
 {
     answers::accepted_idx_reply(internal_storage::append_entries_and_get_accepted_idx(
         index,
@@ -90,7 +98,9 @@ pub extern "C" fn kotuseraw_append_entries_without_batching(
     entries: &[u64],
 ) -> Reply
     ensures { λ r. ⌜ left (r .said) (raw (r .index) (now (log .exit)) (now (snapshot .entry)))
-        ≡ plainly aNumber (run (appendNow (entriesIn (now (entries .entry)))) (wholeIn (now (entries .entry))) (raw index (now (log .entry)) (now (snapshot .entry)))) ⌝ }
+        ≡ plainly aNumber
+        (run (appendNow (entriesIn (now (entries .entry)))) (wholeIn (now (entries .entry)))
+        (raw index (now (log .entry)) (now (snapshot .entry)))) ⌝ }
 {
     answers::accepted_reply(internal_storage::append_entries_without_batching(
         index,
@@ -146,7 +156,8 @@ pub extern "C" fn kotuseraw_set_stopsign(
     ss: StopSign,
 ) -> Reply
     ensures { λ r. ⌜ left (r .said) (raw (r .index) (now (log .entry)) (now (snapshot .entry)))
-        ≡ plainly aNumber (run (setStop (askedSign held ss)) true (raw index (now (log .entry)) (now (snapshot .entry)))) ⌝ }
+        ≡ plainly aNumber
+        (run (setStop (askedSign held ss)) true (raw index (now (log .entry)) (now (snapshot .entry)))) ⌝ }
 {
     answers::accepted_reply(internal_storage::set_stopsign(index, log, snapshot, held, ss))
 }
@@ -204,7 +215,8 @@ pub extern "C" fn kotuseraw_try_snapshot(
     idx: LogIndex,
 ) -> Reply
     ensures { λ r. ⌜ left (r .said) (raw (r .index) (now (log .exit)) (now (snapshot .exit)))
-        ≡ plainly nothing (run (snapshotCall (ofFlag given (idx .0))) true (raw index (now (log .entry)) (now (snapshot .entry)))) ⌝ }
+        ≡ plainly nothing
+        (run (snapshotCall (ofFlag given (idx .0))) true (raw index (now (log .entry)) (now (snapshot .entry)))) ⌝ }
 {
     let to = asked::upto(given, idx);
     answers::settled_reply(compaction::try_snapshot(index, log, snapshot, to))
@@ -225,7 +237,12 @@ pub extern "C" fn kotuseraw_sync_log(
     suffix: &[u64],
 ) -> Reply
     ensures { λ r. ⌜ left (r .said) (raw (r .index) (now (log .exit)) (now (snapshot .exit)))
-        ≡ plainly aNumber (run (syncCall «accepted_round» («decided_idx» .0) (partOf held (syncAt «log_sync») (now (incoming .entry)) (now (suffix .entry)))) (lentWhole held (syncAt «log_sync») (now (incoming .entry)) (now (suffix .entry))) (raw index (now (log .entry)) (now (snapshot .entry)))) ⌝ }
+        ≡ plainly aNumber
+        (run
+        (syncCall «accepted_round» («decided_idx» .0)
+        (partOf held (syncAt «log_sync») (now (incoming .entry)) (now (suffix .entry))))
+        (lentWhole held (syncAt «log_sync») (now (incoming .entry)) (now (suffix .entry)))
+        (raw index (now (log .entry)) (now (snapshot .entry)))) ⌝ }
 {
     let part = asked::sync_of(log_sync);
     answers::accepted_reply(sync::sync_log(

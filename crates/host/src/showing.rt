@@ -33,7 +33,9 @@ pub extern "C" fn kotuseraw_lookup(
     snapshot: &[u64],
     key: u64,
 ) -> Said
-    ensures { λ s. ⌜ s ≡ plain maybeNumber (run (query (lookupCall key)) true (raw index (now (log .entry)) (now (snapshot .entry))) .answer) ⌝ }
+    ensures { λ s. ⌜ s
+        ≡ plain maybeNumber
+        (run (query (lookupCall key)) true (raw index (now (log .entry)) (now (snapshot .entry))) .answer) ⌝ }
 {
     answers::found_said(reading::lookup(index, log, snapshot, key))
 }

@@ -25,7 +25,8 @@ pub extern "C" fn kotuseraw_fold(entries: &[u64], out: &mut [u64]) -> Said
 // Merges two snapshots: the second's word wins. Tells the number of keys.
 #[no_mangle]
 pub extern "C" fn kotuseraw_merge(a: &[u64], n: usize, b: &[u64], m: usize, out: &mut [u64]) -> Said
-    ensures { λ s. ⌜ wrote s (now (out .exit)) ≡ wroteAs (mergeCall (now (a .entry)) n (now (b .entry)) m (now (out .entry))) ⌝ }
+    ensures { λ s. ⌜ wrote s (now (out .exit))
+        ≡ wroteAs (mergeCall (now (a .entry)) n (now (b .entry)) m (now (out .entry))) ⌝ }
 {
     answers::folded_said(snapshot::merge(a, n, b, m, out))
 }
@@ -48,7 +49,10 @@ pub extern "C" fn kotuseraw_create_snapshot(
     out: &mut [u64],
 ) -> Said
     ensures { λ s. ⌜ wrote s (now (out .exit))
-        ≡ wroteAs (writtenOut (run (query (create (idx .0))) (eqb (length (now (out .entry))) snapshotWords) (raw index (now (log .entry)) (now (snapshot .entry))) .answer) (now (out .entry))) ⌝ }
+        ≡ wroteAs
+        (writtenOut
+        (run (query (create (idx .0))) (eqb (length (now (out .entry))) snapshotWords)
+        (raw index (now (log .entry)) (now (snapshot .entry))) .answer) (now (out .entry))) ⌝ }
 {
     answers::folded_said(compaction::create_snapshot(index, log, snapshot, idx, out))
 }
@@ -62,8 +66,14 @@ pub extern "C" fn kotuseraw_create_diff_snapshot(
     from: LogIndex,
     out: &mut [u64],
 ) -> Said
-    ensures { λ s. ⌜ s ≡ plain aDiff (run (query (diffCall (from .0))) (eqb (length (now (out .entry))) snapshotWords) (raw index (now (log .entry)) (now (snapshot .entry))) .answer) ⌝ }
-    ensures { λ s. ⌜ now (out .exit) ≡ outAfter (run (query (diffCall (from .0))) (eqb (length (now (out .entry))) snapshotWords) (raw index (now (log .entry)) (now (snapshot .entry))) .answer) (now (out .entry)) ⌝ }
+    ensures { λ s. ⌜ s
+        ≡ plain aDiff
+        (run (query (diffCall (from .0))) (eqb (length (now (out .entry))) snapshotWords)
+        (raw index (now (log .entry)) (now (snapshot .entry))) .answer) ⌝ }
+    ensures { λ s. ⌜ now (out .exit)
+        ≡ outAfter
+        (run (query (diffCall (from .0))) (eqb (length (now (out .entry))) snapshotWords)
+        (raw index (now (log .entry)) (now (snapshot .entry))) .answer) (now (out .entry)) ⌝ }
 {
     answers::diff_said(diff::create_diff_snapshot(index, log, snapshot, from, out))
 }

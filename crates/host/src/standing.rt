@@ -19,7 +19,8 @@ pub extern "C" fn kotuseraw_in_place_set_decided_idx(
     idx: LogIndex,
 ) -> Said
     ensures { λ r. ⌜ left r (raw (now (held .exit)) (now (log .entry)) (now (snapshot .entry)))
-        ≡ plainly nothing (run (decide (idx .0)) true (raw (now (held .entry)) (now (log .entry)) (now (snapshot .entry)))) ⌝ }
+        ≡ plainly nothing
+        (run (decide (idx .0)) true (raw (now (held .entry)) (now (log .entry)) (now (snapshot .entry)))) ⌝ }
 {
     let answer = in_place::set_decided_idx(held, log, snapshot, idx);
     answers::settled_said(answer)
@@ -34,7 +35,8 @@ pub extern "C" fn kotuseraw_in_place_try_trim(
     idx: LogIndex,
 ) -> Said
     ensures { λ r. ⌜ left r (raw (now (held .exit)) (now (log .exit)) (now (snapshot .entry)))
-        ≡ plainly nothing (run (trim (idx .0)) true (raw (now (held .entry)) (now (log .entry)) (now (snapshot .entry)))) ⌝ }
+        ≡ plainly nothing
+        (run (trim (idx .0)) true (raw (now (held .entry)) (now (log .entry)) (now (snapshot .entry)))) ⌝ }
 {
     let answer = in_place::try_trim(held, log, snapshot, idx);
     answers::settled_said(answer)

@@ -1,5 +1,5 @@
-// Module 10: the host keeps one index record, and decide and trim alter it where it stands. Each is the call by value on the record
-// that is there, and what it hands back is stored.
+// Module 10: the host keeps one index record, and decide and trim alter it where it stands. Each is the call by value
+// on the record that is there, and what it hands back is stored.
 use entry::LogIndex;
 use state_cache::IndexRecord;
 use state_cache::Settled;
@@ -15,7 +15,8 @@ pub fn set_decided_idx(
     snapshot: &[u64],
     idx: LogIndex,
 ) -> Settled
-    ensures { λ r. ⌜ outcome (settled r) (raw (now (held .exit)) (now (log .entry)) (now (snapshot .entry))) ≡ run (decide (idx .0)) true (raw (now (held .entry)) (now (log .entry)) (now (snapshot .entry))) ⌝ }
+    ensures { λ r. ⌜ outcome (settled r) (raw (now (held .exit)) (now (log .entry)) (now (snapshot .entry)))
+        ≡ run (decide (idx .0)) true (raw (now (held .entry)) (now (log .entry)) (now (snapshot .entry))) ⌝ }
 {
     let decided = internal_storage::set_decided_idx(*held, log, snapshot, idx);
     *held = decided.index;
@@ -23,7 +24,8 @@ pub fn set_decided_idx(
 }
 
 pub fn try_trim(held: &mut IndexRecord, log: &mut [u64], snapshot: &[u64], idx: LogIndex) -> Settled
-    ensures { λ r. ⌜ outcome (settled r) (raw (now (held .exit)) (now (log .exit)) (now (snapshot .entry))) ≡ run (trim (idx .0)) true (raw (now (held .entry)) (now (log .entry)) (now (snapshot .entry))) ⌝ }
+    ensures { λ r. ⌜ outcome (settled r) (raw (now (held .exit)) (now (log .exit)) (now (snapshot .entry)))
+        ≡ run (trim (idx .0)) true (raw (now (held .entry)) (now (log .entry)) (now (snapshot .entry))) ⌝ }
 {
     let trimmed = compaction::try_trim(*held, log, snapshot, idx);
     *held = trimmed.index;

@@ -8,7 +8,8 @@ use Rattle.entry.specs.declared.StopSign.{StopSign}
 use Rattle.model.specs.Append.{Flushed}
 use Rattle.state_cache.specs.Run.{Outcome, outcome}
 use Rattle.internal_storage.specs.declared.Appended.{Appended}
-use Rattle.internal_storage.specs.declared.Appended.the-variants.{Nothing, Flushed as AppendFlushed, Refused as AppendRefused}
+use Rattle.internal_storage.specs.declared.Appended.the-variants.{Nothing, Flushed as AppendFlushed}
+use Rattle.internal_storage.specs.declared.Appended.the-variants.{Refused as AppendRefused}
 use Rattle.internal_storage.specs.declared.MaybeIndex.{MaybeIndex}
 use Rattle.internal_storage.specs.declared.MaybeIndex.the-variants.{Nothing as NoIndex, At, Refused as IdxRefused}
 

@@ -45,7 +45,9 @@ pub fn append_entries_with_batching(
     snapshot: &[u64],
     entries: &[u64],
 ) -> AppendedAt
-    ensures { λ r. ⌜ outcome (appendSaid (r .answer)) (raw (r .index) (now (log .exit)) (now (snapshot .entry))) ≡ run (append (entriesIn (now (entries .entry)))) (wholeIn (now (entries .entry))) (raw index (now (log .entry)) (now (snapshot .entry))) ⌝ }
+    ensures { λ r. ⌜ outcome (appendSaid (r .answer)) (raw (r .index) (now (log .exit)) (now (snapshot .entry)))
+        ≡ run (append (entriesIn (now (entries .entry)))) (wholeIn (now (entries .entry)))
+        (raw index (now (log .entry)) (now (snapshot .entry))) ⌝ }
 {
     if !state_cache::well_formed(index, log, snapshot) {
         return AppendedAt {
@@ -62,7 +64,9 @@ pub fn append_entries_without_batching(
     snapshot: &[u64],
     entries: &[u64],
 ) -> IndexAnswerAt
-    ensures { λ r. ⌜ outcome (indexSaid (r .answer)) (raw (r .index) (now (log .exit)) (now (snapshot .entry))) ≡ run (appendNow (entriesIn (now (entries .entry)))) (wholeIn (now (entries .entry))) (raw index (now (log .entry)) (now (snapshot .entry))) ⌝ }
+    ensures { λ r. ⌜ outcome (indexSaid (r .answer)) (raw (r .index) (now (log .exit)) (now (snapshot .entry)))
+        ≡ run (appendNow (entriesIn (now (entries .entry)))) (wholeIn (now (entries .entry)))
+        (raw index (now (log .entry)) (now (snapshot .entry))) ⌝ }
 {
     if !state_cache::well_formed(index, log, snapshot) {
         return IndexAnswerAt {
@@ -79,7 +83,10 @@ pub fn append_entries_and_get_accepted_idx(
     snapshot: &[u64],
     entries: &[u64],
 ) -> MaybeIndexAt
-    ensures { λ r. ⌜ outcome (maybeIndexSaid (r .answer)) (raw (r .index) (now (log .exit)) (now (snapshot .entry))) ≡ withIndexOnly (run (append (entriesIn (now (entries .entry)))) (wholeIn (now (entries .entry))) (raw index (now (log .entry)) (now (snapshot .entry)))) ⌝ }
+    ensures { λ r. ⌜ outcome (maybeIndexSaid (r .answer)) (raw (r .index) (now (log .exit)) (now (snapshot .entry)))
+        ≡ withIndexOnly
+        (run (append (entriesIn (now (entries .entry)))) (wholeIn (now (entries .entry)))
+        (raw index (now (log .entry)) (now (snapshot .entry)))) ⌝ }
 {
     if !state_cache::well_formed(index, log, snapshot) {
         return MaybeIndexAt {

@@ -17,7 +17,8 @@ pub fn set_decided_idx(
     snapshot: &[u64],
     idx: LogIndex,
 ) -> SettledAt
-    ensures { λ r. ⌜ outcome (settled (r .answer)) (raw (r .index) (now (log .entry)) (now (snapshot .entry))) ≡ run (decide (idx .0)) true (raw index (now (log .entry)) (now (snapshot .entry))) ⌝ }
+    ensures { λ r. ⌜ outcome (settled (r .answer)) (raw (r .index) (now (log .entry)) (now (snapshot .entry)))
+        ≡ run (decide (idx .0)) true (raw index (now (log .entry)) (now (snapshot .entry))) ⌝ }
 {
     if !state_cache::well_formed(index, log, snapshot) {
         return SettledAt {
@@ -29,7 +30,8 @@ pub fn set_decided_idx(
 }
 
 pub fn set_promise(index: IndexRecord, log: &[u64], snapshot: &[u64], n_prom: Ballot) -> SettledAt
-    ensures { λ r. ⌜ outcome (settled (r .answer)) (raw (r .index) (now (log .entry)) (now (snapshot .entry))) ≡ run (setPromise «n_prom») true (raw index (now (log .entry)) (now (snapshot .entry))) ⌝ }
+    ensures { λ r. ⌜ outcome (settled (r .answer)) (raw (r .index) (now (log .entry)) (now (snapshot .entry)))
+        ≡ run (setPromise «n_prom») true (raw index (now (log .entry)) (now (snapshot .entry))) ⌝ }
 {
     if !state_cache::well_formed(index, log, snapshot) {
         return SettledAt {

@@ -13,7 +13,8 @@ ghost use Rattle.state_cache.specs.Run.{outcome, run, indexSaid};
 ghost use Rattle.internal_storage.specs.Replies.{appendSaid};
 
 pub fn flush_batch(index: IndexRecord, log: &[u64], snapshot: &[u64]) -> IndexAnswerAt
-    ensures { λ r. ⌜ outcome (indexSaid (r .answer)) (raw (r .index) (now (log .entry)) (now (snapshot .entry))) ≡ run flush true (raw index (now (log .entry)) (now (snapshot .entry))) ⌝ }
+    ensures { λ r. ⌜ outcome (indexSaid (r .answer)) (raw (r .index) (now (log .entry)) (now (snapshot .entry)))
+        ≡ run flush true (raw index (now (log .entry)) (now (snapshot .entry))) ⌝ }
 {
     if !state_cache::well_formed(index, log, snapshot) {
         return IndexAnswerAt {
@@ -25,7 +26,8 @@ pub fn flush_batch(index: IndexRecord, log: &[u64], snapshot: &[u64]) -> IndexAn
 }
 
 pub fn flush_batch_and_get_entries(index: IndexRecord, log: &[u64], snapshot: &[u64]) -> AppendedAt
-    ensures { λ r. ⌜ outcome (appendSaid (r .answer)) (raw (r .index) (now (log .entry)) (now (snapshot .entry))) ≡ run flushEntries true (raw index (now (log .entry)) (now (snapshot .entry))) ⌝ }
+    ensures { λ r. ⌜ outcome (appendSaid (r .answer)) (raw (r .index) (now (log .entry)) (now (snapshot .entry)))
+        ≡ run flushEntries true (raw index (now (log .entry)) (now (snapshot .entry))) ⌝ }
 {
     if !state_cache::well_formed(index, log, snapshot) {
         return AppendedAt {

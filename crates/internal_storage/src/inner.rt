@@ -1,5 +1,5 @@
-// The parts of the calls that look at numbers alone, and what each call does once no refusal applies. In the modules below, each call of a
-// state that is known to be well formed: the calls of a user judge it first.
+// The parts of the calls that look at numbers alone, and what each call does once no refusal applies. In the modules
+// below, each call of a state that is known to be well formed: the calls of a user judge it first.
 use super::Appended;
 use super::AppendedAt;
 use entry::LogIndex;
@@ -50,7 +50,8 @@ pub fn check_append(index: IndexRecord, n: usize) -> Check
     Check::Passed
 }
 
-// The record once n entries have joined the batch: a batch at or above the batch size is flushed, all of it. No word moves for that.
+// The record once n entries have joined the batch: a batch at or above the batch size is flushed, all of it. No word
+// moves for that.
 pub fn batch_with(index: IndexRecord, n: usize) -> AppendedAt
     requires { ⌜ Sound (numbersIn index) × (index .retained + index .batched + n ≤ entryRoom) ⌝ }
     ensures { λ r. ⌜ r ≡ batchedWith n index ⌝ }
@@ -85,7 +86,9 @@ pub fn append_at(
     n: usize,
 ) -> AppendedAt
     requires { ⌜ Appends (raw index (now log) (now snapshot)) n (now entries) ⌝ }
-    ensures { λ r. ⌜ outcome (appendSaid (r .answer)) (raw (r .index) (now (log .exit)) (now (snapshot .entry))) ≡ run (append (entriesOf n (now (entries .entry)))) true (raw index (now (log .entry)) (now (snapshot .entry))) ⌝ }
+    ensures { λ r. ⌜ outcome (appendSaid (r .answer)) (raw (r .index) (now (log .exit)) (now (snapshot .entry)))
+        ≡ run (append (entriesOf n (now (entries .entry)))) true
+        (raw index (now (log .entry)) (now (snapshot .entry))) ⌝ }
 {
     let check = check_append(index, n);
     if let Check::Refused(refusal) = check {
@@ -108,7 +111,9 @@ pub fn append_now_at(
     n: usize,
 ) -> IndexAnswerAt
     requires { ⌜ Appends (raw index (now log) (now snapshot)) n (now entries) ⌝ }
-    ensures { λ r. ⌜ outcome (indexSaid (r .answer)) (raw (r .index) (now (log .exit)) (now (snapshot .entry))) ≡ run (appendNow (entriesOf n (now (entries .entry)))) true (raw index (now (log .entry)) (now (snapshot .entry))) ⌝ }
+    ensures { λ r. ⌜ outcome (indexSaid (r .answer)) (raw (r .index) (now (log .exit)) (now (snapshot .entry)))
+        ≡ run (appendNow (entriesOf n (now (entries .entry)))) true
+        (raw index (now (log .entry)) (now (snapshot .entry))) ⌝ }
 {
     let check = check_append(index, n);
     if let Check::Refused(refusal) = check {

@@ -1,5 +1,6 @@
-// The calls of document 01's module 3 on a lent log: appends, the stop-sign, flushes, the promise and the decided index. Each contract
-// is one equation with `run`: the reply, the record and every lent word after the call. Names are the Rust's.
+// The calls of document 01's module 3 on a lent log: appends, the stop-sign, flushes, the promise and the decided
+// index. Each contract is one equation with `run`: the reply, the record and every lent word after the call. Names
+// are the Rust's.
 use entry::LogIndex;
 use entry::Refusal;
 use state_cache::IndexRecord;
@@ -21,8 +22,8 @@ pub use flush::flush_batch_and_get_entries;
 pub use stop::append_stopsign;
 pub use stop::set_stopsign;
 
-// What an append with batching says: the entries wait in the batch, or the whole batch is flushed. The flushed entries are the last
-// so many of those retained.
+// What an append with batching says: the entries wait in the batch, or the whole batch is flushed. The flushed
+// entries are the last so many of those retained.
 pub enum Appended {
     Nothing,
     Flushed { accepted: LogIndex, entries: usize },

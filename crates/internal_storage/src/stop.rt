@@ -19,7 +19,8 @@ pub fn append_stopsign(
     snapshot: &[u64],
     ss: StopSign,
 ) -> AppendedAt
-    ensures { λ r. ⌜ outcome (appendSaid (r .answer)) (raw (r .index) (now (log .entry)) (now (snapshot .entry))) ≡ run (appendStop ss) true (raw index (now (log .entry)) (now (snapshot .entry))) ⌝ }
+    ensures { λ r. ⌜ outcome (appendSaid (r .answer)) (raw (r .index) (now (log .entry)) (now (snapshot .entry)))
+        ≡ run (appendStop ss) true (raw index (now (log .entry)) (now (snapshot .entry))) ⌝ }
 {
     if !state_cache::well_formed(index, log, snapshot) {
         return AppendedAt {
@@ -38,7 +39,8 @@ pub fn set_stopsign(
     held: bool,
     ss: StopSign,
 ) -> IndexAnswerAt
-    ensures { λ r. ⌜ outcome (indexSaid (r .answer)) (raw (r .index) (now (log .entry)) (now (snapshot .entry))) ≡ run (setStop (asked held ss)) true (raw index (now (log .entry)) (now (snapshot .entry))) ⌝ }
+    ensures { λ r. ⌜ outcome (indexSaid (r .answer)) (raw (r .index) (now (log .entry)) (now (snapshot .entry)))
+        ≡ run (setStop (asked held ss)) true (raw index (now (log .entry)) (now (snapshot .entry))) ⌝ }
 {
     if !state_cache::well_formed(index, log, snapshot) {
         return IndexAnswerAt {

@@ -72,7 +72,9 @@ pub record Flushed : Type 0 where
 
 unfoldable pub appendReply : List Change → Log → Option Flushed
 appendReply es s =
-    if fills es s then some (record { accepted = acceptedOf (numbersOf (appended es s)); count = length (batchWith es s) }) else none
+    if fills es s
+    then some (record { accepted = acceptedOf (numbersOf (appended es s)); count = length (batchWith es s) })
+    else none
 
 -- nothing where the batch is empty; the accepted index does not count a stop-sign that the call appends
 unfoldable pub flushReply : Log → Option Flushed

@@ -15,7 +15,8 @@ use Rattle.entry.specs.declared.Ballot.{Ballot}
 use Rattle.entry.specs.declared.StopSign.{StopSign}
 use Rattle.model.specs.Numbers.{Numbers, endOf, acceptedOf}
 use Rattle.model.specs.Log.{Run, Tail, Marks, Log, given, ifGiven, numbersOf, keysFormed, wellFormed}
-use Rattle.model.specs.Log.{compactedAt, retaining, holding, signed, deciding, promising, rounding, withRun, withTail, withMarks}
+use Rattle.model.specs.Log.{compactedAt, retaining, holding, signed, deciding, promising, rounding, withRun}
+use Rattle.model.specs.Log.{withTail, withMarks}
 
 -- "those of `StorageOp` but `AppendEntry`"; the last two set what is lent, or none
 pub data Op : Type 0 where
@@ -87,7 +88,8 @@ steps l (o ∷ ops) m = steps l ops (step l o m)
 -- "7, then 1, each judged on the state after the earlier ones"; 7 carries the end held before the call
 unfoldable pub stepGuards : Numbers → Lent → Op → Midst → List Guard
 stepGuards n l appendEntries m =
-    guard 1 0 (ltb entryRoom (length (m .log .run .retained) + length (m .log .tail .batched) + length (l .entries))) ∷ []
+    guard 1 0 (ltb entryRoom (length (m .log .run .retained) + length (m .log .tail .batched) + length (l .entries)))
+    ∷ []
 stepGuards n l (appendOnPrefix i) m =
     guard 7 (endOf n) (ltb i (m .start) || ltb (m .start + length (m .log .run .retained)) i)
     ∷ guard 1 0 (ltb entryRoom ((i - m .start) + length (m .log .tail .batched) + length (l .entries)))

@@ -1,4 +1,5 @@
--- Every call of document 01, as a function of the state: its refusals in their order, its reply, and the state after it.
+-- Every call of document 01, as a function of the state: its refusals in their order, its reply, and the state after
+-- it.
 use Prim.Native.Nat.{ℕ}
 use mathlib.Core.Bool.{Bool, false, _||_, not}
 use mathlib.Core.List.{List, [], _∷_}
@@ -11,7 +12,8 @@ use Rattle.entry.specs.declared.Ballot.{Ballot}
 use Rattle.entry.specs.declared.StopSign.{StopSign}
 use Rattle.model.specs.Numbers.{Numbers, acceptedOf, logDecided}
 use Rattle.model.specs.Log.{Log, given, ifGiven, numbersOf, wellFormed, deciding, promising, withMarks}
-use Rattle.model.specs.Append.{appendGuards, appendStopGuards, setStopGuards, appended, appendedNow, flushed, stopAppended, stopSet, reloaded, Flushed, appendReply, flushReply}
+use Rattle.model.specs.Append.{appendGuards, appendStopGuards, setStopGuards, appended, appendedNow, flushed}
+use Rattle.model.specs.Append.{stopAppended, stopSet, reloaded, Flushed, appendReply, flushReply}
 use Rattle.model.specs.Backend.{Op, Lent, opsFormed, writeGuards, listWritten}
 use Rattle.model.specs.Read.{Bound, startPast, stopPast, Span, Shown}
 use Rattle.model.specs.Read.{readReply, decidedSuffix, entriesBetween, suffixFrom}
@@ -21,15 +23,17 @@ use Rattle.model.specs.Sync.{Part, partFormed, partGuards, roundGuards, 
 use Rattle.model.specs.Lookup.{lookupReply}
 use lib.ListN.{length}
 
--- the calls that change nothing: read, read_decided_suffix, get_entries, get_suffix, create_snapshot, create_diff_snapshot, lookup
+-- the calls that change nothing: read, read_decided_suffix, get_entries, get_suffix, create_snapshot,
+-- create_diff_snapshot, lookup
 pub data Query : Type 0 where
   read : Bound → Bound → Query
   readDecided getSuffix create diff lookup : ℕ → Query
   getEntries : ℕ → ℕ → Query
 
 -- the others, by the Rust's names: append_entry_with_batching and append_entries_with_batching (append),
--- append_entries_without_batching (appendNow), flush_batch, flush_batch_and_get_entries (flushEntries), append_stopsign,
--- set_stopsign, set_promise, set_decided_idx, try_trim, try_snapshot, sync_log, load_cache (reload), write_atomically (write)
+-- append_entries_without_batching (appendNow), flush_batch, flush_batch_and_get_entries (flushEntries),
+-- append_stopsign, set_stopsign, set_promise, set_decided_idx, try_trim, try_snapshot, sync_log, load_cache (reload),
+-- write_atomically (write)
 pub data Call : Type 0 where
   query : Query → Call
   append appendNow : List Change → Call

@@ -22,8 +22,8 @@ snapshotIn plain = none
 snapshotIn (complete c) = some c
 snapshotIn (delta d) = some d
 
--- "from ≤ compacted: complete to log-decided if compacted is below that, otherwise the held snapshot, or none if none is held; else
--- the delta of from to log-decided, empty if from is past it"
+-- "from ≤ compacted: complete to log-decided if compacted is below that, otherwise the held snapshot, or none if none
+-- is held; else the delta of from to log-decided, empty if from is past it"
 unfoldable pub diffOf : ℕ → Log → Given
 diffOf from s =
     let last : ℕ = logDecided (numbersOf s) in

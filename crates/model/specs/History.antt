@@ -15,10 +15,12 @@ use Rattle.model.specs.Append.{fills, batchWith}
 use Rattle.model.specs.Diff.{plain, complete, delta}
 use Rattle.model.specs.Sync.{Part}
 use Rattle.model.specs.Orders.{Moving, neither, synced, movingOf}
-use Rattle.model.specs.Calls.{Call, query, append, appendNow, flush, flushEntries, appendStop, setStop, setPromise, decide, trim, snapshot, sync, reload, write, guards, stateAfter}
+use Rattle.model.specs.Calls.{Call, query, append, appendNow, flush, flushEntries, appendStop, setStop}
+use Rattle.model.specs.Calls.{setPromise, decide, trim, snapshot, sync, reload, write, guards, stateAfter}
 
--- "A plain sync keeps the first sync_idx and joins the suffix. A complete sync stands for a list of sync_idx entries, a delta for
--- sync_idx less log-decided (as held before the call) of them, following our first log-decided; then the suffix." x is that list
+-- "A plain sync keeps the first sync_idx and joins the suffix. A complete sync stands for a list of sync_idx entries,
+-- a delta for sync_idx less log-decided (as held before the call) of them, following our first log-decided; then the
+-- suffix." x is that list
 unfoldable pub syncedHistory : Part → List Change → Log → List Change → List Change
 syncedHistory p x s h =
     elim (p .snapshot) [
@@ -95,7 +97,8 @@ historyAfter (refuses n k) new h = h
 unfoldable pub next : Event → Told → Told
 next e t = record {
   log = stateAfter (e .call) (t .log);
-  history = historyAfter (first (guards (e .call) (t .log))) (grown (e .call) (e .behind) (t .log) (t .history)) (t .history);
+  history =
+      historyAfter (first (guards (e .call) (t .log))) (grown (e .call) (e .behind) (t .log) (t .history)) (t .history);
 }
 
 -- "each call is given the state … that the one before left"

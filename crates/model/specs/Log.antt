@@ -1,5 +1,5 @@
--- The state of a log as document 01 has it, with no word of slices. Ballots and stop-signs are the code's own structs: no call looks
--- into them but by `signFormed`.
+-- The state of a log as document 01 has it, with no word of slices. Ballots and stop-signs are the code's own
+-- structs: no call looks into them but by `signFormed`.
 use Prim.Native.Nat.{ℕ, _-_}
 use mathlib.Core.Bool.{Bool, true, false, _&&_}
 use mathlib.Core.List.{List, []}

@@ -30,8 +30,8 @@ stopDecided n = n .stop && eqb (n .decided) (acceptedOf n)
 unfoldable pub logDecided : Numbers → ℕ
 logDecided n = if stopDecided n then n .decided - 1 else n .decided
 
--- "compacted ≤ log-decided ≤ end; decided ≤ accepted; accepted + batched ≤ 4,294,967,295; batched is 0 or below the batch size;
--- batched 0 if a stop-sign is held"; "batch size 0 to 64"; "1,024 entries, retained first, then batched"
+-- "compacted ≤ log-decided ≤ end; decided ≤ accepted; accepted + batched ≤ 4,294,967,295; batched is 0 or below the
+-- batch size; batched 0 if a stop-sign is held"; "batch size 0 to 64"; "1,024 entries, retained first, then batched"
 unfoldable pub numbersFormed : Numbers → Bool
 numbersFormed n =
     leb (n .compacted) (logDecided n)

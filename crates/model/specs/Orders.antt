@@ -6,8 +6,11 @@ use lib.Dec.{eqb}
 use Rattle.words.specs.If.{if_then_else_}
 use Rattle.model.specs.Numbers.{Numbers, endOf, acceptedOf}
 use Rattle.model.specs.Sync.{Part, partNumbers, decidedThen, acceptedThen}
-use Rattle.model.specs.Backend.{Op, appendEntries, appendOnPrefix, setDecided, setCompacted, trim as opTrim, setPromise as opPromise, setRound, setSign, setSnapshot}
-use Rattle.model.specs.Calls.{Query, read, readDecided, getSuffix, create, diff, lookup, getEntries, Call, query, append, appendNow, flush, flushEntries, appendStop, setStop, setPromise, decide, trim, snapshot, sync, reload, write}
+use Rattle.model.specs.Backend.{Op, appendEntries, appendOnPrefix, setDecided, setCompacted, trim as opTrim}
+use Rattle.model.specs.Backend.{setPromise as opPromise, setRound, setSign, setSnapshot}
+use Rattle.model.specs.Calls.{Query, read, readDecided, getSuffix, create, diff, lookup, getEntries, Call, query}
+use Rattle.model.specs.Calls.{append, appendNow, flush, flushEntries, appendStop, setStop, setPromise, decide}
+use Rattle.model.specs.Calls.{trim, snapshot, sync, reload, write}
 
 abbrev pub queryOrder : Query → List ℕ
 queryOrder (read a b) = []

@@ -15,7 +15,8 @@ use Rattle.entry.specs.declared.StopSign.{StopSign}
 use Rattle.snapshot.specs.Folds.{merge}
 use Rattle.snapshot.specs.Calls.{foldGuards}
 use Rattle.model.specs.Numbers.{Numbers, endOf, acceptedOf, stopDecided, logDecided}
-use Rattle.model.specs.Log.{Run, Log, given, ifGiven, numbersOf, foldedTo, keysFormed, signed, deciding, rounding, withMarks}
+use Rattle.model.specs.Log.{Run, Log, given, ifGiven, numbersOf, foldedTo, keysFormed, signed, deciding, rounding}
+use Rattle.model.specs.Log.{withMarks}
 use Rattle.model.specs.Diff.{Given, plain, complete, delta, snapshotIn}
 
 -- a sync's log part
@@ -26,7 +27,8 @@ pub record Part : Type 0 where
   pub stop : Option StopSign
 
 unfoldable pub partFormed : Part → Bool
-partFormed p = ifGiven keysFormed (snapshotIn (p .snapshot)) && (entriesFormed (p .suffix) && ifGiven signFormed (p .stop))
+partFormed p =
+    ifGiven keysFormed (snapshotIn (p .snapshot)) && (entriesFormed (p .suffix) && ifGiven signFormed (p .stop))
 
 abbrev pub plain? : Given → Bool
 plain? plain = true
@@ -41,7 +43,12 @@ pub record PartNumbers : Type 0 where
   pub stop : Bool
 
 abbrev pub partNumbers : Part → PartNumbers
-partNumbers p = record { idx = p .idx; plain = plain? (p .snapshot); count = length (p .suffix); stop = given (p .stop) }
+partNumbers p = record {
+  idx = p .idx;
+  plain = plain? (p .snapshot);
+  count = length (p .suffix);
+  stop = given (p .stop);
+}
 
 -- "a delta's base is folded to the log-decided index held before the call"
 unfoldable pub deltaOnto : List Change → Log → List Change

@@ -84,7 +84,8 @@ pub fn newest_at(log: &[u64], n: usize, key: u64) -> Newest
 
 pub fn look(index: IndexRecord, log: &[u64], snapshot: &[u64], key: u64) -> Found
     requires { ⌜ Ready (raw index (now log) (now snapshot)) ⌝ }
-    ensures { λ r. ⌜ found r ≡ run (query (lookup key)) true (raw index (now (log .entry)) (now (snapshot .entry))) .answer ⌝ }
+    ensures { λ r. ⌜ found r
+        ≡ run (query (lookup key)) true (raw index (now (log .entry)) (now (snapshot .entry))) .answer ⌝ }
 {
     let decided = state_cache::inner::log_decided(index);
     let n = (decided - index.compacted.0) as usize;

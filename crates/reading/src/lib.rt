@@ -60,7 +60,8 @@ pub struct Shown<'a> {
 
 // A key's place: its newest word among the decided entries that are retained, else the snapshot's.
 pub fn lookup(index: IndexRecord, log: &[u64], snapshot: &[u64], key: u64) -> Found
-    ensures { λ r. ⌜ found r ≡ run (query (lookupCall key)) true (raw index (now (log .entry)) (now (snapshot .entry))) .answer ⌝ }
+    ensures { λ r. ⌜ found r
+        ≡ run (query (lookupCall key)) true (raw index (now (log .entry)) (now (snapshot .entry))) .answer ⌝ }
 {
     if !state_cache::well_formed(index, log, snapshot) {
         return Found::Refused(Refusal::IllFormed);

@@ -17,7 +17,8 @@ use Rattle.model.specs.Calls.{query, read, append, flush, appendStop, decide, t
 use Rattle.state_cache.specs.State.{Raw, oneIf}
 use Rattle.state_cache.specs.Run.{Outcome, run, freshCall, ofNumbers}
 use Rattle.text.specs.Answers.{lineOf, entryLines}
-use Rattle.text.specs.declared.Line.the-variants.{Done, Held, Nothing, BadLine, Accepted, Refused, Run, Trimmed, Snapshot, Stop}
+use Rattle.text.specs.declared.Line.the-variants.{Done, Held, Nothing, BadLine, Accepted, Refused, Run, Trimmed}
+use Rattle.text.specs.declared.Line.the-variants.{Snapshot, Stop}
 use Rattle.text.specs.declared.Command.{Command}
 use Rattle.text.specs.declared.Command.the-variants as command
 use Rattle.reading.specs.Parts.{part}
@@ -99,7 +100,8 @@ printed text o = printout (text (o .answer)) (o .after)
 
 -- "`batch N` starts a fresh log"; one above 64 "prints `refused 11` and keeps the log"
 abbrev pub startedBy : Outcome (Unit {0}) → Raw → Printout
-startedBy o r = elim (o .answer) [ refused n k ↦ printout (lineOf (Refused n)) r | replied u ↦ printout (lineOf Done) (o .after) ]
+startedBy o r =
+    elim (o .answer) [ refused n k ↦ printout (lineOf (Refused n)) r | replied u ↦ printout (lineOf Done) (o .after) ]
 
 -- "`stop` uses node 1 and no metadata, and prints accepted with the stop-sign counted"
 abbrev pub stopOf : ℕ → StopSign

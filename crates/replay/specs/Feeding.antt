@@ -1,4 +1,5 @@
--- Lines that come in parts: what a line means as its buffer keeps it, and what is known between one part of the input and the next.
+-- Lines that come in parts: what a line means as its buffer keeps it, and what is known between one part of the input
+-- and the next.
 use Prim.Native.Nat.{ℕ, _+_, _-_, _*_, _≤_}
 use mathlib.Core.Path.{_≡_}
 use mathlib.Core.List.{List, _++_}
@@ -32,7 +33,8 @@ lastStart = outRoom - answerRoom
 abbrev pub after : List ℕ → Printout → Printout
 after bs t = printout (bs ++ t .text) (t .after)
 
--- what is known between one part of the input and the next: the line so far is in its buffer, and the answers that wait in theirs
+-- what is known between one part of the input and the next: the line so far is in its buffer, and the answers that
+-- wait in theirs
 pub record Fed (len used line log out : ℕ) : Type 0 where
   pub inside : len ≤ line
   pub buffer : line ≡ inputLine

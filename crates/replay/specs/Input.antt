@@ -20,8 +20,9 @@ replayed (l ∷ ls) t = replayed ls (after (t .text) (answering (parseOf l) (t .
 abbrev pub start : Printout
 start = printout [] (rawOf (freshLog 0))
 
--- where the program stands once the lines ls have come: the record and the words are those after the lines that have ended; the line that
--- has not is kept as its buffer keeps it; and the answers that wait come after those handed over to be written
+-- where the program stands once the lines ls have come: the record and the words are those after the lines that have
+-- ended; the line that has not is kept as its buffer keeps it; and the answers that wait come after those handed over
+-- to be written
 pub record Reached (ls : Lines) (x : Raw) (line : Option (List ℕ)) (waits : List ℕ) : Type 0 where
   pub state : x ≡ replayed (ls .ended) start .after
   pub unended : line ≡ fitting inputLine (ls .rest)

@@ -24,7 +24,8 @@ ghost use Rattle.state_cache.specs.Run.{run, settled, indexSaid};
 ghost use Rattle.internal_storage.specs.Replies.{appendSaid};
 ghost use Rattle.text.specs.Answers.{lineOf};
 ghost use Rattle.text.specs.declared.Command.the-variants.{Batch, Read, Flush, Decide, Snap, Stop, Trim};
-ghost use Rattle.replay.specs.Answering.{printout, settledText, acceptedText, appendedText, printed, telling, stopOf, stopLine, one, answering};
+ghost use Rattle.replay.specs.Answering.{printout, settledText, acceptedText, appendedText, printed, telling};
+ghost use Rattle.replay.specs.Answering.{stopOf, stopLine, one, answering};
 ghost use Rattle.replay.specs.Feeding.{answerRoom, after};
 
 // What answers a command: a line, or what a read shows.
@@ -78,7 +79,8 @@ fn appended_line(answer: Appended) -> Line
 
 // A fresh log. Where it is refused the old one stays.
 fn batch(index: IndexRecord, log: &mut [u64], snapshot: &mut [u64], n: u64) -> Answered
-    ensures { λ r. ⌜ telling (r .reply) (raw (r .index) (now (log .exit)) (now (snapshot .exit))) ≡ answering (Batch n) (raw index (now (log .entry)) (now (snapshot .entry))) ⌝ }
+    ensures { λ r. ⌜ telling (r .reply) (raw (r .index) (now (log .exit)) (now (snapshot .exit)))
+        ≡ answering (Batch n) (raw index (now (log .entry)) (now (snapshot .entry))) ⌝ }
 {
     let started = state_cache::fresh(n, log, snapshot);
     let answer = started.answer;
@@ -97,7 +99,9 @@ fn batch(index: IndexRecord, log: &mut [u64], snapshot: &mut [u64], n: u64) -> A
 }
 
 fn append(index: IndexRecord, log: &mut [u64], snapshot: &[u64], k: u64, said: Said) -> Answered
-    ensures { λ r. ⌜ telling (r .reply) (raw (r .index) (now (log .exit)) (now (snapshot .entry))) ≡ printed appendedText (run (append (one k (saidIs said))) true (raw index (now (log .entry)) (now (snapshot .entry)))) ⌝ }
+    ensures { λ r. ⌜ telling (r .reply) (raw (r .index) (now (log .exit)) (now (snapshot .entry)))
+        ≡ printed appendedText
+        (run (append (one k (saidIs said))) true (raw index (now (log .entry)) (now (snapshot .entry)))) ⌝ }
 {
     let to = internal_storage::append_entry_with_batching(index, log, snapshot, k, said);
     let answer = to.answer;
@@ -110,7 +114,8 @@ fn append(index: IndexRecord, log: &mut [u64], snapshot: &[u64], k: u64, said: S
 }
 
 fn read(index: IndexRecord, log: &[u64], snapshot: &[u64], from: u64, to: u64) -> Answered
-    ensures { λ r. ⌜ telling (r .reply) (raw (r .index) (now (log .entry)) (now (snapshot .entry))) ≡ answering (Read from to) (raw index (now (log .entry)) (now (snapshot .entry))) ⌝ }
+    ensures { λ r. ⌜ telling (r .reply) (raw (r .index) (now (log .entry)) (now (snapshot .entry)))
+        ≡ answering (Read from to) (raw index (now (log .entry)) (now (snapshot .entry))) ⌝ }
 {
     let first = LogIndex(from);
     let end = LogIndex(to);
@@ -128,7 +133,8 @@ fn read(index: IndexRecord, log: &[u64], snapshot: &[u64], from: u64, to: u64) -
 }
 
 fn flush(index: IndexRecord, log: &[u64], snapshot: &[u64]) -> Answered
-    ensures { λ r. ⌜ telling (r .reply) (raw (r .index) (now (log .entry)) (now (snapshot .entry))) ≡ answering Flush (raw index (now (log .entry)) (now (snapshot .entry))) ⌝ }
+    ensures { λ r. ⌜ telling (r .reply) (raw (r .index) (now (log .entry)) (now (snapshot .entry)))
+        ≡ answering Flush (raw index (now (log .entry)) (now (snapshot .entry))) ⌝ }
 {
     let to = internal_storage::flush_batch(index, log, snapshot);
     let answer = to.answer;
@@ -141,7 +147,8 @@ fn flush(index: IndexRecord, log: &[u64], snapshot: &[u64]) -> Answered
 }
 
 fn decide(index: IndexRecord, log: &[u64], snapshot: &[u64], i: u64) -> Answered
-    ensures { λ r. ⌜ telling (r .reply) (raw (r .index) (now (log .entry)) (now (snapshot .entry))) ≡ answering (Decide i) (raw index (now (log .entry)) (now (snapshot .entry))) ⌝ }
+    ensures { λ r. ⌜ telling (r .reply) (raw (r .index) (now (log .entry)) (now (snapshot .entry)))
+        ≡ answering (Decide i) (raw index (now (log .entry)) (now (snapshot .entry))) ⌝ }
 {
     let to = internal_storage::set_decided_idx(index, log, snapshot, LogIndex(i));
     let answer = to.answer;
@@ -198,7 +205,8 @@ fn stop_line(answer: Appended, last: IndexAnswer) -> Line
 }
 
 fn stop(index: IndexRecord, log: &[u64], snapshot: &[u64], c: u32) -> Answered
-    ensures { λ r. ⌜ telling (r .reply) (raw (r .index) (now (log .entry)) (now (snapshot .entry))) ≡ answering (Stop c) (raw index (now (log .entry)) (now (snapshot .entry))) ⌝ }
+    ensures { λ r. ⌜ telling (r .reply) (raw (r .index) (now (log .entry)) (now (snapshot .entry)))
+        ≡ answering (Stop c) (raw index (now (log .entry)) (now (snapshot .entry))) ⌝ }
 {
     let to = internal_storage::append_stopsign(index, log, snapshot, stop_sign(c));
     let answer = to.answer;
@@ -212,7 +220,8 @@ fn stop(index: IndexRecord, log: &[u64], snapshot: &[u64], c: u32) -> Answered
 }
 
 fn trim(index: IndexRecord, log: &mut [u64], snapshot: &[u64], i: u64) -> Answered
-    ensures { λ r. ⌜ telling (r .reply) (raw (r .index) (now (log .exit)) (now (snapshot .entry))) ≡ answering (Trim i) (raw index (now (log .entry)) (now (snapshot .entry))) ⌝ }
+    ensures { λ r. ⌜ telling (r .reply) (raw (r .index) (now (log .exit)) (now (snapshot .entry)))
+        ≡ answering (Trim i) (raw index (now (log .entry)) (now (snapshot .entry))) ⌝ }
 {
     let to = compaction::try_trim(index, log, snapshot, LogIndex(i));
     let answer = to.answer;
@@ -231,7 +240,8 @@ fn carry_out(
     snapshot: &mut [u64],
     command: Command,
 ) -> Answered
-    ensures { λ r. ⌜ telling (r .reply) (raw (r .index) (now (log .exit)) (now (snapshot .exit))) ≡ answering command (raw index (now (log .entry)) (now (snapshot .entry))) ⌝ }
+    ensures { λ r. ⌜ telling (r .reply) (raw (r .index) (now (log .exit)) (now (snapshot .exit)))
+        ≡ answering command (raw index (now (log .entry)) (now (snapshot .entry))) ⌝ }
 {
     match command {
         Command::Batch(n) => batch(index, log, snapshot, n),
@@ -264,7 +274,9 @@ pub(crate) fn step(
 ) -> Stepped
     requires { ⌜ (at + answerRoom ≤ length (now out)) × (length (now log) ≡ logWords) ⌝ }
     ensures { λ r. ⌜ r .at ≤ at + answerRoom ⌝ }
-    ensures { λ r. ⌜ printout (take (r .at) (now (out .exit))) (raw (r .index) (now (log .exit)) (now (snapshot .exit))) ≡ after (take at (now (out .entry))) (answering command (raw index (now (log .entry)) (now (snapshot .entry)))) ⌝ }
+    ensures { λ r. ⌜ printout (take (r .at) (now (out .exit))) (raw (r .index) (now (log .exit)) (now (snapshot .exit)))
+        ≡ after (take at (now (out .entry)))
+        (answering command (raw index (now (log .entry)) (now (snapshot .entry)))) ⌝ }
 {
     let done = carry_out(index, log, snapshot, command);
     let next = done.index;

@@ -1,5 +1,5 @@
-// The input, which comes in parts: lines begin, go on and end in them. Answers wait in `out` until the next might not fit, or until
-// the next part is read.
+// The input, which comes in parts: lines begin, go on and end in them. Answers wait in `out` until the next might not
+// fit, or until the next part is read.
 use state_cache::IndexRecord;
 use text::Command;
 use text::inner::Partial;
@@ -14,7 +14,8 @@ ghost use Rattle.text.specs.Feeding.{come, joined};
 ghost use Rattle.replay.specs.Feeding.{meaning, outRoom, Fed};
 ghost use Rattle.replay.specs.Input.{Reached};
 
-// What is kept from one part to the next: the record, the line, how many bytes of answers wait, and whether there may be more input.
+// What is kept from one part to the next: the record, the line, how many bytes of answers wait, and whether there may
+// be more input.
 pub struct Feed {
     pub index: IndexRecord,
     pub held: Partial,
@@ -27,7 +28,8 @@ pub(crate) fn start(
     log: &mut [u64; entry::LOG_WORDS],
     snapshot: &mut [u64; entry::SNAPSHOT_WORDS],
 ) -> Feed
-    ensures { λ r. ⌜ (raw (r .index) (now (log .exit)) (now (snapshot .exit)) ≡ rawOf (freshLog 0)) × (r .held .len ≡ 0) × (r .held .over ≡ false) × (r .used ≡ 0) ⌝ }
+    ensures { λ r. ⌜ (raw (r .index) (now (log .exit)) (now (snapshot .exit)) ≡ rawOf (freshLog 0))
+        × (r .held .len ≡ 0) × (r .held .over ≡ false) × (r .used ≡ 0) ⌝ }
 {
     let first = state_cache::fresh(0, log, snapshot);
     let index = first.index;
@@ -58,8 +60,10 @@ fn command_of(held: Partial, line: &[u8]) -> Command
 fn finish(st: Feed, line: &[u8], log: &mut [u64], snapshot: &mut [u64], out: &mut [u8]) -> Feed
     requires { ⌜ Fed (st .held .len) (st .used) (length (now line)) (length (now log)) (length (now out)) ⌝ }
     ensures { λ r. ⌜ (r .held .len ≤ length (now (line .entry))) × (r .used ≤ outRoom) ⌝ }
-    ensures { λ r. ⌜ ((ls : Lines) → Reached ls (raw (st .index) (now (log .entry)) (now (snapshot .entry))) (come (st .held .over) (st .held .len) (now (line .entry))) (take (st .used) (now (out .entry)))
-        → Reached (lineEnded ls) (raw (r .index) (now (log .exit)) (now (snapshot .exit))) (come (r .held .over) (r .held .len) (now (line .entry))) (take (r .used) (now (out .exit)))) ⌝ }
+    ensures { λ r. ⌜ ((ls : Lines) → Reached ls (raw (st .index) (now (log .entry)) (now (snapshot .entry)))
+        (come (st .held .over) (st .held .len) (now (line .entry))) (take (st .used) (now (out .entry)))
+        → Reached (lineEnded ls) (raw (r .index) (now (log .exit)) (now (snapshot .exit)))
+        (come (r .held .over) (r .held .len) (now (line .entry))) (take (r .used) (now (out .exit)))) ⌝ }
 {
     let used = st.used;
     let index = st.index;
@@ -83,7 +87,9 @@ fn finish(st: Feed, line: &[u8], log: &mut [u64], snapshot: &mut [u64], out: &mu
 fn keep(part: &[u8], st: Feed, line: &mut [u8]) -> Feed
     requires { ⌜ st .held .len ≤ length (now line) ⌝ }
     ensures { λ r. ⌜ (r .held .len ≤ length (now (line .entry))) × (r .used ≡ st .used) × (r .index ≡ st .index) ⌝ }
-    ensures { λ r. ⌜ come (r .held .over) (r .held .len) (now (line .exit)) ≡ joined (length (now (line .entry))) (come (st .held .over) (st .held .len) (now (line .entry))) (now (part .entry)) ⌝ }
+    ensures { λ r. ⌜ come (r .held .over) (r .held .len) (now (line .exit))
+        ≡ joined (length (now (line .entry))) (come (st .held .over) (st .held .len) (now (line .entry)))
+        (now (part .entry)) ⌝ }
 {
     let held = text::inner::keep(part, st.held, line);
     let mut s = st;
@@ -103,8 +109,11 @@ fn take_line(
 ) -> Feed
     requires { ⌜ Fed (st .held .len) (st .used) (length (now line)) (length (now log)) (length (now out)) ⌝ }
     ensures { λ r. ⌜ (r .held .len ≤ length (now (line .entry))) × (r .used ≤ outRoom) ⌝ }
-    ensures { λ r. ⌜ ((ls : Lines) → Reached ls (raw (st .index) (now (log .entry)) (now (snapshot .entry))) (come (st .held .over) (st .held .len) (now (line .entry))) (take (st .used) (now (out .entry)))
-        → Reached (endedIf ends (restWith (now (bytes .entry)) ls)) (raw (r .index) (now (log .exit)) (now (snapshot .exit))) (come (r .held .over) (r .held .len) (now (line .exit))) (take (r .used) (now (out .exit)))) ⌝ }
+    ensures { λ r. ⌜ ((ls : Lines) → Reached ls (raw (st .index) (now (log .entry)) (now (snapshot .entry)))
+        (come (st .held .over) (st .held .len) (now (line .entry))) (take (st .used) (now (out .entry)))
+        → Reached (endedIf ends (restWith (now (bytes .entry)) ls))
+        (raw (r .index) (now (log .exit)) (now (snapshot .exit)))
+        (come (r .held .over) (r .held .len) (now (line .exit))) (take (r .used) (now (out .exit)))) ⌝ }
 {
     let s = keep(bytes, st, line);
     if ends {
@@ -124,8 +133,10 @@ pub(crate) fn take_part(
 ) -> Feed
     requires { ⌜ Fed (st .held .len) (st .used) (length (now line)) (length (now log)) (length (now out)) ⌝ }
     ensures { λ r. ⌜ (r .held .len ≤ length (now (line .entry))) × (r .used ≤ outRoom) ⌝ }
-    ensures { λ r. ⌜ ((ls : Lines) → Reached ls (raw (st .index) (now (log .entry)) (now (snapshot .entry))) (come (st .held .over) (st .held .len) (now (line .entry))) (take (st .used) (now (out .entry)))
-        → Reached (linesFrom ls (now (part .entry))) (raw (r .index) (now (log .exit)) (now (snapshot .exit))) (come (r .held .over) (r .held .len) (now (line .exit))) (take (r .used) (now (out .exit)))) ⌝ }
+    ensures { λ r. ⌜ ((ls : Lines) → Reached ls (raw (st .index) (now (log .entry)) (now (snapshot .entry)))
+        (come (st .held .over) (st .held .len) (now (line .entry))) (take (st .used) (now (out .entry)))
+        → Reached (linesFrom ls (now (part .entry))) (raw (r .index) (now (log .exit)) (now (snapshot .exit)))
+        (come (r .held .over) (r .held .len) (now (line .exit))) (take (r .used) (now (out .exit)))) ⌝ }
 {
     let mut s = st;
     let mut at = 0;
@@ -147,8 +158,10 @@ pub(crate) fn end(
 ) -> Feed
     requires { ⌜ Fed (st .held .len) (st .used) (length (now line)) (length (now log)) (length (now out)) ⌝ }
     ensures { λ r. ⌜ r .used ≤ outRoom ⌝ }
-    ensures { λ r. ⌜ ((ls : Lines) → Reached ls (raw (st .index) (now (log .entry)) (now (snapshot .entry))) (come (st .held .over) (st .held .len) (now (line .entry))) (take (st .used) (now (out .entry)))
-        → Reached (lastEnded ls) (raw (r .index) (now (log .exit)) (now (snapshot .exit))) (come (r .held .over) (r .held .len) (now (line .entry))) (take (r .used) (now (out .exit)))) ⌝ }
+    ensures { λ r. ⌜ ((ls : Lines) → Reached ls (raw (st .index) (now (log .entry)) (now (snapshot .entry)))
+        (come (st .held .over) (st .held .len) (now (line .entry))) (take (st .used) (now (out .entry)))
+        → Reached (lastEnded ls) (raw (r .index) (now (log .exit)) (now (snapshot .exit)))
+        (come (r .held .over) (r .held .len) (now (line .entry))) (take (r .used) (now (out .exit)))) ⌝ }
 {
     let held = st.held;
     if held.over | (held.len > 0) {

@@ -25,7 +25,8 @@ const OUT_ROOM: usize = 2 * ANSWER_ROOM;
 // Where more of them wait than this, one more answer might not fit.
 const LAST_START: usize = OUT_ROOM - ANSWER_ROOM;
 
-// Writes the answers that wait, so that none is kept back while more input is awaited; then reads once, and does what came.
+// Writes the answers that wait, so that none is kept back while more input is awaited; then reads once, and does what
+// came.
 fn take_turn(
     st: Feed,
     line: &mut [u8; text::INPUT_LINE],
@@ -35,8 +36,10 @@ fn take_turn(
 ) -> Feed
     requires { ⌜ (st .held .len ≤ inputLine) × (st .used ≤ outRoom) ⌝ }
     ensures { λ r. ⌜ (r .held .len ≤ inputLine) × (r .used ≤ outRoom) ⌝ }
-    ensures { λ r. ⌜ ((ls : Lines) → Reached ls (raw (st .index) (now (log .entry)) (now (snapshot .entry))) (come (st .held .over) (st .held .len) (now (line .entry))) (take (st .used) (now (out .entry)))
-        → ((part : List ℕ) × Reached (linesFrom ls part) (raw (r .index) (now (log .exit)) (now (snapshot .exit))) (come (r .held .over) (r .held .len) (now (line .exit))) (take (r .used) (now (out .exit))))) ⌝ }
+    ensures { λ r. ⌜ ((ls : Lines) → Reached ls (raw (st .index) (now (log .entry)) (now (snapshot .entry)))
+        (come (st .held .over) (st .held .len) (now (line .entry))) (take (st .used) (now (out .entry)))
+        → ((part : List ℕ) × Reached (linesFrom ls part) (raw (r .index) (now (log .exit)) (now (snapshot .exit)))
+        (come (r .held .over) (r .held .len) (now (line .exit))) (take (r .used) (now (out .exit))))) ⌝ }
 {
     let used = st.used;
     let view: &[u8] = out;
@@ -53,7 +56,8 @@ fn take_turn(
     feed::take_part(&chunk[..n], s, line, log, snapshot, out)
 }
 
-// The end of the input, and the answers that wait. What has come by then is some input's lines, answered from the start.
+// The end of the input, and the answers that wait. What has come by then is some input's lines, answered from the
+// start.
 fn last(
     st: Feed,
     line: &[u8; text::INPUT_LINE],
@@ -62,7 +66,8 @@ fn last(
     out: &mut [u8; OUT_ROOM],
 )
     requires { ⌜ (st .held .len ≤ inputLine) × (st .used ≤ outRoom) ⌝ }
-    requires { ⌜ ((input : List ℕ) × Reached (linesOf input) (raw (st .index) (now log) (now snapshot)) (come (st .held .over) (st .held .len) (now line)) (take (st .used) (now out))) ⌝ }
+    requires { ⌜ ((input : List ℕ) × Reached (linesOf input) (raw (st .index) (now log) (now snapshot))
+        (come (st .held .over) (st .held .len) (now line)) (take (st .used) (now out))) ⌝ }
 {
     let s = feed::end(st, line, log, snapshot, out);
     let used = s.used;

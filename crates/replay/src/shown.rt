@@ -1,4 +1,5 @@
-// The lines of what a read shows. Each function puts bytes into out from index `at` on, and answers the index after them.
+// The lines of what a read shows. Each function puts bytes into out from index `at` on, and answers the index after
+// them.
 use super::answer::Reply;
 use reading::Marker;
 use reading::ReadReply;
@@ -23,7 +24,8 @@ ghost use Rattle.replay.specs.Feeding.{answerRoom};
 fn put_marker(out: &mut [u8], at: usize, marker: Marker) -> usize
     requires { ⌜ at + outputLine ≤ length (now out) ⌝ }
     ensures { λ r. ⌜ r ≤ at + outputLine ⌝ }
-    ensures { λ r. ⌜ ((snapshot : List ℕ) → take r (now (out .exit)) ≡ take at (now (out .entry)) ++ markerText (markerSaid snapshot marker)) ⌝ }
+    ensures { λ r. ⌜ ((snapshot : List ℕ) → take r (now (out .exit)) ≡ take at (now (out .entry)) ++ markerText
+        (markerSaid snapshot marker)) ⌝ }
 {
     match marker {
         Marker::None => at,
@@ -38,7 +40,9 @@ fn put_marker(out: &mut [u8], at: usize, marker: Marker) -> usize
 fn put_stop(out: &mut [u8], at: usize, run: ShownRun, index: IndexRecord) -> usize
     requires { ⌜ at + outputLine ≤ length (now out) ⌝ }
     ensures { λ r. ⌜ r ≤ at + outputLine ⌝ }
-    ensures { λ r. ⌜ take r (now (out .exit)) ≡ take at (now (out .entry)) ++ stopText (if run .stop then some (index .stop) else none) (run .«stop_decided») ⌝ }
+    ensures { λ r. ⌜ take r (now (out .exit))
+        ≡ take at (now (out .entry)) ++ stopText (if run .stop then some (index .stop) else none)
+        (run .«stop_decided») ⌝ }
 {
     let stop = index.stop;
     if run.stop {
@@ -101,7 +105,8 @@ pub(crate) fn put_reply(
 ) -> usize
     requires { ⌜ (at + answerRoom ≤ length (now out)) × (length (now log) ≡ logWords) ⌝ }
     ensures { λ r. ⌜ r ≤ at + answerRoom ⌝ }
-    ensures { λ r. ⌜ ((snapshot : List ℕ) → take r (now (out .exit)) ≡ take at (now (out .entry)) ++ replyText (raw index (now (log .entry)) snapshot) reply) ⌝ }
+    ensures { λ r. ⌜ ((snapshot : List ℕ) → take r (now (out .exit)) ≡ take at (now (out .entry)) ++ replyText
+        (raw index (now (log .entry)) snapshot) reply) ⌝ }
 {
     match reply {
         Reply::Line(line) => text::inner::put_line(out, at, line),

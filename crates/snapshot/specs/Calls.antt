@@ -1,5 +1,5 @@
--- The calls of module 2 on lent words. "Fold, merge: 11, 8. Find: 11." "No refusal changes anything lent"; "a writtenBy snapshot fills
--- its whole slice".
+-- The calls of module 2 on lent words. "Fold, merge: 11, 8. Find: 11." "No refusal changes anything lent"; "a written
+-- snapshot fills its whole slice".
 use Prim.Native.Nat.{ℕ}
 use mathlib.Core.Bool.{Bool, _&&_, not}
 use mathlib.Core.List.{List, [], _∷_}
@@ -8,7 +8,8 @@ use lib.Dec.{ltb, eqb}
 use lib.ListN.{length}
 use Rattle.entry.specs.Limits.{keyRoom, snapshotWords}
 use Rattle.entry.specs.Change.{Change, entriesOf, entriesIn, sliceFormed, stored, storedIn}
-use Rattle.entry.specs.Guards.{Guard, guard, Verdict, passes, refuses, first, Answer, refused, replied, refusedBy, settle}
+use Rattle.entry.specs.Guards.{Guard, guard, Verdict, passes, refuses, first, Answer, refused, replied, refusedBy}
+use Rattle.entry.specs.Guards.{settle}
 use Rattle.snapshot.specs.Folds.{fold, merge, rising, find, placeOf}
 use Rattle.snapshot.specs.declared.Folded.{Folded}
 use Rattle.snapshot.specs.declared.Folded.the-variants.{Keys, Refused}
@@ -27,8 +28,8 @@ pub record Outcome : Type 0 where
 abbrev pub outcome : Answer ℕ → List ℕ → Outcome
 outcome a out = record { answer = a; output = out }
 
--- what a call that replies a snapshot comes to on a lent output slice: "a written snapshot fills its whole slice", and no refusal
--- changes it
+-- what a call that replies a snapshot comes to on a lent output slice: "a written snapshot fills its whole slice",
+-- and no refusal changes it
 abbrev pub writtenOut : Answer (List Change) → List ℕ → Outcome
 writtenOut (replied s) out = outcome (replied (length s)) (stored snapshotWords s)
 writtenOut (refused n k) out = outcome (refused n k) out
@@ -48,7 +49,8 @@ foldCall entries out =
 unfoldable pub mergeCall : List ℕ → ℕ → List ℕ → ℕ → List ℕ → Outcome
 mergeCall a n b m out =
     let s : List Change = merge (entriesOf n a) (entriesOf m b) in
-    writtenBy (first (guard 11 0 (not (snapshotFormed n a && (snapshotFormed m b && eqb (length out) snapshotWords))) ∷ foldGuards s)) s out
+    let fine : Bool = snapshotFormed n a && (snapshotFormed m b && eqb (length out) snapshotWords) in
+    writtenBy (first (guard 11 0 (not fine) ∷ foldGuards s)) s out
 
 unfoldable pub findCall : List ℕ → ℕ → ℕ → Answer (Option ℕ)
 findCall ws n k = settle (first (guard 11 0 (not (snapshotFormed n ws)) ∷ [])) (placeOf (find k (entriesOf n ws)))

@@ -1,5 +1,5 @@
-// What the crates above need of snapshots: not for a user, whose calls are in lib.rt. What a function needs of its arguments it
-// requires: its callers have tested it.
+// What the crates above need of snapshots: not for a user, whose calls are in lib.rt. What a function needs of its
+// arguments it requires: its callers have tested it.
 use super::Folded;
 use super::Found;
 use entry::Refusal;
@@ -126,10 +126,12 @@ fn put(s: &mut [u64], n: usize, item: &[u64]) -> Folded
     }
 }
 
-// Puts the first n entries onto the `kept` ones of s, the first first. Where they do not all fit the words are of no use.
+// Puts the first n entries onto the `kept` ones of s, the first first. Where they do not all fit the words are of no
+// use.
 pub fn fold_onto(s: &mut [u64], kept: usize, entries: &[u64], n: usize) -> Folded
     requires { ⌜ Holds (length (now s)) kept (now s) × Shows n (now entries) ⌝ }
-    ensures { λ r. ⌜ FoldIs (length (now (s .entry))) (foldOnto (entriesOf kept (now (s .entry))) (entriesOf n (now (entries .entry)))) r (now (s .exit)) ⌝ }
+    ensures { λ r. ⌜ FoldIs (length (now (s .entry)))
+        (foldOnto (entriesOf kept (now (s .entry))) (entriesOf n (now (entries .entry)))) r (now (s .exit)) ⌝ }
 {
     let mut keys = kept;
     let mut i = 0;
@@ -145,8 +147,8 @@ pub fn fold_onto(s: &mut [u64], kept: usize, entries: &[u64], n: usize) -> Folde
     Folded::Keys(keys)
 }
 
-// Folds the first n entries onto the snapshot in scratch and writes the result over the whole of out. The fold is made aside, so
-// that one with too many keys writes nothing there.
+// Folds the first n entries onto the snapshot in scratch and writes the result over the whole of out. The fold is
+// made aside, so that one with too many keys writes nothing there.
 pub fn fold_out(
     scratch: &mut [u64],
     kept: usize,
@@ -155,7 +157,8 @@ pub fn fold_out(
     out: &mut [u64],
 ) -> Folded
     requires { ⌜ Aside kept (now scratch) n (now entries) (now out) ⌝ }
-    ensures { λ r. ⌜ outcome (folded r) (now (out .exit)) ≡ foldedOut kept (now (scratch .entry)) n (now (entries .entry)) (now (out .entry)) ⌝ }
+    ensures { λ r. ⌜ outcome (folded r) (now (out .exit))
+        ≡ foldedOut kept (now (scratch .entry)) n (now (entries .entry)) (now (out .entry)) ⌝ }
 {
     let r = fold_onto(scratch, kept, entries, n);
     let Folded::Keys(keys) = r else {
@@ -168,15 +171,16 @@ pub fn fold_out(
 // The same onto a snapshot that stays as it is.
 pub fn fold_aside(base: &[u64], kept: usize, entries: &[u64], n: usize, out: &mut [u64]) -> Folded
     requires { ⌜ Aside kept (now base) n (now entries) (now out) ⌝ }
-    ensures { λ r. ⌜ outcome (folded r) (now (out .exit)) ≡ foldedOut kept (now (base .entry)) n (now (entries .entry)) (now (out .entry)) ⌝ }
+    ensures { λ r. ⌜ outcome (folded r) (now (out .exit))
+        ≡ foldedOut kept (now (base .entry)) n (now (entries .entry)) (now (out .entry)) ⌝ }
 {
     let mut scratch = [0u64; entry::SNAPSHOT_WORDS];
     words::copy_words(base, &mut scratch);
     fold_out(&mut scratch, kept, entries, n, out)
 }
 
-// Folds the first n entries, and then m more, onto a snapshot in its place. The fold is made aside, so that one with too many keys
-// writes nothing; where the first part has too many so has the whole, since keys are only added.
+// Folds the first n entries, and then m more, onto a snapshot in its place. The fold is made aside, so that one with
+// too many keys writes nothing; where the first part has too many so has the whole, since keys are only added.
 pub fn fold_over(
     snapshot: &mut [u64],
     kept: usize,

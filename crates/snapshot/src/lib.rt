@@ -1,5 +1,5 @@
-// Snapshots: module 2 of document 01. A snapshot is a lent slice of SNAPSHOT_WORDS words and a number of keys: so many entries,
-// ascending by key, and zeros after them.
+// Snapshots: module 2 of document 01. A snapshot is a lent slice of SNAPSHOT_WORDS words and a number of keys: so
+// many entries, ascending by key, and zeros after them.
 use entry::BlockPlace;
 use entry::Refusal;
 ghost use mathlib.Core.Path.{_≡_};
@@ -45,7 +45,8 @@ pub fn fold(entries: &[u64], out: &mut [u64]) -> Folded
 
 // Merges two snapshots: the second's word wins.
 pub fn merge(a: &[u64], n: usize, b: &[u64], m: usize, out: &mut [u64]) -> Folded
-    ensures { λ r. ⌜ outcome (folded r) (now (out .exit)) ≡ mergeCall (now (a .entry)) n (now (b .entry)) m (now (out .entry)) ⌝ }
+    ensures { λ r. ⌜ outcome (folded r) (now (out .exit))
+        ≡ mergeCall (now (a .entry)) n (now (b .entry)) m (now (out .entry)) ⌝ }
 {
     let first = snapshot_formed(a, n);
     let second = snapshot_formed(b, m);

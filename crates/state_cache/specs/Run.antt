@@ -1,4 +1,5 @@
--- What a call comes to: of any state and any request, its answer and the state after it. Every exported call is an equation with `run`.
+-- What a call comes to: of any state and any request, its answer and the state after it. Every exported call is an
+-- equation with `run`.
 use Prim.Native.Nat.{ℕ}
 use mathlib.Core.Bool.{Bool, _&&_, not}
 use mathlib.Core.List.{List, _∷_}
@@ -25,13 +26,14 @@ pub record Outcome (A : Type 0) : Type 0 where
 abbrev pub outcome : {A : Type 0} → Answer A → Raw → Outcome A
 outcome a r = record { answer = a; after = r }
 
--- "No refusal changes anything lent": the verdict chooses, and where it refuses the state after is the state before, to the word
+-- "No refusal changes anything lent": the verdict chooses, and where it refuses the state after is the state before,
+-- to the word
 abbrev pub chosen : {A : Type 0} → Verdict → A → Raw → Raw → Outcome A
 chosen passes y next r = outcome (replied y) next
 chosen (refuses n k) y next r = outcome (refused n k) r
 
--- 12 of the state as it is lent; 11 where the lent words are not whole entries, or a slice beside them has another length than it
--- should (`whole` is then false); then the model's refusals
+-- 12 of the state as it is lent; 11 where the lent words are not whole entries, or a slice beside them has another
+-- length than it should (`whole` is then false); then the model's refusals
 unfoldable pub verdictOn : Call → Bool → Raw → Verdict
 verdictOn c whole r = first (guard 12 0 (not (formed r)) ∷ guard 11 0 (not whole) ∷ guards c (logOf r))
 
@@ -55,8 +57,8 @@ abbrev pub flag : Flag → Answer Bool
 flag (Is b) = replied b
 flag (FlagRefused r) = refusedBy r
 
--- a fresh log: 11 for a batch size above 64 or a slice of wrong length; there is no record yet, and the one beside a refusal is that
--- of a log with batch size 0
+-- a fresh log: 11 for a batch size above 64 or a slice of wrong length; there is no record yet, and the one beside a
+-- refusal is that of a log with batch size 0
 unfoldable pub freshCall : ℕ → List ℕ → List ℕ → Outcome (Unit {0})
 freshCall n log snapshot =
     if leb n largestBatch && (eqb (length log) logWords && eqb (length snapshot) snapshotWords)

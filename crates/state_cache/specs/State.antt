@@ -1,4 +1,5 @@
--- The state as a caller lends it: when it is well formed, the log that it stands for, and the state that stands for a log.
+-- The state as a caller lends it: when it is well formed, the log that it stands for, and the state that stands for a
+-- log.
 use Prim.Native.Nat.{ℕ, _+_, _*_}
 use mathlib.Core.Bool.{Bool, _&&_, _||_, not}
 use mathlib.Core.List.{List, _++_}

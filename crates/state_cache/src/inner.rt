@@ -1,5 +1,5 @@
-// The numbers of an index record, for the crates above: not for a user, whose calls are in lib.rt. What a function needs of the
-// record it requires: its callers have tested it.
+// The numbers of an index record, for the crates above: not for a user, whose calls are in lib.rt. What a function
+// needs of the record it requires: its callers have tested it.
 use super::IndexAnswer;
 use super::IndexAnswerAt;
 use super::IndexRecord;
@@ -167,7 +167,8 @@ pub fn fresh_index(batch_size: u64) -> IndexRecord
 // Drops the batch of a well-formed log.
 pub fn reload(index: IndexRecord, log: &mut [u64], snapshot: &[u64]) -> IndexAnswerAt
     requires { ⌜ Ready (raw index (now log) (now snapshot)) ⌝ }
-    ensures { λ r. ⌜ outcome (indexSaid (r .answer)) (raw (r .index) (now (log .exit)) (now (snapshot .entry))) ≡ run reload true (raw index (now (log .entry)) (now (snapshot .entry))) ⌝ }
+    ensures { λ r. ⌜ outcome (indexSaid (r .answer)) (raw (r .index) (now (log .exit)) (now (snapshot .entry)))
+        ≡ run reload true (raw index (now (log .entry)) (now (snapshot .entry))) ⌝ }
 {
     let used = (index.retained + index.batched) * entry::WIDTH;
     words::cut_out(

@@ -1,5 +1,5 @@
-// The index record: a log's numbers by value, beside its lent words. When the two are well formed; a fresh log, and a log reloaded; and
-// what a user asks for that no field of the record says.
+// The index record: a log's numbers by value, beside its lent words. When the two are well formed; a fresh log, and a
+// log reloaded; and what a user asks for that no field of the record says.
 use entry::Ballot;
 use entry::LogIndex;
 use entry::Refusal;
@@ -70,9 +70,11 @@ pub fn well_formed(index: IndexRecord, log: &[u64], snapshot: &[u64]) -> bool
     numbers & (stop & (entries & keys))
 }
 
-// A fresh log: zeros over both slices, and the record of a log with that batch size. Where it is refused the record is that of size 0.
+// A fresh log: zeros over both slices, and the record of a log with that batch size. Where it is refused the record
+// is that of size 0.
 pub fn fresh(batch_size: u64, log: &mut [u64], snapshot: &mut [u64]) -> SettledAt
-    ensures { λ r. ⌜ outcome (settled (r .answer)) (raw (r .index) (now (log .exit)) (now (snapshot .exit))) ≡ freshCall «batch_size» (now (log .entry)) (now (snapshot .entry)) ⌝ }
+    ensures { λ r. ⌜ outcome (settled (r .answer)) (raw (r .index) (now (log .exit)) (now (snapshot .exit)))
+        ≡ freshCall «batch_size» (now (log .entry)) (now (snapshot .entry)) ⌝ }
 {
     let words = log.len();
     let snapshot_words = snapshot.len();
@@ -94,7 +96,8 @@ pub fn fresh(batch_size: u64, log: &mut [u64], snapshot: &mut [u64]) -> SettledA
 
 // Reloads a log: the batch is dropped and its words become zero, and the rest stays. Replies the accepted index.
 pub fn load_cache(index: IndexRecord, log: &mut [u64], snapshot: &[u64]) -> IndexAnswerAt
-    ensures { λ r. ⌜ outcome (indexSaid (r .answer)) (raw (r .index) (now (log .exit)) (now (snapshot .entry))) ≡ run reload true (raw index (now (log .entry)) (now (snapshot .entry))) ⌝ }
+    ensures { λ r. ⌜ outcome (indexSaid (r .answer)) (raw (r .index) (now (log .exit)) (now (snapshot .entry)))
+        ≡ run reload true (raw index (now (log .entry)) (now (snapshot .entry))) ⌝ }
 {
     if !well_formed(index, log, snapshot) {
         return IndexAnswerAt {

@@ -1,5 +1,5 @@
--- What the inner functions say: the snapshot held after a sync, the record after it, its marks, its run and its stop-sign; and the
--- log's words after it.
+-- What the inner functions say: the snapshot held after a sync, the record after it, its marks, its run and its
+-- stop-sign; and the log's words after it.
 use Prim.Native.Nat.{ℕ, _+_, _-_, _*_, _≤_}
 use mathlib.Core.Path.{_≡_}
 use mathlib.Core.Bool.{Bool, true, false, _||_, not}
@@ -53,7 +53,8 @@ abbrev pub syncedIndex : LogSync → ℕ → ℕ → IndexRecord → IndexRecord
 syncedIndex x n keys y =
     let plain : Bool = plainBy (x .«decided_snapshot») in
     withStop (x .«stop_held») (signIf (x .«stop_held») (x .stopsign))
-    (withRun (if plain then y .compacted else x .«sync_idx») (keptBy x n y + n) (y .«snapshot_held» || not plain) keys y)
+    (withRun (if plain then y .compacted else x .«sync_idx») (keptBy x n y + n) (y .«snapshot_held» || not plain) keys
+    y)
 
 -- what a suffix of n entries needs to be put into the log, and what that comes to
 pub record Fits (x : LogSync) (n : ℕ) (y : IndexRecord) (log suffix : List ℕ) : Type 0 where

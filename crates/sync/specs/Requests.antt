@@ -41,9 +41,15 @@ partOf held x incoming suffix = if held then some (partBy x incoming suffix) els
 
 -- what the refusals that look at numbers see of it, with n entries in the suffix
 abbrev pub numbersBy : LogSync → ℕ → PartNumbers
-numbersBy x n = record { idx = x .«sync_idx» .0; plain = plainBy (x .«decided_snapshot»); count = n; stop = x .«stop_held» }
+numbersBy x n = record {
+  idx = x .«sync_idx» .0;
+  plain = plainBy (x .«decided_snapshot»);
+  count = n;
+  stop = x .«stop_held»;
+}
 
--- "any snapshot slice not of 1,024 words", "an entry slice of odd length", lent or not; and a lent snapshot in form, unused words too
+-- "any snapshot slice not of 1,024 words", "an entry slice of odd length", lent or not; and a lent snapshot in form,
+-- unused words too
 unfoldable pub lentWhole : Bool → LogSync → List ℕ → List ℕ → Bool
 lentWhole held x incoming suffix =
     eqb (length incoming) snapshotWords

@@ -40,7 +40,8 @@ fn is_plain(kind: SnapshotType) -> bool
     }
 }
 
-// Whether all that is lent is in form. A log part, a snapshot or a stop-sign that is not lent is not judged; the slices' lengths are.
+// Whether all that is lent is in form. A log part, a snapshot or a stop-sign that is not lent is not judged; the
+// slices' lengths are.
 pub fn request_formed(held: bool, log_sync: LogSync, incoming: &[u64], suffix: &[u64]) -> bool
     ensures { λ r. ⌜ r ≡ requestFormed held «log_sync» (now (incoming .entry)) (now (suffix .entry)) ⌝ }
 {
@@ -66,7 +67,8 @@ fn kept_of(plain: bool, idx: u64, low: u64) -> u64
 // Refusals 4, 5, 7, 10, 9, 1, 6 and 2, of a log part with n entries.
 fn check_sync(index: IndexRecord, decided_idx: LogIndex, log_sync: LogSync, n: usize) -> Check
     requires { ⌜ Sound (numbersIn index) ⌝ }
-    ensures { λ r. ⌜ verdictOf r ≡ first (partNumberGuards («decided_idx» .0) (numbersBy «log_sync» n) (numbersIn index)) ⌝ }
+    ensures { λ r. ⌜ verdictOf r
+        ≡ first (partNumberGuards («decided_idx» .0) (numbersBy «log_sync» n) (numbersIn index)) ⌝ }
 {
     let decided = index.decided;
     let low = index.compacted.0;
@@ -122,7 +124,9 @@ fn mark(index: IndexRecord, accepted_round: Ballot, decided_idx: LogIndex) -> In
 // A sync without log part: refusal 6, or the marks alone. No word moves.
 pub fn round_at(index: IndexRecord, accepted_round: Ballot, decided_idx: LogIndex) -> IndexAnswerAt
     requires { ⌜ Sound (numbersIn index) ⌝ }
-    ensures { λ r. ⌜ indexed (indexSaid (r .answer)) (r .index) ≡ byNumbers (first (roundGuards («decided_idx» .0) (numbersIn index))) (acceptedOf (numbersIn index)) (marked «accepted_round» («decided_idx» .0) index) index ⌝ }
+    ensures { λ r. ⌜ indexed (indexSaid (r .answer)) (r .index)
+        ≡ byNumbers (first (roundGuards («decided_idx» .0) (numbersIn index))) (acceptedOf (numbersIn index))
+        (marked «accepted_round» («decided_idx» .0) index) index ⌝ }
 {
     let last = state_cache::inner::accepted(index);
     let next = mark(index, accepted_round, decided_idx);
@@ -138,7 +142,8 @@ pub fn round_at(index: IndexRecord, accepted_round: Ballot, decided_idx: LogInde
     }
 }
 
-// Puts the snapshot that is then held in the place of the one held before. A delta goes onto all that was decided before the call.
+// Puts the snapshot that is then held in the place of the one held before. A delta goes onto all that was decided
+// before the call.
 fn hold(
     index: IndexRecord,
     log: &[u64],
@@ -147,7 +152,8 @@ fn hold(
     incoming: &[u64],
     keys: usize,
 ) -> Folded
-    requires { ⌜ Ready (raw index (now log) (now snapshot)) × (plainBy kind ≡ false → Holds snapshotWords keys (now incoming)) ⌝ }
+    requires { ⌜ Ready (raw index (now log) (now snapshot))
+        × (plainBy kind ≡ false → Holds snapshotWords keys (now incoming)) ⌝ }
     ensures { λ r. ⌜ snapshotOutcome (folded r) (now (snapshot .exit))
         ≡ foldWritten
         (snapshotThen kind
@@ -180,8 +186,8 @@ fn start_of(plain: bool, low: LogIndex, idx: LogIndex) -> LogIndex
     idx
 }
 
-// Puts the suffix in the place of the retained entries from the sync's index on, of a snapshot in the place of all. The batch stays
-// behind it.
+// Puts the suffix in the place of the retained entries from the sync's index on, of a snapshot in the place of all.
+// The batch stays behind it.
 fn take_suffix(
     index: IndexRecord,
     log: &mut [u64],
@@ -229,7 +235,11 @@ pub fn sync_at(
     suffix: &[u64],
 ) -> IndexAnswerAt
     requires { ⌜ Syncs (raw index (now log) (now snapshot)) «log_sync» (now incoming) (now suffix) ⌝ }
-    ensures { λ r. ⌜ outcome (indexSaid (r .answer)) (raw (r .index) (now (log .exit)) (now (snapshot .exit))) ≡ run (syncCall «accepted_round» («decided_idx» .0) (some (partBy «log_sync» (now (incoming .entry)) (now (suffix .entry))))) true (raw index (now (log .entry)) (now (snapshot .entry))) ⌝ }
+    ensures { λ r. ⌜ outcome (indexSaid (r .answer)) (raw (r .index) (now (log .exit)) (now (snapshot .exit)))
+        ≡ run
+        (syncCall «accepted_round» («decided_idx» .0)
+        (some (partBy «log_sync» (now (incoming .entry)) (now (suffix .entry))))) true
+        (raw index (now (log .entry)) (now (snapshot .entry))) ⌝ }
 {
     let n = suffix.len() / entry::WIDTH;
     let check = check_sync(index, decided_idx, log_sync, n);

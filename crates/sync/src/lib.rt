@@ -14,8 +14,8 @@ ghost use Rattle.sync.specs.Requests.{partOf, lentWhole};
 
 pub mod inner;
 
-// What a sync brings for the entries below its index, the Rust's `Option<SnapshotType>`: nothing, all of them, or those from our
-// log-decided index on.
+// What a sync brings for the entries below its index, the Rust's `Option<SnapshotType>`: nothing, all of them, or
+// those from our log-decided index on.
 pub enum SnapshotType {
     Plain,
     Complete,
@@ -31,8 +31,8 @@ pub struct LogSync {
     pub stopsign: StopSign,
 }
 
-// Takes over a leader's round and decided index, and its log where `held` says that there is a log part: without one the slices'
-// lengths are looked at and nothing more. All of it stands or nothing changes.
+// Takes over a leader's round and decided index, and its log where `held` says that there is a log part: without one
+// the slices' lengths are looked at and nothing more. All of it stands or nothing changes.
 pub fn sync_log(
     index: IndexRecord,
     log: &mut [u64],
@@ -44,7 +44,12 @@ pub fn sync_log(
     incoming: &[u64],
     suffix: &[u64],
 ) -> IndexAnswerAt
-    ensures { λ r. ⌜ outcome (indexSaid (r .answer)) (raw (r .index) (now (log .exit)) (now (snapshot .exit))) ≡ run (syncCall «accepted_round» («decided_idx» .0) (partOf held «log_sync» (now (incoming .entry)) (now (suffix .entry)))) (lentWhole held «log_sync» (now (incoming .entry)) (now (suffix .entry))) (raw index (now (log .entry)) (now (snapshot .entry))) ⌝ }
+    ensures { λ r. ⌜ outcome (indexSaid (r .answer)) (raw (r .index) (now (log .exit)) (now (snapshot .exit)))
+        ≡ run
+        (syncCall «accepted_round» («decided_idx» .0)
+        (partOf held «log_sync» (now (incoming .entry)) (now (suffix .entry))))
+        (lentWhole held «log_sync» (now (incoming .entry)) (now (suffix .entry)))
+        (raw index (now (log .entry)) (now (snapshot .entry))) ⌝ }
 {
     if !state_cache::well_formed(index, log, snapshot) {
         return IndexAnswerAt {

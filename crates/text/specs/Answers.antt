@@ -9,7 +9,8 @@ use Rattle.entry.specs.Change.{Said, place, removed, Change}
 use Rattle.text.specs.Bytes.{bytes}
 use Rattle.text.specs.Rooms.{mostDigits}
 use Rattle.text.specs.declared.Line.{Line}
-use Rattle.text.specs.declared.Line.the-variants.{Done, Held, Nothing, BadLine, Accepted, Refused, Run, Trimmed, Snapshot, Stop}
+use Rattle.text.specs.declared.Line.the-variants.{Done, Held, Nothing, BadLine, Accepted, Refused, Run, Trimmed}
+use Rattle.text.specs.declared.Line.the-variants.{Snapshot, Stop}
 
 -- how many digits n has, counted up to one more than fuel
 abbrev pub digitsUpTo : ℕ → ℕ → ℕ

@@ -1,4 +1,5 @@
--- What a line means: "Commands are the nine shown, with `snap` taking an index or `all`. .. Other lines print `bad line`."
+-- What a line means: "Commands are the nine shown, with `snap` taking an index or `all`. .. Other lines print `bad
+-- line`."
 use Prim.Native.Nat.{ℕ, _^_}
 use Prim.Native.String.{String}
 use mathlib.Core.Bool.{Bool, true, false, _&&_}

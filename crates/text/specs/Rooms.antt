@@ -11,7 +11,7 @@ mostDigits = 20
 abbrev pub inputLine : ℕ
 inputLine = length (bytes "read") + 2 * (1 + mostDigits)
 
--- the longest line of output is an undecided entry's: two numbers, with a space after the first and a line feed after the
--- second
+-- the longest line of output is an undecided entry's: two numbers, with a space after the first and a line feed after
+-- the second
 abbrev pub outputLine : ℕ
 outputLine = length (bytes "undecided ") + 2 * (mostDigits + 1)

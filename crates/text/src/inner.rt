@@ -1,5 +1,5 @@
-// What the program needs to take lines apart and to gather its answers: not for a user. Each function that puts bytes puts them into
-// out from index `at` on, for which it asks room, and answers the index after them.
+// What the program needs to take lines apart and to gather its answers: not for a user. Each function that puts bytes
+// puts them into out from index `at` on, for which it asks room, and answers the index after them.
 use super::Line;
 use super::Parsed;
 use entry::Said;
@@ -94,7 +94,8 @@ pub fn put_number(out: &mut [u8], at: usize, n: u64) -> usize
 fn put_one(out: &mut [u8], at: usize, label: &[u8], n: u64, tail: &[u8]) -> usize
     requires { ⌜ at + length (now label) + mostDigits + length (now tail) ≤ length (now out) ⌝ }
     ensures { λ r. ⌜ r ≤ at + length (now (label .entry)) + mostDigits + length (now (tail .entry)) ⌝ }
-    ensures { λ r. ⌜ take r (now (out .exit)) ≡ take at (now (out .entry)) ++ (now (label .entry) ++ decimalOf n ++ now (tail .entry)) ⌝ }
+    ensures { λ r. ⌜ take r (now (out .exit))
+        ≡ take at (now (out .entry)) ++ (now (label .entry) ++ decimalOf n ++ now (tail .entry)) ⌝ }
 {
     let a = put(out, at, label);
     let b = put_number(out, a, n);
@@ -105,7 +106,8 @@ fn put_one(out: &mut [u8], at: usize, label: &[u8], n: u64, tail: &[u8]) -> usiz
 fn put_count(out: &mut [u8], at: usize, label: &[u8], n: u64) -> usize
     requires { ⌜ at + length (now label) + (mostDigits + 1) ≤ length (now out) ⌝ }
     ensures { λ r. ⌜ r ≤ at + length (now (label .entry)) + (mostDigits + 1) ⌝ }
-    ensures { λ r. ⌜ take r (now (out .exit)) ≡ take at (now (out .entry)) ++ (now (label .entry) ++ decimalOf n ++ bytes "\n") ⌝ }
+    ensures { λ r. ⌜ take r (now (out .exit))
+        ≡ take at (now (out .entry)) ++ (now (label .entry) ++ decimalOf n ++ bytes "\n") ⌝ }
 {
     put_one(out, at, label, n, b"\n")
 }
@@ -114,7 +116,9 @@ fn put_count(out: &mut [u8], at: usize, label: &[u8], n: u64) -> usize
 fn put_two(out: &mut [u8], at: usize, label: &[u8], m: u64, n: u64) -> usize
     requires { ⌜ at + length (now label) + 2 * (mostDigits + 1) ≤ length (now out) ⌝ }
     ensures { λ r. ⌜ r ≤ at + length (now (label .entry)) + 2 * (mostDigits + 1) ⌝ }
-    ensures { λ r. ⌜ take r (now (out .exit)) ≡ take at (now (out .entry)) ++ (now (label .entry) ++ decimalOf m ++ bytes " " ++ decimalOf n ++ bytes "\n") ⌝ }
+    ensures { λ r. ⌜ take r (now (out .exit))
+        ≡ take at (now (out .entry)) ++
+        (now (label .entry) ++ decimalOf m ++ bytes " " ++ decimalOf n ++ bytes "\n") ⌝ }
 {
     let a = put_one(out, at, label, m, b" ");
     put_count(out, a, b"", n)
@@ -183,7 +187,8 @@ pub fn put_run(out: &mut [u8], at: usize, entries: &[u64], n: usize, decided: us
     requires { ⌜ n * width ≤ length (now entries) ⌝ }
     requires { ⌜ at + outputLine * n ≤ length (now out) ⌝ }
     ensures { λ r. ⌜ r ≤ at + outputLine * n ⌝ }
-    ensures { λ r. ⌜ take r (now (out .exit)) ≡ take at (now (out .entry)) ++ entryLines decided (entriesOf n (now (entries .entry))) ⌝ }
+    ensures { λ r. ⌜ take r (now (out .exit))
+        ≡ take at (now (out .entry)) ++ entryLines decided (entriesOf n (now (entries .entry))) ⌝ }
 {
     let mut o = at;
     let mut i = 0;
@@ -205,7 +210,9 @@ pub struct Partial {
 pub fn keep(part: &[u8], held: Partial, line: &mut [u8]) -> Partial
     requires { ⌜ held .len ≤ length (now line) ⌝ }
     ensures { λ r. ⌜ r .len ≤ length (now (line .entry)) ⌝ }
-    ensures { λ r. ⌜ come (r .over) (r .len) (now (line .exit)) ≡ joined (length (now (line .entry))) (come (held .over) (held .len) (now (line .entry))) (now (part .entry)) ⌝ }
+    ensures { λ r. ⌜ come (r .over) (r .len) (now (line .exit))
+        ≡ joined (length (now (line .entry))) (come (held .over) (held .len) (now (line .entry)))
+        (now (part .entry)) ⌝ }
 {
     let len = held.len;
     let over = held.over;
@@ -216,8 +223,8 @@ pub fn keep(part: &[u8], held: Partial, line: &mut [u8]) -> Partial
     Partial { len: n, over }
 }
 
-// Writes the answers that wait where the next might not fit after them, which it might not after more than `last` bytes, and says where
-// the next is put.
+// Writes the answers that wait where the next might not fit after them, which it might not after more than `last`
+// bytes, and says where the next is put.
 pub fn room(out: &[u8], used: usize, last: usize) -> usize
     requires { ⌜ used ≤ length (now out) ⌝ }
     ensures { λ r. ⌜ r ≡ nextAt last used ⌝ }

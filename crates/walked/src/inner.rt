@@ -24,7 +24,10 @@ pub fn write_atomically(
     n: usize,
 ) -> SettledAt
     requires { ⌜ n ≤ 9 ⌝ }
-    ensures { λ r. ⌜ outcome (settled (r .answer)) (raw (r .index) (now (log .exit)) (now (snapshot .exit))) ≡ run (write (lentOf lent (now (entries .entry)) (now (incoming .entry))) (map opOf (take n ops))) (wholeLent lent (now (entries .entry)) (now (incoming .entry))) (raw index (now (log .entry)) (now (snapshot .entry))) ⌝ }
+    ensures { λ r. ⌜ outcome (settled (r .answer)) (raw (r .index) (now (log .exit)) (now (snapshot .exit)))
+        ≡ run (write (lentOf lent (now (entries .entry)) (now (incoming .entry))) (map opOf (take n ops)))
+        (wholeLent lent (now (entries .entry)) (now (incoming .entry)))
+        (raw index (now (log .entry)) (now (snapshot .entry))) ⌝ }
 {
     backend::write_atomically(index, log, snapshot, entries, incoming, lent, &ops[..n])
 }

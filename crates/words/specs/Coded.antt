@@ -1,4 +1,5 @@
--- Entries as words, at any width: how many words an entry has, what they are, which entry some words are, and which entries have words.
+-- Entries as words, at any width: how many words an entry has, what they are, which entry some words are, and which
+-- entries have words.
 use Prim.Native.Nat.{ℕ, zero, suc}
 use mathlib.Core.Path.{_≡_}
 use mathlib.Core.Bool.{Bool, true}

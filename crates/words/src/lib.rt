@@ -1,6 +1,6 @@
-// Words moved, copied and cleared in place, in a lent slice of any length. `paste d at s n` is d with the first n words of s over
-// its own from `at` on; `laid` and `spliced` are definitions of specs/Words.antt. What a function needs of its arguments it
-// requires: its callers have tested it.
+// Words moved, copied and cleared in place, in a lent slice of any length. `paste d at s n` is d with the first n
+// words of s over its own from `at` on; `laid` and `spliced` are definitions of specs/Words.antt. What a function
+// needs of its arguments it requires: its callers have tested it.
 ghost use mathlib.Core.Path.{_≡_};
 ghost use mathlib.Core.List.{[]};
 ghost use Prim.Native.Nat.{_+_, _-_, _≤_};
@@ -79,14 +79,15 @@ pub fn clear(s: &mut [u64], from: usize, to: usize)
     }
 }
 
-// Puts `insert` in the place of the `cut` words from `at` on, of the `used` words at the front; what follows moves, and what
-// is left over becomes zero.
+// Puts `insert` in the place of the `cut` words from `at` on, of the `used` words at the front; what follows moves,
+// and what is left over becomes zero.
 pub fn splice(s: &mut [u64], used: usize, at: usize, cut: usize, insert: &[u64])
     requires { ⌜ at + cut ≤ used ⌝ }
     requires { ⌜ used ≤ length (now s) ⌝ }
     requires { ⌜ (used - cut) + length (now insert) ≤ length (now s) ⌝ }
     requires { ⌜ now s ≡ laid (length (now s)) (take used (now s)) ⌝ }
-    ensures { λ _. ⌜ now (s .exit) ≡ laid (length (now (s .entry))) (spliced at cut (now (insert .entry)) (take used (now (s .entry)))) ⌝ }
+    ensures { λ _. ⌜ now (s .exit)
+        ≡ laid (length (now (s .entry))) (spliced at cut (now (insert .entry)) (take used (now (s .entry)))) ⌝ }
 {
     let from = at + cut;
     let n = used - from;
@@ -96,7 +97,8 @@ pub fn splice(s: &mut [u64], used: usize, at: usize, cut: usize, insert: &[u64])
     clear(s, to + n, used);
 }
 
-// Whether every word from `from` on is zero. The loop has one way out, so that the compiler may take several words at a time.
+// Whether every word from `from` on is zero. The loop has one way out, so that the compiler may take several words at
+// a time.
 pub fn zero_from(s: &[u64], from: usize) -> bool
     ensures { λ r. ⌜ r ≡ allZero (drop from (now (s .entry))) ⌝ }
 {

@@ -17,7 +17,8 @@ ghost use Rattle.state_cache.specs.Run.{outcome, run, settled};
 ghost use Rattle.backend.specs.Ops.{opsIn, lentOf};
 ghost use Rattle.backend.specs.Inner.{midstOf, Kept, Listed, Wrote};
 
-// What is judged after the last operation: refusals 9 and 12. Every operation keeps the words in form, so the numbers alone are asked.
+// What is judged after the last operation: refusals 9 and 12. Every operation keeps the words in form, so the numbers
+// alone are asked.
 fn judge_last(
     before: IndexRecord,
     start: u64,

@@ -17,7 +17,8 @@ ghost use Rattle.model.specs.Backend.{appendOnPrefix, trim, supplied, stepGuard
 ghost use Rattle.state_cache.specs.State.{raw, numbersIn};
 ghost use Rattle.state_cache.specs.Inner.{Small};
 ghost use Rattle.backend.specs.Ops.{opOf, lentOf};
-ghost use Rattle.backend.specs.Inner.{onlyEntries, askedKeys, askedWords, midstOf, Kept, doneAt, rejoined, roomGuards, Goes, Lends};
+ghost use Rattle.backend.specs.Inner.{onlyEntries, askedKeys, askedWords, midstOf, Kept, doneAt, rejoined};
+ghost use Rattle.backend.specs.Inner.{roomGuards, Goes, Lends};
 
 // A list's state after an operation, and the start of the run, which may not be compacted.
 pub struct Stepped {

@@ -43,7 +43,9 @@ pub fn append_entries_with_batching(
     entries: &[u64],
 ) -> AppendedAt
     requires { ⌜ Ready (raw index (now log) (now snapshot)) ⌝ }
-    ensures { λ r. ⌜ outcome (appendSaid (r .answer)) (raw (r .index) (now (log .exit)) (now (snapshot .entry))) ≡ run (append (entriesIn (now (entries .entry)))) (wholeIn (now (entries .entry))) (raw index (now (log .entry)) (now (snapshot .entry))) ⌝ }
+    ensures { λ r. ⌜ outcome (appendSaid (r .answer)) (raw (r .index) (now (log .exit)) (now (snapshot .entry)))
+        ≡ run (append (entriesIn (now (entries .entry)))) (wholeIn (now (entries .entry)))
+        (raw index (now (log .entry)) (now (snapshot .entry))) ⌝ }
 {
     if !entry::entries_formed(entries) {
         return AppendedAt {
@@ -61,7 +63,9 @@ pub fn append_entries_without_batching(
     entries: &[u64],
 ) -> IndexAnswerAt
     requires { ⌜ Ready (raw index (now log) (now snapshot)) ⌝ }
-    ensures { λ r. ⌜ outcome (indexSaid (r .answer)) (raw (r .index) (now (log .exit)) (now (snapshot .entry))) ≡ run (appendNow (entriesIn (now (entries .entry)))) (wholeIn (now (entries .entry))) (raw index (now (log .entry)) (now (snapshot .entry))) ⌝ }
+    ensures { λ r. ⌜ outcome (indexSaid (r .answer)) (raw (r .index) (now (log .exit)) (now (snapshot .entry)))
+        ≡ run (appendNow (entriesIn (now (entries .entry)))) (wholeIn (now (entries .entry)))
+        (raw index (now (log .entry)) (now (snapshot .entry))) ⌝ }
 {
     if !entry::entries_formed(entries) {
         return IndexAnswerAt {
@@ -93,7 +97,10 @@ pub fn append_entries_and_get_accepted_idx(
     entries: &[u64],
 ) -> MaybeIndexAt
     requires { ⌜ Ready (raw index (now log) (now snapshot)) ⌝ }
-    ensures { λ r. ⌜ outcome (maybeIndexSaid (r .answer)) (raw (r .index) (now (log .exit)) (now (snapshot .entry))) ≡ withIndexOnly (run (append (entriesIn (now (entries .entry)))) (wholeIn (now (entries .entry))) (raw index (now (log .entry)) (now (snapshot .entry)))) ⌝ }
+    ensures { λ r. ⌜ outcome (maybeIndexSaid (r .answer)) (raw (r .index) (now (log .exit)) (now (snapshot .entry)))
+        ≡ withIndexOnly
+        (run (append (entriesIn (now (entries .entry)))) (wholeIn (now (entries .entry)))
+        (raw index (now (log .entry)) (now (snapshot .entry)))) ⌝ }
 {
     let appended = append_entries_with_batching(index, log, snapshot, entries);
     let answer = appended.answer;

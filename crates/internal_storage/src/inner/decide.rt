@@ -1,4 +1,5 @@
-// The promise and the decided index of a log that is known to be well formed: not for a user, whose calls are in decide.rt.
+// The promise and the decided index of a log that is known to be well formed: not for a user, whose calls are in
+// decide.rt.
 use entry::Ballot;
 use entry::LogIndex;
 use entry::Refusal;
@@ -17,7 +18,8 @@ ghost use Rattle.internal_storage.specs.Inner.{indexed, byNumbers};
 // Refusals 5 and 6, or the index moved.
 fn decide_at(index: IndexRecord, idx: LogIndex) -> SettledAt
     requires { ⌜ Small (numbersIn index) ⌝ }
-    ensures { λ r. ⌜ indexed (settled (r .answer)) (r .index) ≡ byNumbers (first (decideGuards (idx .0) (numbersIn index))) tt (withDecided idx index) index ⌝ }
+    ensures { λ r. ⌜ indexed (settled (r .answer)) (r .index)
+        ≡ byNumbers (first (decideGuards (idx .0) (numbersIn index))) tt (withDecided idx index) index ⌝ }
 {
     let decided = index.decided;
     if idx.0 < decided.0 {
@@ -48,14 +50,16 @@ pub fn set_decided_idx(
     idx: LogIndex,
 ) -> SettledAt
     requires { ⌜ Ready (raw index (now log) (now snapshot)) ⌝ }
-    ensures { λ r. ⌜ outcome (settled (r .answer)) (raw (r .index) (now (log .entry)) (now (snapshot .entry))) ≡ run (decide (idx .0)) true (raw index (now (log .entry)) (now (snapshot .entry))) ⌝ }
+    ensures { λ r. ⌜ outcome (settled (r .answer)) (raw (r .index) (now (log .entry)) (now (snapshot .entry)))
+        ≡ run (decide (idx .0)) true (raw index (now (log .entry)) (now (snapshot .entry))) ⌝ }
 {
     decide_at(index, idx)
 }
 
 pub fn set_promise(index: IndexRecord, log: &[u64], snapshot: &[u64], n_prom: Ballot) -> SettledAt
     requires { ⌜ Ready (raw index (now log) (now snapshot)) ⌝ }
-    ensures { λ r. ⌜ outcome (settled (r .answer)) (raw (r .index) (now (log .entry)) (now (snapshot .entry))) ≡ run (setPromise «n_prom») true (raw index (now (log .entry)) (now (snapshot .entry))) ⌝ }
+    ensures { λ r. ⌜ outcome (settled (r .answer)) (raw (r .index) (now (log .entry)) (now (snapshot .entry)))
+        ≡ run (setPromise «n_prom») true (raw index (now (log .entry)) (now (snapshot .entry))) ⌝ }
 {
     let mut next = index;
     next.promise = n_prom;

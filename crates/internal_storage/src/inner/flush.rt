@@ -46,7 +46,8 @@ pub fn flush_answer(index: IndexRecord) -> Appended
 
 pub fn flush_batch(index: IndexRecord, log: &[u64], snapshot: &[u64]) -> IndexAnswerAt
     requires { ⌜ Ready (raw index (now log) (now snapshot)) ⌝ }
-    ensures { λ r. ⌜ outcome (indexSaid (r .answer)) (raw (r .index) (now (log .entry)) (now (snapshot .entry))) ≡ run flushCall true (raw index (now (log .entry)) (now (snapshot .entry))) ⌝ }
+    ensures { λ r. ⌜ outcome (indexSaid (r .answer)) (raw (r .index) (now (log .entry)) (now (snapshot .entry)))
+        ≡ run flushCall true (raw index (now (log .entry)) (now (snapshot .entry))) ⌝ }
 {
     let next = flush(index);
     let last = state_cache::inner::accepted(next);
@@ -58,7 +59,8 @@ pub fn flush_batch(index: IndexRecord, log: &[u64], snapshot: &[u64]) -> IndexAn
 
 pub fn flush_batch_and_get_entries(index: IndexRecord, log: &[u64], snapshot: &[u64]) -> AppendedAt
     requires { ⌜ Ready (raw index (now log) (now snapshot)) ⌝ }
-    ensures { λ r. ⌜ outcome (appendSaid (r .answer)) (raw (r .index) (now (log .entry)) (now (snapshot .entry))) ≡ run flushEntries true (raw index (now (log .entry)) (now (snapshot .entry))) ⌝ }
+    ensures { λ r. ⌜ outcome (appendSaid (r .answer)) (raw (r .index) (now (log .entry)) (now (snapshot .entry)))
+        ≡ run flushEntries true (raw index (now (log .entry)) (now (snapshot .entry))) ⌝ }
 {
     let answer = flush_answer(index);
     let next = flush(index);

@@ -23,7 +23,9 @@ ghost use Rattle.internal_storage.specs.Inner.{indexed, byNumbers, flush
 // Refusals 4 and 9, or the batch flushed and the stop-sign after it.
 fn append_stop_at(index: IndexRecord, ss: StopSign) -> AppendedAt
     requires { ⌜ Sound (numbersIn index) ⌝ }
-    ensures { λ r. ⌜ indexed (appendSaid (r .answer)) (r .index) ≡ byNumbers (first (appendStopGuards (numbersIn index))) (flushSays index) (withStop true ss (allFlushed index)) index ⌝ }
+    ensures { λ r. ⌜ indexed (appendSaid (r .answer)) (r .index)
+        ≡ byNumbers (first (appendStopGuards (numbersIn index))) (flushSays index) (withStop true ss (allFlushed index))
+        index ⌝ }
 {
     let last = state_cache::inner::accepted(index);
     if index.stop_held {
@@ -55,7 +57,8 @@ pub fn append_stopsign(
     ss: StopSign,
 ) -> AppendedAt
     requires { ⌜ Ready (raw index (now log) (now snapshot)) ⌝ }
-    ensures { λ r. ⌜ outcome (appendSaid (r .answer)) (raw (r .index) (now (log .entry)) (now (snapshot .entry))) ≡ run (appendStop ss) true (raw index (now (log .entry)) (now (snapshot .entry))) ⌝ }
+    ensures { λ r. ⌜ outcome (appendSaid (r .answer)) (raw (r .index) (now (log .entry)) (now (snapshot .entry)))
+        ≡ run (appendStop ss) true (raw index (now (log .entry)) (now (snapshot .entry))) ⌝ }
 {
     if !entry::sign_formed(ss) {
         return AppendedAt {
@@ -69,7 +72,9 @@ pub fn append_stopsign(
 // Refusals 4, 10 and 9, or the flag and the stop-sign set.
 fn set_stop_at(index: IndexRecord, held: bool, ss: StopSign) -> IndexAnswerAt
     requires { ⌜ Sound (numbersIn index) ⌝ }
-    ensures { λ r. ⌜ indexed (indexSaid (r .answer)) (r .index) ≡ byNumbers (first (setStopGuards held (numbersIn index))) (acceptedOf (numbersIn (withStop held ss index))) (withStop held ss index) index ⌝ }
+    ensures { λ r. ⌜ indexed (indexSaid (r .answer)) (r .index)
+        ≡ byNumbers (first (setStopGuards held (numbersIn index))) (acceptedOf (numbersIn (withStop held ss index)))
+        (withStop held ss index) index ⌝ }
 {
     let last = state_cache::inner::accepted(index);
     if state_cache::inner::stop_decided(index) {
@@ -110,7 +115,8 @@ pub fn set_stopsign(
     ss: StopSign,
 ) -> IndexAnswerAt
     requires { ⌜ Ready (raw index (now log) (now snapshot)) ⌝ }
-    ensures { λ r. ⌜ outcome (indexSaid (r .answer)) (raw (r .index) (now (log .entry)) (now (snapshot .entry))) ≡ run (setStop (asked held ss)) true (raw index (now (log .entry)) (now (snapshot .entry))) ⌝ }
+    ensures { λ r. ⌜ outcome (indexSaid (r .answer)) (raw (r .index) (now (log .entry)) (now (snapshot .entry)))
+        ≡ run (setStop (asked held ss)) true (raw index (now (log .entry)) (now (snapshot .entry))) ⌝ }
 {
     let formed = entry::sign_formed(ss);
     if held & !formed {

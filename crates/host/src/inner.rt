@@ -195,8 +195,7 @@ pub extern "C" fn kotuseraw_inner_append_entries_with_batching(
 ) -> Reply
     requires { ⌜ Ready (raw index (now log) (now snapshot)) ⌝ }
     ensures { λ r. ⌜ left (r .said) (raw (r .index) (now (log .exit)) (now (snapshot .entry)))
-        ≡ plainly maybeFlushed
-        (run (append (entriesIn (now (entries .entry)))) (wholeIn (now (entries .entry)))
+        ≡ plainly maybeFlushed (run (append (entriesIn (now (entries .entry)))) (wholeIn (now (entries .entry)))
         (raw index (now (log .entry)) (now (snapshot .entry)))) ⌝ }
 {
     answers::appended_reply(internal_storage::inner::append::append_entries_with_batching(
@@ -218,8 +217,7 @@ pub extern "C" fn kotuseraw_inner_append_entries_and_get_accepted_idx(
     requires { ⌜ Ready (raw index (now log) (now snapshot)) ⌝ }
     ensures { λ r. ⌜ left (r .said) (raw (r .index) (now (log .exit)) (now (snapshot .entry)))
         ≡ plainly maybeNumber
-        (withIndexOnly
-        (run (append (entriesIn (now (entries .entry)))) (wholeIn (now (entries .entry)))
+        (withIndexOnly (run (append (entriesIn (now (entries .entry)))) (wholeIn (now (entries .entry)))
         (raw index (now (log .entry)) (now (snapshot .entry))))) ⌝ }
 {
     answers::accepted_idx_reply(internal_storage::inner::append::append_entries_and_get_accepted_idx(

@@ -55,8 +55,7 @@ pub extern "C" fn kotuseraw_append_entries_with_batching(
     entries: &[u64],
 ) -> Reply
     ensures { λ r. ⌜ left (r .said) (raw (r .index) (now (log .exit)) (now (snapshot .entry)))
-        ≡ plainly maybeFlushed
-        (run (append (entriesIn (now (entries .entry)))) (wholeIn (now (entries .entry)))
+        ≡ plainly maybeFlushed (run (append (entriesIn (now (entries .entry)))) (wholeIn (now (entries .entry)))
         (raw index (now (log .entry)) (now (snapshot .entry)))) ⌝ }
 {
     answers::appended_reply(internal_storage::append_entries_with_batching(
@@ -77,8 +76,7 @@ pub extern "C" fn kotuseraw_append_entries_and_get_accepted_idx(
 ) -> Reply
     ensures { λ r. ⌜ left (r .said) (raw (r .index) (now (log .exit)) (now (snapshot .entry)))
         ≡ plainly maybeNumber
-        (withIndexOnly
-        (run (append (entriesIn (now (entries .entry)))) (wholeIn (now (entries .entry)))
+        (withIndexOnly (run (append (entriesIn (now (entries .entry)))) (wholeIn (now (entries .entry)))
         (raw index (now (log .entry)) (now (snapshot .entry))))) ⌝ }
 {
     answers::accepted_idx_reply(internal_storage::append_entries_and_get_accepted_idx(

@@ -29,29 +29,11 @@ asked : (f : tie.Else2) → (wholeList (startOf (f .before .before) .args .lent)
     && opsFormed (lentAt (startOf (f .before .before))) (opsIn (startOf (f .before .before) .args .list))) ≡ true
 asked f = sym (f .before .request-formed .ensures) ∙ not-false _ (f .if2 .left)
 
-well-formed-requires : tie.Need-well-formed-requires
-well-formed-requires c κs = search needs
-
-same-length : tie.Need-same-length
-same-length c = search needs
-
-same-length-2 : tie.Need-same-length-2
-same-length-2 c = search needs
-
 returns : tie.Need-returns
 returns c =
     let st = c .before .before .before .before .before .before .before .before in
     let a = st .args in
     ill-formed (write (lentAt st) (opsIn (a .list))) (wholeList (a .lent) (now (a .entries)) (now (a .incoming)) (a .list)) (stateAt st) (sym (c .before .well-formed .ensures) ∙ not-true _ (c .if1 .taken))
-
-request-formed-requires : tie.Need-request-formed-requires
-request-formed-requires c κs = search needs
-
-same-length-3 : tie.Need-same-length-3
-same-length-3 c = search needs
-
-same-length-4 : tie.Need-same-length-4
-same-length-4 c = search needs
 
 returns-2 : tie.Need-returns-2
 returns-2 c =
@@ -66,12 +48,6 @@ write-at-requires c κs =
     let a = startOf e .args in
     listed-of (a .lent) (now (a .entries)) (now (a .incoming)) (a .list) (stateAt (startOf e)) (okay e) (asked f)
 
-same-length-5 : tie.Need-same-length-5
-same-length-5 c = search needs
-
-same-length-6 : tie.Need-same-length-6
-same-length-6 c = search needs
-
 returns-3 : tie.Need-returns-3
 returns-3 c =
     let w = c .before .before .before .before in
@@ -84,15 +60,15 @@ pub write-list-spec : {M : Type 1} → statement M
 write-list-spec =
     tie.close
     (tie.spec
-    well-formed-requires
-    same-length
-    same-length-2
+    (λ c κs. search needs)
+    (λ c. search needs)
+    (λ c. search needs)
     returns
-    request-formed-requires
-    same-length-3
-    same-length-4
+    (λ c κs. search needs)
+    (λ c. search needs)
+    (λ c. search needs)
     returns-2
     write-at-requires
-    same-length-5
-    same-length-6
+    (λ c. search needs)
+    (λ c. search needs)
     returns-3)

@@ -1,6 +1,7 @@
 // The whole list on a well-formed state, and what is judged after the last operation.
 use super::super::Lent;
 use super::super::OpList;
+use super::step::step;
 use entry::LogIndex;
 use entry::Refusal;
 use state_cache::IndexRecord;
@@ -72,7 +73,7 @@ fn run_ops(
     let mut i = 0;
     while i < n {
         let o = ops[i];
-        let s = super::step::step(
+        let s = step(
             before,
             start,
             index,

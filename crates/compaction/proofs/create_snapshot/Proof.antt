@@ -25,9 +25,6 @@ startOf e = e .before .before .before .before .before
 okay : (e : tie.Else1) → formed (stateAt (startOf e)) ≡ true
 okay e = sym (e .before .well-formed .ensures) ∙ not-false _ (e .if1 .left)
 
-well-formed-requires : tie.Need-well-formed-requires
-well-formed-requires c κs = search needs
-
 returns : tie.Need-returns
 returns c =
     let st = c .before .before .before .before .before in
@@ -45,9 +42,6 @@ create-at-requires c κs =
     let st = startOf (f .before) in
     (ready-of (stateAt st) (okay (f .before)), eqb-true (length (now (st .args .out))) snapshotWords (not-false _ (f .if2 .left)))
 
-same-length : tie.Need-same-length
-same-length c = search needs
-
 returns-3 : tie.Need-returns-3
 returns-3 c =
     let m = c .before .before in
@@ -58,4 +52,10 @@ returns-3 c =
 pub create-snapshot-spec : {M : Type 1} → statement M
 create-snapshot-spec =
     tie.close
-    (tie.spec well-formed-requires returns returns-2 create-at-requires same-length returns-3)
+    (tie.spec
+    (λ c κs. search needs)
+    returns
+    returns-2
+    create-at-requires
+    (λ c. search needs)
+    returns-3)

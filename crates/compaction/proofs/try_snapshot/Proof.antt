@@ -12,15 +12,6 @@ use borrow.Author.Needs.{needs}
 use Rattle.compaction.proofs.try_snapshot.Statement.{statement}
 use Rattle.compaction.proofs.try_snapshot.Tie as tie
 
-well-formed-requires : tie.Need-well-formed-requires
-well-formed-requires c κs = search needs
-
-same-length : tie.Need-same-length
-same-length c = search needs
-
-same-length-2 : tie.Need-same-length-2
-same-length-2 c = search needs
-
 returns : tie.Need-returns
 returns c =
     let st = c .before .before .before .before .before .before in
@@ -32,12 +23,6 @@ snapshot-at-requires c κs =
     let st = e .before .before .before .before .before .before in
     ready-of (raw (st .args .index) (now (st .args .log)) (now (st .args .snapshot))) (sym (e .before .well-formed .ensures) ∙ not-false _ (e .if1 .left))
 
-same-length-3 : tie.Need-same-length-3
-same-length-3 c = search needs
-
-same-length-4 : tie.Need-same-length-4
-same-length-4 c = search needs
-
 returns-2 : tie.Need-returns-2
 returns-2 c = search needs
 
@@ -45,11 +30,11 @@ pub try-snapshot-spec : {M : Type 1} → statement M
 try-snapshot-spec =
     tie.close
     (tie.spec
-    well-formed-requires
-    same-length
-    same-length-2
+    (λ c κs. search needs)
+    (λ c. search needs)
+    (λ c. search needs)
     returns
     snapshot-at-requires
-    same-length-3
-    same-length-4
+    (λ c. search needs)
+    (λ c. search needs)
     returns-2)

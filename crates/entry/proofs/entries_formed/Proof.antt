@@ -4,12 +4,9 @@ use borrow.Author.Needs.{needs}
 use Rattle.entry.proofs.entries_formed.Statement.{statement}
 use Rattle.entry.proofs.entries_formed.Tie as tie
 
-places-formed-requires : tie.Need-places-formed-requires
-places-formed-requires c κs = search needs
-
 returns : tie.Need-returns
 unfolding sliceFormed
 returns c = cc
 
 pub entries-formed-spec : {M : Type 1} → statement M
-entries-formed-spec = tie.close (tie.spec places-formed-requires returns)
+entries-formed-spec = tie.close (tie.spec (λ c κs. search needs) returns)

@@ -8,24 +8,6 @@ use borrow.Author.Needs.{needs}
 use Rattle.reading.proofs.entries_shown.Statement.{statement}
 use Rattle.reading.proofs.entries_shown.Tie as tie
 
-enum-told : tie.Need-enum-told
-enum-told c = search needs
-
-entries-of-requires : tie.Need-entries-of-requires
-entries-of-requires c κs = search needs
-
-enum-known-reply : tie.Need-enum-known-reply
-enum-known-reply c = search needs
-
-entries-of-requires-2 : tie.Need-entries-of-requires-2
-entries-of-requires-2 c κs = search needs
-
-enum-told-2 : tie.Need-enum-told-2
-enum-told-2 c = search needs
-
-entries-of-requires-3 : tie.Need-entries-of-requires-3
-entries-of-requires-3 c κs = search needs
-
 returns : tie.Need-returns
 returns c =
     let log = c .before .before .before .before .args .log in
@@ -45,12 +27,12 @@ pub entries-shown-spec : {M : Type 1} → statement M
 entries-shown-spec =
     tie.close
     (tie.spec
-    enum-told
-    entries-of-requires
-    enum-known-reply
-    entries-of-requires-2
-    enum-told-2
-    entries-of-requires-3
+    (λ c. search needs)
+    (λ c κs. search needs)
+    (λ c. search needs)
+    (λ c κs. search needs)
+    (λ c. search needs)
+    (λ c κs. search needs)
     returns
     returns-2
     returns-3)

@@ -10,9 +10,6 @@ use borrow.Author.Needs.{needs}
 use Rattle.reading.proofs.get_entries_reply.Statement.{statement}
 use Rattle.reading.proofs.get_entries_reply.Tie as tie
 
-well-formed-requires : tie.Need-well-formed-requires
-well-formed-requires c κs = search needs
-
 returns : tie.Need-returns
 returns c =
     let a = c .before .before .before .before .args in
@@ -25,4 +22,4 @@ returns-2 : tie.Need-returns-2
 returns-2 c = search needs
 
 pub get-entries-reply-spec : {M : Type 1} → statement M
-get-entries-reply-spec = tie.close (tie.spec well-formed-requires returns get-entries-reply-requires returns-2)
+get-entries-reply-spec = tie.close (tie.spec (λ c κs. search needs) returns get-entries-reply-requires returns-2)

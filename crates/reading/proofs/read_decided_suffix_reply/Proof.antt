@@ -10,9 +10,6 @@ use borrow.Author.Needs.{needs}
 use Rattle.reading.proofs.read_decided_suffix_reply.Statement.{statement}
 use Rattle.reading.proofs.read_decided_suffix_reply.Tie as tie
 
-well-formed-requires : tie.Need-well-formed-requires
-well-formed-requires c κs = search needs
-
 returns : tie.Need-returns
 returns c =
     let a = c .before .before .before .before .args in
@@ -25,4 +22,10 @@ returns-2 : tie.Need-returns-2
 returns-2 c = search needs
 
 pub read-decided-suffix-reply-spec : {M : Type 1} → statement M
-read-decided-suffix-reply-spec = tie.close (tie.spec well-formed-requires returns read-decided-suffix-reply-requires returns-2)
+read-decided-suffix-reply-spec =
+    tie.close
+    (tie.spec
+    (λ c κs. search needs)
+    returns
+    read-decided-suffix-reply-requires
+    returns-2)

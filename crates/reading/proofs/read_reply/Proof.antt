@@ -11,9 +11,6 @@ use borrow.Author.Needs.{needs}
 use Rattle.reading.proofs.read_reply.Statement.{statement}
 use Rattle.reading.proofs.read_reply.Tie as tie
 
-well-formed-requires : tie.Need-well-formed-requires
-well-formed-requires c κs = search needs
-
 returns : tie.Need-returns
 returns c =
     let a = c .before .before .before .before .args in
@@ -26,4 +23,4 @@ returns-2 : tie.Need-returns-2
 returns-2 c = search needs
 
 pub read-reply-spec : {M : Type 1} → statement M
-read-reply-spec = tie.close (tie.spec well-formed-requires returns read-reply-requires returns-2)
+read-reply-spec = tie.close (tie.spec (λ c κs. search needs) returns read-reply-requires returns-2)

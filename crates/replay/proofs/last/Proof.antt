@@ -6,17 +6,11 @@ use borrow.Author.Needs.{needs}
 use Rattle.replay.proofs.last.Statement.{statement}
 use Rattle.replay.proofs.last.Tie as tie
 
-end-requires : tie.Need-end-requires
-end-requires c κs = search needs
-
 slice-aggregate-write-all : tie.Need-slice-aggregate-write-all
 slice-aggregate-write-all c = sym (length-take-le _ _ (omega (arith, c .before .before .before .end .ensures .0, c .before .before .before .end .kept)))
-
-write-all-requires : tie.Need-write-all-requires
-write-all-requires c κs = search needs
 
 returns : tie.Need-returns
 returns c = search needs
 
 pub last-spec : {M : Type 1} → statement M
-last-spec = tie.close (tie.spec end-requires slice-aggregate-write-all write-all-requires returns)
+last-spec = tie.close (tie.spec (λ c κs. search needs) slice-aggregate-write-all (λ c κs. search needs) returns)

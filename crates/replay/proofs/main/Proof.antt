@@ -23,22 +23,10 @@ Inv-loop line₀ log₀ snapshot₀ out₀ s₀ turns₀ line log snapshot out s
 abbrev μ-loop : tie.MeasureT-loop
 μ-loop line₀ log₀ snapshot₀ out₀ s₀ turns₀ line log snapshot out s turns = turns
 
-start-requires : tie.Need-start-requires Inv-loop μ-loop
-start-requires c κs = tt
-
 loop-holds : tie.Need-loop-holds Inv-loop μ-loop
 loop-holds c =
     let e = c .start .ensures in
     (omega (arith, e .1, e .3), ([], begun _ _ _ _ _ _ (e .0) (e .1) (e .2) (e .3)))
-
-take-turn-requires : tie.Need-take-turn-requires Inv-loop μ-loop
-take-turn-requires c κs = omega arith
-
-sub-turns : tie.Need-sub-turns Inv-loop μ-loop
-sub-turns c = omega arith
-
-loop-less : tie.Need-loop-less Inv-loop μ-loop
-loop-less c = omega arith
 
 loop-again : tie.Need-loop-again Inv-loop μ-loop
 loop-again c =
@@ -58,11 +46,11 @@ main-spec =
     (tie.spec
     Inv-loop
     μ-loop
-    start-requires
+    (λ c κs. tt)
     loop-holds
-    take-turn-requires
-    sub-turns
-    loop-less
+    (λ c κs. omega arith)
+    (λ c. omega arith)
+    (λ c. omega arith)
     loop-again
     last-requires
     returns)

@@ -14,38 +14,11 @@ use Rattle.replay.proofs.take_turn.Tie as tie
 slice-aggregate-write-all : tie.Need-slice-aggregate-write-all
 slice-aggregate-write-all c = sym (length-take-le _ _ (omega arith))
 
-write-all-requires : tie.Need-write-all-requires
-write-all-requires c κs = search needs
-
-large-buffer-requires : tie.Need-large-buffer-requires
-large-buffer-requires c κs = search needs
-
-slice-aggregate-read : tie.Need-slice-aggregate-read
-slice-aggregate-read c = search needs
-
-read-requires : tie.Need-read-requires
-read-requires c κs = search needs
-
-slice-aggregate-count : tie.Need-slice-aggregate-count
-slice-aggregate-count c = search needs
-
-count-requires : tie.Need-count-requires
-count-requires c κs = search needs
-
 returns : tie.Need-returns
 unfolding linesFrom
 returns c =
     let s = c .before .before .before .before .before .before .before .before .before .before .before in
     (search needs, λ (ls : Lines) st. ([], handed-over ls _ _ (take (s .args .st .used) (now (s .args .out))) st))
-
-array-share-prefix-chunk : tie.Need-array-share-prefix-chunk
-array-share-prefix-chunk c = search needs
-
-slice-aggregate-take-part : tie.Need-slice-aggregate-take-part
-slice-aggregate-take-part c = search needs
-
-take-part-requires : tie.Need-take-part-requires
-take-part-requires c κs = search needs
 
 returns-2 : tie.Need-returns-2
 returns-2 c =
@@ -57,14 +30,14 @@ take-turn-spec =
     tie.close
     (tie.spec
     slice-aggregate-write-all
-    write-all-requires
-    large-buffer-requires
-    slice-aggregate-read
-    read-requires
-    slice-aggregate-count
-    count-requires
+    (λ c κs. search needs)
+    (λ c κs. search needs)
+    (λ c. search needs)
+    (λ c κs. search needs)
+    (λ c. search needs)
+    (λ c κs. search needs)
     returns
-    array-share-prefix-chunk
-    slice-aggregate-take-part
-    take-part-requires
+    (λ c. search needs)
+    (λ c. search needs)
+    (λ c κs. search needs)
     returns-2)

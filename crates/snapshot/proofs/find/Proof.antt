@@ -12,9 +12,6 @@ use Rattle.snapshot.proofs.find.Tie as tie
 okay : (e : tie.Else1) → snapshotFormed (e .before .before .before .args .keys) (now (e .before .before .before .args .s)) ≡ true
 okay e = sym (e .before .snapshot-formed .ensures) ∙ not-false _ (e .if1 .left)
 
-snapshot-formed-requires : tie.Need-snapshot-formed-requires
-snapshot-formed-requires c κs = search needs
-
 returns : tie.Need-returns
 returns c =
     let st = c .before .before .before in
@@ -32,4 +29,4 @@ returns-2 c =
     c .look-up .ensures ∙ find-stands (st .args .keys) (now (st .args .s)) (st .args .key) (okay (c .before))
 
 pub find-spec : {M : Type 1} → statement M
-find-spec = tie.close (tie.spec snapshot-formed-requires returns look-up-requires returns-2)
+find-spec = tie.close (tie.spec (λ c κs. search needs) returns look-up-requires returns-2)

@@ -16,25 +16,16 @@ tested : (e : tie.After-entries-formed) (t : Bool)
     → foldable (now (e .before .before .before .args .entries)) (now (e .before .before .before .args .out)) ≡ t
 tested e t q = ap (λ (b : Bool). b && eqb (length (now (e .before .before .before .args .out))) snapshotWords) (sym (e .entries-formed .ensures)) ∙ q
 
-entries-formed-requires : tie.Need-entries-formed-requires
-entries-formed-requires c κs = search needs
-
 returns : tie.Need-returns
 returns c =
     let st = c .before .before .before .before in
     fold-malformed (now (st .args .entries)) (now (st .args .out)) (tested (c .before) false (not-true _ (c .if1 .taken)))
-
-slice-aggregate-fold-out : tie.Need-slice-aggregate-fold-out
-slice-aggregate-fold-out c = search needs
 
 fold-out-requires : tie.Need-fold-out-requires
 fold-out-requires c κs =
     let e = c .before .before in
     let st = e .before .before .before .before in
     fold-needs (now (st .args .entries)) (now (st .args .out)) (tested (e .before) true (not-false _ (e .if1 .left)))
-
-same-length : tie.Need-same-length
-same-length c = search needs
 
 returns-2 : tie.Need-returns-2
 returns-2 c =
@@ -46,9 +37,9 @@ pub fold-spec : {M : Type 1} → statement M
 fold-spec =
     tie.close
     (tie.spec
-    entries-formed-requires
+    (λ c κs. search needs)
     returns
-    slice-aggregate-fold-out
+    (λ c. search needs)
     fold-out-requires
-    same-length
+    (λ c. search needs)
     returns-2)

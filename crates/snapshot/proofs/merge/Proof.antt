@@ -17,12 +17,6 @@ tested : (e : tie.After-snapshot-formed2) (t : Bool)
 tested e t q =
     ap₂ (λ (x y : Bool). x && (y && eqb (length (now (e .before .before .before .before .before .args .out))) snapshotWords)) (sym (e .before .snapshot-formed .ensures)) (sym (e .snapshot-formed2 .ensures)) ∙ q
 
-snapshot-formed-requires : tie.Need-snapshot-formed-requires
-snapshot-formed-requires c κs = search needs
-
-snapshot-formed-requires-2 : tie.Need-snapshot-formed-requires-2
-snapshot-formed-requires-2 c κs = search needs
-
 returns : tie.Need-returns
 returns c =
     let st = c .before .before .before .before .before .before in
@@ -34,9 +28,6 @@ fold-aside-requires c κs =
     let st = e .before .before .before .before .before .before in
     merge-needs (now (st .args .a)) (st .args .n) (now (st .args .b)) (st .args .m) (now (st .args .out)) (tested (e .before) true (not-false _ (e .if1 .left)))
 
-same-length : tie.Need-same-length
-same-length c = search needs
-
 returns-2 : tie.Need-returns-2
 returns-2 c =
     let e = c .before .before .before .before in
@@ -47,9 +38,9 @@ pub merge-spec : {M : Type 1} → statement M
 merge-spec =
     tie.close
     (tie.spec
-    snapshot-formed-requires
-    snapshot-formed-requires-2
+    (λ c κs. search needs)
+    (λ c κs. search needs)
     returns
     fold-aside-requires
-    same-length
+    (λ c. search needs)
     returns-2)

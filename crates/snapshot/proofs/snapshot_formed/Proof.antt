@@ -12,9 +12,6 @@ use borrow.Author.Needs.{needs}
 use Rattle.snapshot.proofs.snapshot_formed.Statement.{statement}
 use Rattle.snapshot.proofs.snapshot_formed.Tie as tie
 
-laid-out-requires : tie.Need-laid-out-requires
-laid-out-requires c κs = search needs
-
 returns : tie.Need-returns
 unfolding snapshotFormed
 returns c = rw (sym (c .before .laid-out .ensures) ∙ not-true _ (c .if1 .taken))
@@ -31,5 +28,4 @@ unfolding snapshotFormed
 returns-2 c = rw (sym (c .before .before .laid-out .ensures) ∙ not-false _ (c .before .if1 .left)) (c .keys-ascend .ensures)
 
 pub snapshot-formed-spec : {M : Type 1} → statement M
-snapshot-formed-spec =
-    tie.close (tie.spec laid-out-requires returns keys-ascend-requires returns-2)
+snapshot-formed-spec = tie.close (tie.spec (λ c κs. search needs) returns keys-ascend-requires returns-2)

@@ -6,28 +6,10 @@ use borrow.Author.Needs.{needs}
 use Rattle.state_cache.proofs.fresh.Statement.{statement}
 use Rattle.state_cache.proofs.fresh.Tie as tie
 
-fresh-index-requires : tie.Need-fresh-index-requires
-fresh-index-requires c κs = search needs
-
 returns : tie.Need-returns
 returns c =
     let st = c .before .before .before .before in
     rw (c .fresh-index .ensures) (fresh-refused (st .args .batch-size) (now (st .args .log)) (now (st .args .snapshot)) (not-true _ (c .before .if1 .taken)))
-
-clear-requires : tie.Need-clear-requires
-clear-requires c κs = search needs
-
-clear-requires-2 : tie.Need-clear-requires-2
-clear-requires-2 c κs = search needs
-
-fresh-index-requires-2 : tie.Need-fresh-index-requires-2
-fresh-index-requires-2 c κs = search needs
-
-same-length : tie.Need-same-length
-same-length c = search needs
-
-same-length-2 : tie.Need-same-length-2
-same-length-2 c = search needs
 
 returns-2 : tie.Need-returns-2
 returns-2 c =
@@ -41,11 +23,11 @@ pub fresh-spec : {M : Type 1} → statement M
 fresh-spec =
     tie.close
     (tie.spec
-    fresh-index-requires
+    (λ c κs. search needs)
     returns
-    clear-requires
-    clear-requires-2
-    fresh-index-requires-2
-    same-length
-    same-length-2
+    (λ c κs. search needs)
+    (λ c κs. search needs)
+    (λ c κs. search needs)
+    (λ c. search needs)
+    (λ c. search needs)
     returns-2)

@@ -18,9 +18,6 @@ stateAt c = raw (c .args .index) (now (c .args .log)) (now (c .args .snapshot))
 okay : (e : tie.Else1) → formed (stateAt (e .before .before .before .before)) ≡ true
 okay e = sym (e .before .well-formed .ensures) ∙ not-false _ (e .if1 .left)
 
-well-formed-requires : tie.Need-well-formed-requires
-well-formed-requires c κs = search needs
-
 returns : tie.Need-returns
 returns c = not-asked logDecided (stateAt (c .before .before .before .before)) (sym (c .before .well-formed .ensures) ∙ not-true _ (c .if1 .taken))
 
@@ -31,4 +28,10 @@ returns-2 : tie.Need-returns-2
 returns-2 c = asked-of logDecided (stateAt (c .before .before .before .before .before)) (okay (c .before)) _ (c .log-decided .ensures)
 
 pub get-decided-idx-without-stopsign-spec : {M : Type 1} → statement M
-get-decided-idx-without-stopsign-spec = tie.close (tie.spec well-formed-requires returns log-decided-requires returns-2)
+get-decided-idx-without-stopsign-spec =
+    tie.close
+    (tie.spec
+    (λ c κs. search needs)
+    returns
+    log-decided-requires
+    returns-2)

@@ -18,9 +18,6 @@ stateAt c = raw (c .args .index) (now (c .args .log)) (now (c .args .snapshot))
 okay : (e : tie.Else1) → formed (stateAt (e .before .before .before .before)) ≡ true
 okay e = sym (e .before .well-formed .ensures) ∙ not-false _ (e .if1 .left)
 
-well-formed-requires : tie.Need-well-formed-requires
-well-formed-requires c κs = search needs
-
 returns : tie.Need-returns
 returns c = not-asked stopDecided (stateAt (c .before .before .before .before)) (sym (c .before .well-formed .ensures) ∙ not-true _ (c .if1 .taken))
 
@@ -31,4 +28,4 @@ returns-2 : tie.Need-returns-2
 returns-2 c = asked-of stopDecided (stateAt (c .before .before .before .before .before)) (okay (c .before)) _ (c .stop-decided .ensures)
 
 pub stopsign-is-decided-spec : {M : Type 1} → statement M
-stopsign-is-decided-spec = tie.close (tie.spec well-formed-requires returns stop-decided-requires returns-2)
+stopsign-is-decided-spec = tie.close (tie.spec (λ c κs. search needs) returns stop-decided-requires returns-2)

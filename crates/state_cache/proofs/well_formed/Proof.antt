@@ -12,9 +12,6 @@ use Rattle.state_cache.proofs.well_formed.Tie as tie
 small : (e : tie.Else1) → Small (numbersIn (e .before .before .before .before .args .index))
 small e = small-of _ (sym (e .before .sizes-formed .ensures) ∙ not-false _ (e .if1 .left))
 
-sizes-formed-requires : tie.Need-sizes-formed-requires
-sizes-formed-requires c κs = search needs
-
 returns : tie.Need-returns
 unfolding formed
 returns c = rw (sizes-fail _ (sym (c .before .sizes-formed .ensures) ∙ not-true _ (c .if1 .taken)))
@@ -22,19 +19,10 @@ returns c = rw (sizes-fail _ (sym (c .before .sizes-formed .ensures) ∙ not-tru
 numbers-formed-requires : tie.Need-numbers-formed-requires
 numbers-formed-requires c κs = small c
 
-stop-formed-requires : tie.Need-stop-formed-requires
-stop-formed-requires c κs = search needs
-
 add-laid-out : tie.Need-add-laid-out
 add-laid-out c =
     let s = small (c .before .before .before) in
     omega (arith, s .few, s .waiting)
-
-laid-out-requires : tie.Need-laid-out-requires
-laid-out-requires c κs = search needs
-
-snapshot-held-formed-requires : tie.Need-snapshot-held-formed-requires
-snapshot-held-formed-requires c κs = search needs
 
 returns-2 : tie.Need-returns-2
 unfolding formed
@@ -44,11 +32,11 @@ pub well-formed-spec : {M : Type 1} → statement M
 well-formed-spec =
     tie.close
     (tie.spec
-    sizes-formed-requires
+    (λ c κs. search needs)
     returns
     numbers-formed-requires
-    stop-formed-requires
+    (λ c κs. search needs)
     add-laid-out
-    laid-out-requires
-    snapshot-held-formed-requires
+    (λ c κs. search needs)
+    (λ c κs. search needs)
     returns-2)

@@ -32,29 +32,11 @@ asked f held q =
     let a = startOf (firstOf f) .args in
     ap (λ (t : Bool). requestFormed t (a .log-sync) (now (a .incoming)) (now (a .suffix))) (sym q) ∙ sym (f .before .request-formed .ensures) ∙ not-false _ (f .if2 .left)
 
-well-formed-requires : tie.Need-well-formed-requires
-well-formed-requires c κs = search needs
-
-same-length : tie.Need-same-length
-same-length c = search needs
-
-same-length-2 : tie.Need-same-length-2
-same-length-2 c = search needs
-
 returns : tie.Need-returns
 returns c =
     let st = c .before .before .before .before .before .before .before .before in
     let a = st .args in
     ill-formed (sync (a .accepted-round) (a .decided-idx .0) (partOf (a .held) (a .log-sync) (now (a .incoming)) (now (a .suffix)))) (lentWhole (a .held) (a .log-sync) (now (a .incoming)) (now (a .suffix))) (stateAt st) (sym (c .before .well-formed .ensures) ∙ not-true _ (c .if1 .taken))
-
-request-formed-requires : tie.Need-request-formed-requires
-request-formed-requires c κs = search needs
-
-same-length-3 : tie.Need-same-length-3
-same-length-3 c = search needs
-
-same-length-4 : tie.Need-same-length-4
-same-length-4 c = search needs
 
 returns-2 : tie.Need-returns-2
 returns-2 c =
@@ -66,12 +48,6 @@ round-at-requires : tie.Need-round-at-requires
 round-at-requires c κs =
     let e = firstOf (c .before) in
     ready-of (stateAt (startOf e)) (okay e) .numbers
-
-same-length-5 : tie.Need-same-length-5
-same-length-5 c = search needs
-
-same-length-6 : tie.Need-same-length-6
-same-length-6 c = search needs
 
 returns-3 : tie.Need-returns-3
 returns-3 c =
@@ -89,12 +65,6 @@ sync-at-requires c κs =
     let a = startOf e .args in
     ask-syncs (stateAt (startOf e)) (okay e) (a .log-sync) (now (a .incoming)) (now (a .suffix)) (a .accepted-round) (a .decided-idx .0) (asked f true (not-false _ (h .if3 .left)))
 
-same-length-7 : tie.Need-same-length-7
-same-length-7 c = search needs
-
-same-length-8 : tie.Need-same-length-8
-same-length-8 c = search needs
-
 returns-4 : tie.Need-returns-4
 returns-4 c =
     let m = c .before .before .before .before in
@@ -109,19 +79,19 @@ pub sync-log-spec : {M : Type 1} → statement M
 sync-log-spec =
     tie.close
     (tie.spec
-    well-formed-requires
-    same-length
-    same-length-2
+    (λ c κs. search needs)
+    (λ c. search needs)
+    (λ c. search needs)
     returns
-    request-formed-requires
-    same-length-3
-    same-length-4
+    (λ c κs. search needs)
+    (λ c. search needs)
+    (λ c. search needs)
     returns-2
     round-at-requires
-    same-length-5
-    same-length-6
+    (λ c. search needs)
+    (λ c. search needs)
     returns-3
     sync-at-requires
-    same-length-7
-    same-length-8
+    (λ c. search needs)
+    (λ c. search needs)
     returns-4)

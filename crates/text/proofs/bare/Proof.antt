@@ -5,12 +5,6 @@ use borrow.Author.Needs.{needs}
 use Rattle.text.proofs.bare.Statement.{statement}
 use Rattle.text.proofs.bare.Tie as tie
 
-slice-aggregate-same : tie.Need-slice-aggregate-same
-slice-aggregate-same c = search needs
-
-same-requires : tie.Need-same-requires
-same-requires c κs = search needs
-
 returns : tie.Need-returns
 unfolding bareOf
 returns c = rw (sym (c .before .same .ensures) ∙ c .if1 .taken)
@@ -20,4 +14,4 @@ unfolding bareOf
 returns-2 c = rw (sym (c .before .same .ensures) ∙ c .if1 .left)
 
 pub bare-spec : {M : Type 1} → statement M
-bare-spec = tie.close (tie.spec slice-aggregate-same same-requires returns returns-2)
+bare-spec = tie.close (tie.spec (λ c. search needs) (λ c κs. search needs) returns returns-2)

@@ -21,21 +21,9 @@ noDecide c = sym (c .before .same3 .ensures) ∙ c .if3 .left
 noStop : (c : tie.Else4) → (now (c .before .before .before .before .before .before .before .before .before .before .before .before .before .args .w) is "stop") ≡ false
 noStop c = sym (c .before .same4 .ensures) ∙ c .if4 .left
 
-slice-aggregate-same : tie.Need-slice-aggregate-same
-slice-aggregate-same c = search needs
-
-same-requires : tie.Need-same-requires
-same-requires c κs = search needs
-
 returns : tie.Need-returns
 unfolding numberedOf
 returns c = rw (sym (c .before .same .ensures) ∙ c .if1 .taken)
-
-slice-aggregate-same-2 : tie.Need-slice-aggregate-same-2
-slice-aggregate-same-2 c = search needs
-
-same-requires-2 : tie.Need-same-requires-2
-same-requires-2 c κs = search needs
 
 returns-2 : tie.Need-returns-2
 unfolding numberedOf
@@ -43,27 +31,12 @@ returns-2 c =
     let e1 = c .before .before .before in
     rw (noBatch e1, sym (c .before .same2 .ensures) ∙ c .if2 .taken)
 
-slice-aggregate-same-3 : tie.Need-slice-aggregate-same-3
-slice-aggregate-same-3 c = search needs
-
-same-requires-3 : tie.Need-same-requires-3
-same-requires-3 c κs = search needs
-
 returns-3 : tie.Need-returns-3
 unfolding numberedOf
 returns-3 c =
     let e2 = c .before .before .before in
     let e1 = e2 .before .before .before in
     rw (noBatch e1, noDel e2, sym (c .before .same3 .ensures) ∙ c .if3 .taken)
-
-slice-aggregate-same-4 : tie.Need-slice-aggregate-same-4
-slice-aggregate-same-4 c = search needs
-
-same-requires-4 : tie.Need-same-requires-4
-same-requires-4 c κs = search needs
-
-cast-t21 : tie.Need-cast-t21
-cast-t21 c = search needs
 
 returns-4 : tie.Need-returns-4
 unfolding numberedOf
@@ -80,12 +53,6 @@ returns-5 c =
     let e2 = e3 .before .before .before in
     let e1 = e2 .before .before .before in
     rw (noBatch e1, noDel e2, noDecide e3, sym (c .before .before .same4 .ensures) ∙ c .before .if4 .taken, le-ltb _ _ (c .if5 .left))
-
-slice-aggregate-same-5 : tie.Need-slice-aggregate-same-5
-slice-aggregate-same-5 c = search needs
-
-same-requires-5 : tie.Need-same-requires-5
-same-requires-5 c κs = search needs
 
 returns-6 : tie.Need-returns-6
 unfolding numberedOf
@@ -109,21 +76,21 @@ pub numbered-spec : {M : Type 1} → statement M
 numbered-spec =
     tie.close
     (tie.spec
-    slice-aggregate-same
-    same-requires
+    (λ c. search needs)
+    (λ c κs. search needs)
     returns
-    slice-aggregate-same-2
-    same-requires-2
+    (λ c. search needs)
+    (λ c κs. search needs)
     returns-2
-    slice-aggregate-same-3
-    same-requires-3
+    (λ c. search needs)
+    (λ c κs. search needs)
     returns-3
-    slice-aggregate-same-4
-    same-requires-4
-    cast-t21
+    (λ c. search needs)
+    (λ c κs. search needs)
+    (λ c. search needs)
     returns-4
     returns-5
-    slice-aggregate-same-5
-    same-requires-5
+    (λ c. search needs)
+    (λ c κs. search needs)
     returns-6
     returns-7)

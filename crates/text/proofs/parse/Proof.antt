@@ -7,38 +7,11 @@ use borrow.Author.Needs.{needs}
 use Rattle.text.proofs.parse.Statement.{statement}
 use Rattle.text.proofs.parse.Tie as tie
 
-gap-requires : tie.Need-gap-requires
-gap-requires c κs = search needs
-
-bare-requires : tie.Need-bare-requires
-bare-requires c κs = search needs
-
 returns : tie.Need-returns
 unfolding parseOf
 returns c =
     let s = now (c .before .before .before .before .args .s) in
     rw (words-none s (sym (c .before .before .gap .ensures .1) ∙ c .before .if1 .taken)) (c .bare .ensures)
-
-slice-aggregate-w : tie.Need-slice-aggregate-w
-slice-aggregate-w c = search needs
-
-add-rest : tie.Need-add-rest
-add-rest c = search needs
-
-sub-rest : tie.Need-sub-rest
-sub-rest c = search needs
-
-part-rest-start : tie.Need-part-rest-start
-part-rest-start c = search needs
-
-part-rest-end : tie.Need-part-rest-end
-part-rest-end c = search needs
-
-gap-requires-2 : tie.Need-gap-requires-2
-gap-requires-2 c κs = search needs
-
-one-requires : tie.Need-one-requires
-one-requires c κs = search needs
 
 returns-2 : tie.Need-returns-2
 unfolding parseOf
@@ -48,27 +21,6 @@ returns-2 c =
     let s = now (g .before .before .args .s) in
     let e = g .gap .result in
     rw (words-more s e (g .gap .ensures .1) (g .gap .ensures .0 .0) (h .before .before .before .if1 .left), words-none (rest s e) (sym (h .gap2 .ensures .1) ∙ c .before .if2 .taken)) (c .one .ensures)
-
-slice-aggregate-a : tie.Need-slice-aggregate-a
-slice-aggregate-a c = search needs
-
-add-b : tie.Need-add-b
-add-b c = search needs
-
-sub-b : tie.Need-sub-b
-sub-b c = search needs
-
-part-b-start : tie.Need-part-b-start
-part-b-start c = search needs
-
-part-b-end : tie.Need-part-b-end
-part-b-end c = search needs
-
-gap-requires-3 : tie.Need-gap-requires-3
-gap-requires-3 c κs = search needs
-
-two-requires : tie.Need-two-requires
-two-requires c κs = search needs
 
 returns-3 : tie.Need-returns-3
 unfolding parseOf
@@ -96,23 +48,23 @@ pub parse-spec : {M : Type 1} → statement M
 parse-spec =
     tie.close
     (tie.spec
-    gap-requires
-    bare-requires
+    (λ c κs. search needs)
+    (λ c κs. search needs)
     returns
-    slice-aggregate-w
-    add-rest
-    sub-rest
-    part-rest-start
-    part-rest-end
-    gap-requires-2
-    one-requires
+    (λ c. search needs)
+    (λ c. search needs)
+    (λ c. search needs)
+    (λ c. search needs)
+    (λ c. search needs)
+    (λ c κs. search needs)
+    (λ c κs. search needs)
     returns-2
-    slice-aggregate-a
-    add-b
-    sub-b
-    part-b-start
-    part-b-end
-    gap-requires-3
-    two-requires
+    (λ c. search needs)
+    (λ c. search needs)
+    (λ c. search needs)
+    (λ c. search needs)
+    (λ c. search needs)
+    (λ c κs. search needs)
+    (λ c κs. search needs)
     returns-3
     returns-4)

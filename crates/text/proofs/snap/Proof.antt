@@ -5,24 +5,9 @@ use borrow.Author.Needs.{needs}
 use Rattle.text.proofs.snap.Statement.{statement}
 use Rattle.text.proofs.snap.Tie as tie
 
-slice-aggregate-same : tie.Need-slice-aggregate-same
-slice-aggregate-same c = search needs
-
-same-requires : tie.Need-same-requires
-same-requires c κs = search needs
-
 returns : tie.Need-returns
 unfolding snapOf
 returns c = rw (sym (c .before .same .ensures) ∙ c .if1 .taken)
-
-number-requires : tie.Need-number-requires
-number-requires c κs = search needs
-
-enum-known-n : tie.Need-enum-known-n
-enum-known-n c = search needs
-
-enum-told : tie.Need-enum-told
-enum-told c = search needs
 
 returns-2 : tie.Need-returns-2
 unfolding snapOf
@@ -40,11 +25,11 @@ pub snap-spec : {M : Type 1} → statement M
 snap-spec =
     tie.close
     (tie.spec
-    slice-aggregate-same
-    same-requires
+    (λ c. search needs)
+    (λ c κs. search needs)
     returns
-    number-requires
-    enum-known-n
-    enum-told
+    (λ c κs. search needs)
+    (λ c. search needs)
+    (λ c. search needs)
     returns-2
     returns-3)

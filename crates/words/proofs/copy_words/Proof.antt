@@ -6,12 +6,6 @@ use Rattle.words.proofs.Laws.{paste-all}
 use Rattle.words.proofs.copy_words.Statement.{statement}
 use Rattle.words.proofs.copy_words.Tie as tie
 
-copy-in-requires : tie.Need-copy-in-requires
-copy-in-requires c κs = search needs
-
-same-length : tie.Need-same-length
-same-length c = search needs
-
 returns : tie.Need-returns
 returns c =
     let k = c .before .before in
@@ -19,4 +13,4 @@ returns c =
     k .copy-in .ensures ∙ paste-all (now (st .args .dst)) (now (st .args .src)) (st .pre)
 
 pub copy-words-spec : {M : Type 1} → statement M
-copy-words-spec = tie.close (tie.spec copy-in-requires same-length returns)
+copy-words-spec = tie.close (tie.spec (λ c κs. search needs) (λ c. search needs) returns)

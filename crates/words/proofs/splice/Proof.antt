@@ -4,30 +4,6 @@ use borrow.Author.Needs.{needs}
 use Rattle.words.proofs.splice.Statement.{statement}
 use Rattle.words.proofs.splice.Tie as tie
 
-add-from : tie.Need-add-from
-add-from c = search needs
-
-sub-n : tie.Need-sub-n
-sub-n c = search needs
-
-add-to : tie.Need-add-to
-add-to c = search needs
-
-copy-within-requires : tie.Need-copy-within-requires
-copy-within-requires c κs = search needs
-
-copy-in-requires : tie.Need-copy-in-requires
-copy-in-requires c κs = search needs
-
-add-clear : tie.Need-add-clear
-add-clear c = search needs
-
-clear-requires : tie.Need-clear-requires
-clear-requires c κs = search needs
-
-same-length : tie.Need-same-length
-same-length c = search needs
-
 returns : tie.Need-returns
 returns c =
     let cl = c .before .before in
@@ -43,12 +19,12 @@ pub splice-spec : {M : Type 1} → statement M
 splice-spec =
     tie.close
     (tie.spec
-    add-from
-    sub-n
-    add-to
-    copy-within-requires
-    copy-in-requires
-    add-clear
-    clear-requires
-    same-length
+    (λ c. search needs)
+    (λ c. search needs)
+    (λ c. search needs)
+    (λ c κs. search needs)
+    (λ c κs. search needs)
+    (λ c. search needs)
+    (λ c κs. search needs)
+    (λ c. search needs)
     returns)

@@ -16,21 +16,6 @@ Inv-loop s from all₀ i₀ all i = (eqb all 0 && allZero (drop i s)) ≡ allZer
 abbrev μ-loop : tie.MeasureT-loop
 μ-loop s from all₀ i₀ all i = length s - i
 
-loop-holds : tie.Need-loop-holds Inv-loop μ-loop
-loop-holds c = refl
-
-mul-all : tie.Need-mul-all Inv-loop μ-loop
-mul-all c = omega arith
-
-shared-slice-read-all : tie.Need-shared-slice-read-all Inv-loop μ-loop
-shared-slice-read-all c = omega arith
-
-add-i : tie.Need-add-i Inv-loop μ-loop
-add-i c = omega arith
-
-loop-less : tie.Need-loop-less Inv-loop μ-loop
-loop-less c = omega arith
-
 loop-again : tie.Need-loop-again Inv-loop μ-loop
 loop-again c =
     let l = c .before .before in
@@ -47,10 +32,10 @@ zero-from-spec =
     (tie.spec
     Inv-loop
     μ-loop
-    loop-holds
-    mul-all
-    shared-slice-read-all
-    add-i
-    loop-less
+    (λ c. refl)
+    (λ c. omega arith)
+    (λ c. omega arith)
+    (λ c. omega arith)
+    (λ c. omega arith)
     loop-again
     returns)

@@ -8,12 +8,6 @@ use borrow.Author.Needs.{needs}
 use Rattle.compaction.proofs.inner.past_decided.Statement.{statement}
 use Rattle.compaction.proofs.inner.past_decided.Tie as tie
 
-enum-told : tie.Need-enum-told
-enum-told c = search needs
-
-enum-known-upto : tie.Need-enum-known-upto
-enum-known-upto c = search needs
-
 returns : tie.Need-returns
 returns c = ap (λ (u : Upto). pastDecided (uptoOf u) (numbersIn (c .before .before .args .index))) (sym (c .enum-told .given .1))
 
@@ -23,4 +17,4 @@ returns-2 c =
     ap (λ (u : Upto). pastDecided (uptoOf u) (numbersIn (st .args .index))) (sym (c .before .before .before .upto .given .1))
 
 pub past-decided-spec : {M : Type 1} → statement M
-past-decided-spec = tie.close (tie.spec enum-told enum-known-upto returns returns-2)
+past-decided-spec = tie.close (tie.spec (λ c. search needs) (λ c. search needs) returns returns-2)

@@ -19,15 +19,6 @@ returns-2 c =
     let h : a .words < a .n * width = omega arith in
     simp (eq-eqb _ _ (c .before .if1 .left), lt-leb _ _ h)
 
-places-formed-requires : tie.Need-places-formed-requires
-places-formed-requires c κs = search needs
-
-mul-zero-from : tie.Need-mul-zero-from
-mul-zero-from c = search needs
-
-zero-from-requires : tie.Need-zero-from-requires
-zero-from-requires c κs = search needs
-
 returns-3 : tie.Need-returns-3
 unfolding storedIn
 returns-3 c =
@@ -38,4 +29,10 @@ returns-3 c =
 pub laid-out-spec : {M : Type 1} → statement M
 laid-out-spec =
     tie.close
-    (tie.spec returns returns-2 places-formed-requires mul-zero-from zero-from-requires returns-3)
+    (tie.spec
+    returns
+    returns-2
+    (λ c κs. search needs)
+    (λ c. search needs)
+    (λ c κs. search needs)
+    returns-3)

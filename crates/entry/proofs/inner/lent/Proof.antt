@@ -4,12 +4,6 @@ use borrow.Author.Needs.{needs}
 use Rattle.entry.proofs.inner.lent.Statement.{statement}
 use Rattle.entry.proofs.inner.lent.Tie as tie
 
-enum-known-said : tie.Need-enum-known-said
-enum-known-said c = search needs
-
-enum-told : tie.Need-enum-told
-enum-told c = search needs
-
 returns : tie.Need-returns
 returns c = rw (c .enum-told .given .1) (lent-removed (c .before .before .args .key))
 
@@ -24,4 +18,4 @@ returns-3 c =
     rw (k .said .given .1) (lent-none (k .before .before .args .key) _ (c .if1 .left))
 
 pub lent-spec : {M : Type 1} → statement M
-lent-spec = tie.close (tie.spec enum-known-said enum-told returns returns-2 returns-3)
+lent-spec = tie.close (tie.spec (λ c. search needs) (λ c. search needs) returns returns-2 returns-3)

@@ -4,17 +4,11 @@ use borrow.Author.Needs.{needs}
 use Rattle.entry.proofs.inner.places_formed.Statement.{statement}
 use Rattle.entry.proofs.inner.places_formed.Tie as tie
 
-joined-requires : tie.Need-joined-requires
-joined-requires c κs = search needs
-
 returns : tie.Need-returns
 returns c = sym (c .before .joined .ensures (c .if1 .taken))
-
-one-by-one-requires : tie.Need-one-by-one-requires
-one-by-one-requires c κs = search needs
 
 returns-2 : tie.Need-returns-2
 returns-2 c = search needs
 
 pub places-formed-spec : {M : Type 1} → statement M
-places-formed-spec = tie.close (tie.spec joined-requires returns one-by-one-requires returns-2)
+places-formed-spec = tie.close (tie.spec (λ c κs. search needs) returns (λ c κs. search needs) returns-2)

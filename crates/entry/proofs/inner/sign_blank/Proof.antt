@@ -8,18 +8,6 @@ use borrow.Author.Needs.{needs}
 use Rattle.entry.proofs.inner.sign_blank.Statement.{statement}
 use Rattle.entry.proofs.inner.sign_blank.Tie as tie
 
-slice-aggregate-zero-from : tie.Need-slice-aggregate-zero-from
-slice-aggregate-zero-from c = search needs
-
-zero-from-requires : tie.Need-zero-from-requires
-zero-from-requires c κs = search needs
-
-slice-aggregate-zero-bytes-from : tie.Need-slice-aggregate-zero-bytes-from
-slice-aggregate-zero-bytes-from c = search needs
-
-zero-bytes-from-requires : tie.Need-zero-bytes-from-requires
-zero-bytes-from-requires c κs = search needs
-
 returns : tie.Need-returns
 unfolding signBlank blank
 returns c =
@@ -32,8 +20,8 @@ pub sign-blank-spec : {M : Type 1} → statement M
 sign-blank-spec =
     tie.close
     (tie.spec
-    slice-aggregate-zero-from
-    zero-from-requires
-    slice-aggregate-zero-bytes-from
-    zero-bytes-from-requires
+    (λ c. search needs)
+    (λ c κs. search needs)
+    (λ c. search needs)
+    (λ c κs. search needs)
     returns)

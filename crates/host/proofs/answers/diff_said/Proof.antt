@@ -9,30 +9,6 @@ use borrow.Author.Needs.{needs}
 use Rattle.host.proofs.answers.diff_said.Statement.{statement}
 use Rattle.host.proofs.answers.diff_said.Tie as tie
 
-enum-known-answer : tie.Need-enum-known-answer
-enum-known-answer c = search needs
-
-tell-requires : tie.Need-tell-requires
-tell-requires c κs = search needs
-
-enum-known-answer-2 : tie.Need-enum-known-answer-2
-enum-known-answer-2 c = search needs
-
-tell-requires-2 : tie.Need-tell-requires-2
-tell-requires-2 c κs = search needs
-
-enum-known-answer-3 : tie.Need-enum-known-answer-3
-enum-known-answer-3 c = search needs
-
-tell-requires-3 : tie.Need-tell-requires-3
-tell-requires-3 c κs = search needs
-
-enum-known-answer-4 : tie.Need-enum-known-answer-4
-enum-known-answer-4 c = search needs
-
-refuse-requires : tie.Need-refuse-requires
-refuse-requires c κs = search needs
-
 returns : tie.Need-returns
 returns c = λ (out : List ℕ). rw (c .before .before .answer .given .1) (c .tell .ensures)
 
@@ -49,14 +25,14 @@ pub diff-said-spec : {M : Type 1} → statement M
 diff-said-spec =
     tie.close
     (tie.spec
-    enum-known-answer
-    tell-requires
-    enum-known-answer-2
-    tell-requires-2
-    enum-known-answer-3
-    tell-requires-3
-    enum-known-answer-4
-    refuse-requires
+    (λ c. search needs)
+    (λ c κs. search needs)
+    (λ c. search needs)
+    (λ c κs. search needs)
+    (λ c. search needs)
+    (λ c κs. search needs)
+    (λ c. search needs)
+    (λ c κs. search needs)
     returns
     returns-2
     returns-3

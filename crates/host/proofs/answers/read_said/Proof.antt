@@ -3,30 +3,6 @@ use borrow.Author.Needs.{needs}
 use Rattle.host.proofs.answers.read_said.Statement.{statement}
 use Rattle.host.proofs.answers.read_said.Tie as tie
 
-enum-told : tie.Need-enum-told
-enum-told c = search needs
-
-show-none-requires : tie.Need-show-none-requires
-show-none-requires c κs = search needs
-
-enum-known-a : tie.Need-enum-known-a
-enum-known-a c = search needs
-
-run-said-requires : tie.Need-run-said-requires
-run-said-requires c κs = search needs
-
-enum-known-a-2 : tie.Need-enum-known-a-2
-enum-known-a-2 c = search needs
-
-number-requires : tie.Need-number-requires
-number-requires c κs = search needs
-
-carried-requires : tie.Need-carried-requires
-carried-requires c κs = search needs
-
-show-none-requires-2 : tie.Need-show-none-requires-2
-show-none-requires-2 c κs = search needs
-
 returns : tie.Need-returns
 returns c = λ (x : Raw). rw (c .before .enum-told .given .1) (c .show-none .ensures)
 
@@ -41,14 +17,14 @@ pub read-said-spec : {M : Type 1} → statement M
 read-said-spec =
     tie.close
     (tie.spec
-    enum-told
-    show-none-requires
-    enum-known-a
-    run-said-requires
-    enum-known-a-2
-    number-requires
-    carried-requires
-    show-none-requires-2
+    (λ c. search needs)
+    (λ c κs. search needs)
+    (λ c. search needs)
+    (λ c κs. search needs)
+    (λ c. search needs)
+    (λ c κs. search needs)
+    (λ c κs. search needs)
+    (λ c κs. search needs)
     returns
     returns-2
     returns-3)

@@ -4,24 +4,6 @@ use borrow.Author.Needs.{needs}
 use Rattle.host.proofs.answers.run_said.Statement.{statement}
 use Rattle.host.proofs.answers.run_said.Tie as tie
 
-enum-told : tie.Need-enum-told
-enum-told c = search needs
-
-show-requires : tie.Need-show-requires
-show-requires c κs = search needs
-
-enum-known-m : tie.Need-enum-known-m
-enum-known-m c = search needs
-
-show-requires-2 : tie.Need-show-requires-2
-show-requires-2 c κs = search needs
-
-enum-known-m-2 : tie.Need-enum-known-m-2
-enum-known-m-2 c = search needs
-
-show-requires-3 : tie.Need-show-requires-3
-show-requires-3 c κs = search needs
-
 returns : tie.Need-returns
 returns c = λ (x : Raw). rw (c .before .enum-told .given .1) (c .show .ensures x)
 
@@ -35,12 +17,12 @@ pub run-said-spec : {M : Type 1} → statement M
 run-said-spec =
     tie.close
     (tie.spec
-    enum-told
-    show-requires
-    enum-known-m
-    show-requires-2
-    enum-known-m-2
-    show-requires-3
+    (λ c. search needs)
+    (λ c κs. search needs)
+    (λ c. search needs)
+    (λ c κs. search needs)
+    (λ c. search needs)
+    (λ c κs. search needs)
     returns
     returns-2
     returns-3)

@@ -5,18 +5,6 @@ use borrow.Author.Needs.{needs}
 use Rattle.host.proofs.answers.settled_said.Statement.{statement}
 use Rattle.host.proofs.answers.settled_said.Tie as tie
 
-enum-told : tie.Need-enum-told
-enum-told c = search needs
-
-tell-requires : tie.Need-tell-requires
-tell-requires c κs = search needs
-
-enum-known-answer : tie.Need-enum-known-answer
-enum-known-answer c = search needs
-
-refuse-requires : tie.Need-refuse-requires
-refuse-requires c κs = search needs
-
 returns : tie.Need-returns
 returns c = cc
 
@@ -26,4 +14,10 @@ returns-2 c = c .refuse .ensures ∙ sym (ap (λ a. plain nothing (settled a)) (
 pub settled-said-spec : {M : Type 1} → statement M
 settled-said-spec =
     tie.close
-    (tie.spec enum-told tell-requires enum-known-answer refuse-requires returns returns-2)
+    (tie.spec
+    (λ c. search needs)
+    (λ c κs. search needs)
+    (λ c. search needs)
+    (λ c κs. search needs)
+    returns
+    returns-2)

@@ -5,18 +5,6 @@ use borrow.Author.Needs.{needs}
 use Rattle.host.proofs.answers.span_said.Statement.{statement}
 use Rattle.host.proofs.answers.span_said.Tie as tie
 
-enum-known-answer : tie.Need-enum-known-answer
-enum-known-answer c = search needs
-
-tell-requires : tie.Need-tell-requires
-tell-requires c κs = search needs
-
-enum-known-answer-2 : tie.Need-enum-known-answer-2
-enum-known-answer-2 c = search needs
-
-refuse-requires : tie.Need-refuse-requires
-refuse-requires c κs = search needs
-
 returns : tie.Need-returns
 returns c = λ (log : List ℕ). rw (c .before .before .answer .given .1, entries-length) (c .tell .ensures)
 
@@ -27,9 +15,9 @@ pub span-said-spec : {M : Type 1} → statement M
 span-said-spec =
     tie.close
     (tie.spec
-    enum-known-answer
-    tell-requires
-    enum-known-answer-2
-    refuse-requires
+    (λ c. search needs)
+    (λ c κs. search needs)
+    (λ c. search needs)
+    (λ c κs. search needs)
     returns
     returns-2)

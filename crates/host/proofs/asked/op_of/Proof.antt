@@ -2,11 +2,8 @@ use borrow.Author.Needs.{needs}
 use Rattle.host.proofs.asked.op_of.Statement.{statement}
 use Rattle.host.proofs.asked.op_of.Tie as tie
 
-kind-of-requires : tie.Need-kind-of-requires
-kind-of-requires c κs = search needs
-
 returns : tie.Need-returns
 returns c = cc
 
 pub op-of-spec : {M : Type 1} → statement M
-op-of-spec = tie.close (tie.spec kind-of-requires returns)
+op-of-spec = tie.close (tie.spec (λ c κs. search needs) returns)

@@ -12,18 +12,6 @@ use borrow.Author.Needs.{needs}
 use Rattle.host.proofs.inner.kotuseraw_inner_append_entry_with_batching.Statement.{statement}
 use Rattle.host.proofs.inner.kotuseraw_inner_append_entry_with_batching.Tie as tie
 
-entry-said-requires : tie.Need-entry-said-requires
-entry-said-requires c κs = search needs
-
-append-entry-with-batching-requires : tie.Need-append-entry-with-batching-requires
-append-entry-with-batching-requires c κs = search needs
-
-appended-reply-requires : tie.Need-appended-reply-requires
-appended-reply-requires c κs = search needs
-
-same-length : tie.Need-same-length
-same-length c = search needs
-
 returns : tie.Need-returns
 returns c =
     let x = c .before .before .before .before .before .before .before .before .args in
@@ -34,8 +22,8 @@ pub kotuseraw-inner-append-entry-with-batching-spec : {M : Type 1} → statement
 kotuseraw-inner-append-entry-with-batching-spec =
     tie.close
     (tie.spec
-    entry-said-requires
-    append-entry-with-batching-requires
-    appended-reply-requires
-    same-length
+    (λ c κs. search needs)
+    (λ c κs. search needs)
+    (λ c κs. search needs)
+    (λ c. search needs)
     returns)

@@ -12,9 +12,6 @@ use Rattle.host.proofs.inner.kotuseraw_inner_get_accepted_idx.Tie as ti
 accepted-requires : tie.Need-accepted-requires
 accepted-requires c κs = sound-small _ (c .before .before .pre .numbers)
 
-accepted-said-requires : tie.Need-accepted-said-requires
-accepted-said-requires c κs = search needs
-
 returns : tie.Need-returns
 returns c =
     let e = c .before in
@@ -23,4 +20,4 @@ returns c =
     c .accepted-said .ensures ∙ ap (plain aNumber) (asked-of acceptedOf x (st .pre .okay) (e .accepted .result) (e .accepted .ensures))
 
 pub kotuseraw-inner-get-accepted-idx-spec : {M : Type 1} → statement M
-kotuseraw-inner-get-accepted-idx-spec = tie.close (tie.spec accepted-requires accepted-said-requires returns)
+kotuseraw-inner-get-accepted-idx-spec = tie.close (tie.spec accepted-requires (λ c κs. search needs) returns)

@@ -12,9 +12,6 @@ use Rattle.host.proofs.inner.kotuseraw_inner_get_decided_idx_without_st
 log-decided-requires : tie.Need-log-decided-requires
 log-decided-requires c κs = sound-small _ (c .before .before .pre .numbers)
 
-accepted-said-requires : tie.Need-accepted-said-requires
-accepted-said-requires c κs = search needs
-
 returns : tie.Need-returns
 returns c =
     let e = c .before in
@@ -23,4 +20,9 @@ returns c =
     c .accepted-said .ensures ∙ ap (plain aNumber) (asked-of logDecided x (st .pre .okay) (e .log-decided .result) (e .log-decided .ensures))
 
 pub kotuseraw-inner-get-decided-idx-without-stopsign-spec : {M : Type 1} → statement M
-kotuseraw-inner-get-decided-idx-without-stopsign-spec = tie.close (tie.spec log-decided-requires accepted-said-requires returns)
+kotuseraw-inner-get-decided-idx-without-stopsign-spec =
+    tie.close
+    (tie.spec
+    log-decided-requires
+    (λ c κs. search needs)
+    returns)

@@ -4,15 +4,8 @@ use borrow.Author.Needs.{needs}
 use Rattle.host.proofs.inner.kotuseraw_inner_set_decided_idx.Statement.{statement}
 use Rattle.host.proofs.inner.kotuseraw_inner_set_decided_idx.Tie as tie
 
-set-decided-idx-requires : tie.Need-set-decided-idx-requires
-set-decided-idx-requires c κs = search needs
-
-settled-reply-requires : tie.Need-settled-reply-requires
-settled-reply-requires c κs = search needs
-
 returns : tie.Need-returns
 returns c = carry nothing (c .settled-reply .ensures) (c .before .set-decided-idx .ensures)
 
 pub kotuseraw-inner-set-decided-idx-spec : {M : Type 1} → statement M
-kotuseraw-inner-set-decided-idx-spec =
-    tie.close (tie.spec set-decided-idx-requires settled-reply-requires returns)
+kotuseraw-inner-set-decided-idx-spec = tie.close (tie.spec (λ c κs. search needs) (λ c κs. search needs) returns)

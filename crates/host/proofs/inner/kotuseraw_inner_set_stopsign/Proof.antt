@@ -4,15 +4,8 @@ use borrow.Author.Needs.{needs}
 use Rattle.host.proofs.inner.kotuseraw_inner_set_stopsign.Statement.{statement}
 use Rattle.host.proofs.inner.kotuseraw_inner_set_stopsign.Tie as tie
 
-set-stopsign-requires : tie.Need-set-stopsign-requires
-set-stopsign-requires c κs = search needs
-
-accepted-reply-requires : tie.Need-accepted-reply-requires
-accepted-reply-requires c κs = search needs
-
 returns : tie.Need-returns
 returns c = carry aNumber (c .accepted-reply .ensures) (c .before .set-stopsign .ensures)
 
 pub kotuseraw-inner-set-stopsign-spec : {M : Type 1} → statement M
-kotuseraw-inner-set-stopsign-spec =
-    tie.close (tie.spec set-stopsign-requires accepted-reply-requires returns)
+kotuseraw-inner-set-stopsign-spec = tie.close (tie.spec (λ c κs. search needs) (λ c κs. search needs) returns)

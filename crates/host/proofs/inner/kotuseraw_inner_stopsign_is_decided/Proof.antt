@@ -12,9 +12,6 @@ use Rattle.host.proofs.inner.kotuseraw_inner_stopsign_is_decided.Tie as
 stop-decided-requires : tie.Need-stop-decided-requires
 stop-decided-requires c κs = sound-small _ (c .before .before .pre .numbers)
 
-flag-said-requires : tie.Need-flag-said-requires
-flag-said-requires c κs = search needs
-
 returns : tie.Need-returns
 returns c =
     let e = c .before in
@@ -23,4 +20,4 @@ returns c =
     c .flag-said .ensures ∙ ap (plain aFlag) (asked-of stopDecided x (st .pre .okay) (e .stop-decided .result) (e .stop-decided .ensures))
 
 pub kotuseraw-inner-stopsign-is-decided-spec : {M : Type 1} → statement M
-kotuseraw-inner-stopsign-is-decided-spec = tie.close (tie.spec stop-decided-requires flag-said-requires returns)
+kotuseraw-inner-stopsign-is-decided-spec = tie.close (tie.spec stop-decided-requires (λ c κs. search needs) returns)

@@ -4,18 +4,14 @@ use borrow.Author.Needs.{needs}
 use Rattle.host.proofs.inner.kotuseraw_inner_try_trim.Statement.{statement}
 use Rattle.host.proofs.inner.kotuseraw_inner_try_trim.Tie as tie
 
-trim-at-requires : tie.Need-trim-at-requires
-trim-at-requires c κs = search needs
-
-settled-reply-requires : tie.Need-settled-reply-requires
-settled-reply-requires c κs = search needs
-
-same-length : tie.Need-same-length
-same-length c = search needs
-
 returns : tie.Need-returns
 returns c = carry nothing (c .settled-reply .ensures) (c .before .before .before .trim-at .ensures)
 
 pub kotuseraw-inner-try-trim-spec : {M : Type 1} → statement M
 kotuseraw-inner-try-trim-spec =
-    tie.close (tie.spec trim-at-requires settled-reply-requires same-length returns)
+    tie.close
+    (tie.spec
+    (λ c κs. search needs)
+    (λ c κs. search needs)
+    (λ c. search needs)
+    returns)

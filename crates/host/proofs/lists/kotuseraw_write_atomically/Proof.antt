@@ -15,24 +15,6 @@ use borrow.Author.Needs.{needs}
 use Rattle.host.proofs.lists.kotuseraw_write_atomically.Statement.{statement}
 use Rattle.host.proofs.lists.kotuseraw_write_atomically.Tie as tie
 
-counted-in-requires : tie.Need-counted-in-requires
-counted-in-requires c κs = search needs
-
-nine-of-requires : tie.Need-nine-of-requires
-nine-of-requires c κs = search needs
-
-write-atomically-requires : tie.Need-write-atomically-requires
-write-atomically-requires c κs = search needs
-
-settled-reply-requires : tie.Need-settled-reply-requires
-settled-reply-requires c κs = search needs
-
-same-length : tie.Need-same-length
-same-length c = search needs
-
-same-length-2 : tie.Need-same-length-2
-same-length-2 c = search needs
-
 returns : tie.Need-returns
 returns c =
     let x = c .before .before .before .before .before .before .before .before .before .before .before .before .before .before .args in
@@ -46,10 +28,10 @@ pub kotuseraw-write-atomically-spec : {M : Type 1} → statement M
 kotuseraw-write-atomically-spec =
     tie.close
     (tie.spec
-    counted-in-requires
-    nine-of-requires
-    write-atomically-requires
-    settled-reply-requires
-    same-length
-    same-length-2
+    (λ c κs. search needs)
+    (λ c κs. search needs)
+    (λ c κs. search needs)
+    (λ c κs. search needs)
+    (λ c. search needs)
+    (λ c. search needs)
     returns)

@@ -11,21 +11,6 @@ use borrow.Author.Needs.{needs}
 use Rattle.host.proofs.lists.kotuseraw_write_list.Statement.{statement}
 use Rattle.host.proofs.lists.kotuseraw_write_list.Tie as tie
 
-list-of-requires : tie.Need-list-of-requires
-list-of-requires c κs = search needs
-
-write-list-requires : tie.Need-write-list-requires
-write-list-requires c κs = search needs
-
-settled-reply-requires : tie.Need-settled-reply-requires
-settled-reply-requires c κs = search needs
-
-same-length : tie.Need-same-length
-same-length c = search needs
-
-same-length-2 : tie.Need-same-length-2
-same-length-2 c = search needs
-
 returns : tie.Need-returns
 returns c =
     let x = c .before .before .before .before .before .before .before .before .before .before .before .before .before .args in
@@ -37,9 +22,9 @@ pub kotuseraw-write-list-spec : {M : Type 1} → statement M
 kotuseraw-write-list-spec =
     tie.close
     (tie.spec
-    list-of-requires
-    write-list-requires
-    settled-reply-requires
-    same-length
-    same-length-2
+    (λ c κs. search needs)
+    (λ c κs. search needs)
+    (λ c κs. search needs)
+    (λ c. search needs)
+    (λ c. search needs)
     returns)

@@ -10,12 +10,6 @@ append-entries-and-get-accepted-idx-requires :
     tie.Need-append-entries-and-get-accepted-idx-requires
 append-entries-and-get-accepted-idx-requires c κs = search needs
 
-accepted-idx-reply-requires : tie.Need-accepted-idx-reply-requires
-accepted-idx-reply-requires c κs = search needs
-
-same-length : tie.Need-same-length
-same-length c = search needs
-
 returns : tie.Need-returns
 returns c = carry maybeNumber (c .accepted-idx-reply .ensures) (c .before .before .before .append-entries-and-get-accepted-idx .ensures)
 
@@ -24,6 +18,6 @@ kotuseraw-append-entries-and-get-accepted-idx-spec =
     tie.close
     (tie.spec
     append-entries-and-get-accepted-idx-requires
-    accepted-idx-reply-requires
-    same-length
+    (λ c κs. search needs)
+    (λ c. search needs)
     returns)

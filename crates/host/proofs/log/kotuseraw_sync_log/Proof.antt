@@ -11,21 +11,6 @@ use borrow.Author.Needs.{needs}
 use Rattle.host.proofs.log.kotuseraw_sync_log.Statement.{statement}
 use Rattle.host.proofs.log.kotuseraw_sync_log.Tie as tie
 
-sync-of-requires : tie.Need-sync-of-requires
-sync-of-requires c κs = search needs
-
-sync-log-requires : tie.Need-sync-log-requires
-sync-log-requires c κs = search needs
-
-accepted-reply-requires : tie.Need-accepted-reply-requires
-accepted-reply-requires c κs = search needs
-
-same-length : tie.Need-same-length
-same-length c = search needs
-
-same-length-2 : tie.Need-same-length-2
-same-length-2 c = search needs
-
 returns : tie.Need-returns
 returns c =
     let x = c .before .before .before .before .before .before .before .before .before .before .before .before .before .args in
@@ -37,9 +22,9 @@ pub kotuseraw-sync-log-spec : {M : Type 1} → statement M
 kotuseraw-sync-log-spec =
     tie.close
     (tie.spec
-    sync-of-requires
-    sync-log-requires
-    accepted-reply-requires
-    same-length
-    same-length-2
+    (λ c κs. search needs)
+    (λ c κs. search needs)
+    (λ c κs. search needs)
+    (λ c. search needs)
+    (λ c. search needs)
     returns)

@@ -12,21 +12,6 @@ use borrow.Author.Needs.{needs}
 use Rattle.host.proofs.log.kotuseraw_try_snapshot.Statement.{statement}
 use Rattle.host.proofs.log.kotuseraw_try_snapshot.Tie as tie
 
-upto-requires : tie.Need-upto-requires
-upto-requires c κs = search needs
-
-try-snapshot-requires : tie.Need-try-snapshot-requires
-try-snapshot-requires c κs = search needs
-
-settled-reply-requires : tie.Need-settled-reply-requires
-settled-reply-requires c κs = search needs
-
-same-length : tie.Need-same-length
-same-length c = search needs
-
-same-length-2 : tie.Need-same-length-2
-same-length-2 c = search needs
-
 returns : tie.Need-returns
 returns c =
     let x = c .before .before .before .before .before .before .before .before .before .before .before .args in
@@ -37,9 +22,9 @@ pub kotuseraw-try-snapshot-spec : {M : Type 1} → statement M
 kotuseraw-try-snapshot-spec =
     tie.close
     (tie.spec
-    upto-requires
-    try-snapshot-requires
-    settled-reply-requires
-    same-length
-    same-length-2
+    (λ c κs. search needs)
+    (λ c κs. search needs)
+    (λ c κs. search needs)
+    (λ c. search needs)
+    (λ c. search needs)
     returns)

@@ -7,12 +7,6 @@ use borrow.Author.Needs.{needs}
 use Rattle.host.proofs.showing.copy_out.Statement.{statement}
 use Rattle.host.proofs.showing.copy_out.Tie as tie
 
-copy-in-requires : tie.Need-copy-in-requires
-copy-in-requires c κs = search needs
-
-same-length : tie.Need-same-length
-same-length c = search needs
-
 returns : tie.Need-returns
 returns c =
     let a = c .before .before .before .before .before .before .before .args in
@@ -24,4 +18,4 @@ returns-2 c =
     sym (rw (lt-leb (length (now (a .part))) (length (now (a .out))) (c .if1 .left)))
 
 pub copy-out-spec : {M : Type 1} → statement M
-copy-out-spec = tie.close (tie.spec copy-in-requires same-length returns returns-2)
+copy-out-spec = tie.close (tie.spec (λ c κs. search needs) (λ c. search needs) returns returns-2)

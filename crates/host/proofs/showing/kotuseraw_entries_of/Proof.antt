@@ -7,15 +7,6 @@ use borrow.Author.Needs.{needs}
 use Rattle.host.proofs.showing.kotuseraw_entries_of.Statement.{statement}
 use Rattle.host.proofs.showing.kotuseraw_entries_of.Tie as tie
 
-entries-of-requires : tie.Need-entries-of-requires
-entries-of-requires c κs = search needs
-
-copy-out-requires : tie.Need-copy-out-requires
-copy-out-requires c κs = search needs
-
-same-length : tie.Need-same-length
-same-length c = search needs
-
 returns : tie.Need-returns
 returns c =
     let a = c .before .before .before .before .before .before .before .args in
@@ -23,4 +14,9 @@ returns c =
 
 pub kotuseraw-entries-of-spec : {M : Type 1} → statement M
 kotuseraw-entries-of-spec =
-    tie.close (tie.spec entries-of-requires copy-out-requires same-length returns)
+    tie.close
+    (tie.spec
+    (λ c κs. search needs)
+    (λ c κs. search needs)
+    (λ c. search needs)
+    returns)

@@ -9,18 +9,6 @@ use borrow.Author.Needs.{needs}
 use Rattle.host.proofs.showing.kotuseraw_entries_shown.Statement.{statement}
 use Rattle.host.proofs.showing.kotuseraw_entries_shown.Tie as tie
 
-reply-of-requires : tie.Need-reply-of-requires
-reply-of-requires c κs = search needs
-
-entries-shown-requires : tie.Need-entries-shown-requires
-entries-shown-requires c κs = search needs
-
-copy-out-requires : tie.Need-copy-out-requires
-copy-out-requires c κs = search needs
-
-same-length : tie.Need-same-length
-same-length c = search needs
-
 returns : tie.Need-returns
 returns c =
     let any = rawOf (freshLog 0) in
@@ -30,4 +18,9 @@ returns c =
 pub kotuseraw-entries-shown-spec : {M : Type 1} → statement M
 kotuseraw-entries-shown-spec =
     tie.close
-    (tie.spec reply-of-requires entries-shown-requires copy-out-requires same-length returns)
+    (tie.spec
+    (λ c κs. search needs)
+    (λ c κs. search needs)
+    (λ c κs. search needs)
+    (λ c. search needs)
+    returns)

@@ -4,18 +4,6 @@ use borrow.Author.Needs.{needs}
 use Rattle.host.proofs.showing.kotuseraw_read.Statement.{statement}
 use Rattle.host.proofs.showing.kotuseraw_read.Tie as tie
 
-start-of-requires : tie.Need-start-of-requires
-start-of-requires c κs = search needs
-
-stop-of-requires : tie.Need-stop-of-requires
-stop-of-requires c κs = search needs
-
-read-reply-requires : tie.Need-read-reply-requires
-read-reply-requires c κs = search needs
-
-read-said-requires : tie.Need-read-said-requires
-read-said-requires c κs = search needs
-
 returns : tie.Need-returns
 returns c =
     let a = c .before .before .before .before .before .before .args in
@@ -24,4 +12,9 @@ returns c =
 pub kotuseraw-read-spec : {M : Type 1} → statement M
 kotuseraw-read-spec =
     tie.close
-    (tie.spec start-of-requires stop-of-requires read-reply-requires read-said-requires returns)
+    (tie.spec
+    (λ c κs. search needs)
+    (λ c κs. search needs)
+    (λ c κs. search needs)
+    (λ c κs. search needs)
+    returns)

@@ -13,21 +13,6 @@ use borrow.Author.Needs.{needs}
 use Rattle.host.proofs.showing.kotuseraw_read_entries.Statement.{statement}
 use Rattle.host.proofs.showing.kotuseraw_read_entries.Tie as tie
 
-start-of-requires : tie.Need-start-of-requires
-start-of-requires c κs = search needs
-
-stop-of-requires : tie.Need-stop-of-requires
-stop-of-requires c κs = search needs
-
-read-entries-requires : tie.Need-read-entries-requires
-read-entries-requires c κs = search needs
-
-copy-out-requires : tie.Need-copy-out-requires
-copy-out-requires c κs = search needs
-
-same-length : tie.Need-same-length
-same-length c = search needs
-
 returns : tie.Need-returns
 returns c =
     let a = c .before .before .before .before .before .before .before .before .before .before .args in
@@ -38,9 +23,9 @@ pub kotuseraw-read-entries-spec : {M : Type 1} → statement M
 kotuseraw-read-entries-spec =
     tie.close
     (tie.spec
-    start-of-requires
-    stop-of-requires
-    read-entries-requires
-    copy-out-requires
-    same-length
+    (λ c κs. search needs)
+    (λ c κs. search needs)
+    (λ c κs. search needs)
+    (λ c κs. search needs)
+    (λ c. search needs)
     returns)

@@ -4,15 +4,6 @@ use borrow.Author.Needs.{needs}
 use Rattle.host.proofs.snapshots.kotuseraw_create_diff_snapshot.Statement.{statement}
 use Rattle.host.proofs.snapshots.kotuseraw_create_diff_snapshot.Tie as tie
 
-create-diff-snapshot-requires : tie.Need-create-diff-snapshot-requires
-create-diff-snapshot-requires c κs = search needs
-
-diff-said-requires : tie.Need-diff-said-requires
-diff-said-requires c κs = search needs
-
-same-length : tie.Need-same-length
-same-length c = search needs
-
 returns : tie.Need-returns
 returns c =
     let d = c .before .before .before .create-diff-snapshot .ensures in
@@ -20,4 +11,9 @@ returns c =
 
 pub kotuseraw-create-diff-snapshot-spec : {M : Type 1} → statement M
 kotuseraw-create-diff-snapshot-spec =
-    tie.close (tie.spec create-diff-snapshot-requires diff-said-requires same-length returns)
+    tie.close
+    (tie.spec
+    (λ c κs. search needs)
+    (λ c κs. search needs)
+    (λ c. search needs)
+    returns)

@@ -11,12 +11,6 @@ use borrow.Author.Needs.{needs}
 use Rattle.internal_storage.proofs.append.append_entries_with_batching.Statement.{statement}
 use Rattle.internal_storage.proofs.append.append_entries_with_batching.Tie as tie
 
-well-formed-requires : tie.Need-well-formed-requires
-well-formed-requires c κs = search needs
-
-same-length : tie.Need-same-length
-same-length c = search needs
-
 returns : tie.Need-returns
 returns c =
     let st = c .before .before .before .before .before .before in
@@ -28,11 +22,16 @@ append-entries-with-batching-requires c κs =
     let st = e .before .before .before .before .before .before in
     ready-of (raw (st .args .index) (now (st .args .log)) (now (st .args .snapshot))) (sym (e .before .well-formed .ensures) ∙ not-false _ (e .if1 .left))
 
-same-length-2 : tie.Need-same-length-2
-same-length-2 c = search needs
-
 returns-2 : tie.Need-returns-2
 returns-2 c = search needs
 
 pub append-entries-with-batching-spec : {M : Type 1} → statement M
-append-entries-with-batching-spec = tie.close (tie.spec well-formed-requires same-length returns append-entries-with-batching-requires same-length-2 returns-2)
+append-entries-with-batching-spec =
+    tie.close
+    (tie.spec
+    (λ c κs. search needs)
+    (λ c. search needs)
+    returns
+    append-entries-with-batching-requires
+    (λ c. search needs)
+    returns-2)

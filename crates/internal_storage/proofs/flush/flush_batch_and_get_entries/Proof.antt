@@ -11,9 +11,6 @@ use borrow.Author.Needs.{needs}
 use Rattle.internal_storage.proofs.flush.flush_batch_and_get_entries.Statement.{statement}
 use Rattle.internal_storage.proofs.flush.flush_batch_and_get_entries.Tie as tie
 
-well-formed-requires : tie.Need-well-formed-requires
-well-formed-requires c κs = search needs
-
 returns : tie.Need-returns
 returns c =
     let st = c .before .before .before .before in
@@ -26,4 +23,10 @@ returns-2 : tie.Need-returns-2
 returns-2 c = search needs
 
 pub flush-batch-and-get-entries-spec : {M : Type 1} → statement M
-flush-batch-and-get-entries-spec = tie.close (tie.spec well-formed-requires returns flush-batch-and-get-entries-requires returns-2)
+flush-batch-and-get-entries-spec =
+    tie.close
+    (tie.spec
+    (λ c κs. search needs)
+    returns
+    flush-batch-and-get-entries-requires
+    returns-2)

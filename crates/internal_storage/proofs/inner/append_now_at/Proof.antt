@@ -24,20 +24,11 @@ pass e = ap verdictOf (sym (e .enum-told .given .1)) ∙ e .before .before .chec
 room : (e : tie.After-enum-told) → e .before .before .before .before .before .before .args .index .retained + e .before .before .before .before .before .before .args .index .batched + e .before .before .before .before .before .before .args .n ≤ entryRoom
 room e = append-room (e .before .before .before .before .before .before .args .n) (numbersIn (e .before .before .before .before .before .before .args .index)) (pass e)
 
-check-append-requires : tie.Need-check-append-requires
-check-append-requires c κs = search needs
-
-enum-known-check : tie.Need-enum-known-check
-enum-known-check c = search needs
-
 returns : tie.Need-returns
 returns c =
     let k = c .before .before .before in
     let st = k .before .before .before .before in
     now-refused (stateAt st) (st .pre .ready .okay) (st .args .n) (now (st .args .entries)) (st .pre .fine) _ _ (ap verdictOf (sym (c .before .check .given .1)) ∙ k .check-append .ensures)
-
-enum-told : tie.Need-enum-told
-enum-told c = search needs
 
 add-used : tie.Need-add-used
 add-used c = omega (arith, room (c .before))
@@ -64,9 +55,6 @@ accepted-requires c κs =
     let s = sound-small _ (st .pre .ready .numbers) in
     record { few = omega (arith, room e); waiting = s .waiting; low = s .low }
 
-same-length : tie.Need-same-length
-same-length c = search needs
-
 returns-2 : tie.Need-returns-2
 returns-2 c =
     let p = c .before .before .before .before in
@@ -78,15 +66,15 @@ pub append-now-at-spec : {M : Type 1} → statement M
 append-now-at-spec =
     tie.close
     (tie.spec
-    check-append-requires
-    enum-known-check
+    (λ c κs. search needs)
+    (λ c. search needs)
     returns
-    enum-told
+    (λ c. search needs)
     add-used
     mul-used
     mul-splice
     splice-requires
     add-next
     accepted-requires
-    same-length
+    (λ c. search needs)
     returns-2)

@@ -11,9 +11,6 @@ use borrow.Author.Needs.{needs}
 use Rattle.internal_storage.proofs.stop.append_stopsign.Statement.{statement}
 use Rattle.internal_storage.proofs.stop.append_stopsign.Tie as tie
 
-well-formed-requires : tie.Need-well-formed-requires
-well-formed-requires c κs = search needs
-
 returns : tie.Need-returns
 returns c =
     let st = c .before .before .before .before in
@@ -26,4 +23,4 @@ returns-2 : tie.Need-returns-2
 returns-2 c = search needs
 
 pub append-stopsign-spec : {M : Type 1} → statement M
-append-stopsign-spec = tie.close (tie.spec well-formed-requires returns append-stopsign-requires returns-2)
+append-stopsign-spec = tie.close (tie.spec (λ c κs. search needs) returns append-stopsign-requires returns-2)

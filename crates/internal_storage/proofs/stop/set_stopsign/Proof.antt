@@ -12,9 +12,6 @@ use borrow.Author.Needs.{needs}
 use Rattle.internal_storage.proofs.stop.set_stopsign.Statement.{statement}
 use Rattle.internal_storage.proofs.stop.set_stopsign.Tie as tie
 
-well-formed-requires : tie.Need-well-formed-requires
-well-formed-requires c κs = search needs
-
 returns : tie.Need-returns
 returns c =
     let st = c .before .before .before .before in
@@ -27,4 +24,4 @@ returns-2 : tie.Need-returns-2
 returns-2 c = search needs
 
 pub set-stopsign-spec : {M : Type 1} → statement M
-set-stopsign-spec = tie.close (tie.spec well-formed-requires returns set-stopsign-requires returns-2)
+set-stopsign-spec = tie.close (tie.spec (λ c κs. search needs) returns set-stopsign-requires returns-2)

@@ -6,9 +6,6 @@ use borrow.Author.Needs.{needs}
 use Rattle.reading.proofs.inner.between.Statement.{statement}
 use Rattle.reading.proofs.inner.between.Tie as tie
 
-end-requires : tie.Need-end-requires
-end-requires c κs = search needs
-
 returns : tie.Need-returns
 returns c = span-by _ _ _ _ (c .before .end .ensures) false (not-true _ (c .if1 .taken))
 
@@ -22,4 +19,4 @@ returns-2 : tie.Need-returns-2
 returns-2 c = span-by _ _ _ _ (c .before .end .ensures) true (not-false _ (c .if1 .left))
 
 pub between-spec : {M : Type 1} → statement M
-between-spec = tie.close (tie.spec end-requires returns sub-t11 sub-t13 returns-2)
+between-spec = tie.close (tie.spec (λ c κs. search needs) returns sub-t11 sub-t13 returns-2)

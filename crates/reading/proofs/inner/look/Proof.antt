@@ -39,12 +39,6 @@ newest-at-requires c κs =
     let st = e .before .before .before in
     look-inside (raw (st .args .index) (now (st .args .log)) (now (st .args .snapshot))) (st .pre) (st .args .key) (e .log-decided .result) (e .log-decided .ensures)
 
-enum-known-newest : tie.Need-enum-known-newest
-enum-known-newest c = search needs
-
-enum-told : tie.Need-enum-told
-enum-told c = search needs
-
 look-up-requires : tie.Need-look-up-requires
 look-up-requires c κs =
     let st = c .before .before .before .before .before .before .before in
@@ -66,9 +60,6 @@ said-at-requires c κs =
     let st = d .before .before .before in
     omega (arith, newest-is c .inside, look-inside (raw (st .args .index) (now (st .args .log)) (now (st .args .snapshot))) (st .pre) (st .args .key) (d .log-decided .result) (d .log-decided .ensures))
 
-found-of-requires : tie.Need-found-of-requires
-found-of-requires c κs = search needs
-
 returns-2 : tie.Need-returns-2
 returns-2 c =
     let e = c .before .before in
@@ -85,10 +76,10 @@ look-spec =
     log-decided-requires
     sub-n
     newest-at-requires
-    enum-known-newest
-    enum-told
+    (λ c. search needs)
+    (λ c. search needs)
     look-up-requires
     returns
     said-at-requires
-    found-of-requires
+    (λ c κs. search needs)
     returns-2)

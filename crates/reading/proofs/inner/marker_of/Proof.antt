@@ -6,18 +6,6 @@ use borrow.Author.Needs.{needs}
 use Rattle.reading.proofs.inner.marker_of.Statement.{statement}
 use Rattle.reading.proofs.inner.marker_of.Tie as tie
 
-enum-told : tie.Need-enum-told
-enum-told c = search needs
-
-compacted-marker-requires : tie.Need-compacted-marker-requires
-compacted-marker-requires c κs = search needs
-
-enum-told-2 : tie.Need-enum-told-2
-enum-told-2 c = search needs
-
-enum-told-3 : tie.Need-enum-told-3
-enum-told-3 c = search needs
-
 returns : tie.Need-returns
 returns c = c .compacted-marker .ensures ∙ sym (ap (λ (e : IndexEntry). markerAt e (c .before .before .before .args .index)) (c .before .enum-told .given .1))
 
@@ -31,10 +19,10 @@ pub marker-of-spec : {M : Type 1} → statement M
 marker-of-spec =
     tie.close
     (tie.spec
-    enum-told
-    compacted-marker-requires
-    enum-told-2
-    enum-told-3
+    (λ c. search needs)
+    (λ c κs. search needs)
+    (λ c. search needs)
+    (λ c. search needs)
     returns
     returns-2
     returns-3)

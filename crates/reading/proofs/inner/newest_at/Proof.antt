@@ -44,57 +44,6 @@ four e =
 loop-holds : tie.Need-loop-holds Inv-loop μ-loop
 loop-holds c = record { within = omega arith; newest = refl }
 
-newest-of-few-requires : tie.Need-newest-of-few-requires Inv-loop μ-loop
-newest-of-few-requires c κs = omega arith
-
-sub-a : tie.Need-sub-a Inv-loop μ-loop
-sub-a c = omega arith
-
-mul-ka : tie.Need-mul-ka Inv-loop μ-loop
-mul-ka c = omega arith
-
-mul-ka-2 : tie.Need-mul-ka-2 Inv-loop μ-loop
-mul-ka-2 c = omega arith
-
-shared-slice-read-ka : tie.Need-shared-slice-read-ka Inv-loop μ-loop
-shared-slice-read-ka c = omega arith
-
-sub-b : tie.Need-sub-b Inv-loop μ-loop
-sub-b c = omega arith
-
-mul-kb : tie.Need-mul-kb Inv-loop μ-loop
-mul-kb c = omega arith
-
-mul-kb-2 : tie.Need-mul-kb-2 Inv-loop μ-loop
-mul-kb-2 c = omega arith
-
-shared-slice-read-kb : tie.Need-shared-slice-read-kb Inv-loop μ-loop
-shared-slice-read-kb c = omega arith
-
-sub-c : tie.Need-sub-c Inv-loop μ-loop
-sub-c c = omega arith
-
-mul-kc : tie.Need-mul-kc Inv-loop μ-loop
-mul-kc c = omega arith
-
-mul-kc-2 : tie.Need-mul-kc-2 Inv-loop μ-loop
-mul-kc-2 c = omega arith
-
-shared-slice-read-kc : tie.Need-shared-slice-read-kc Inv-loop μ-loop
-shared-slice-read-kc c = omega arith
-
-mul-kd : tie.Need-mul-kd Inv-loop μ-loop
-mul-kd c = omega arith
-
-mul-kd-2 : tie.Need-mul-kd-2 Inv-loop μ-loop
-mul-kd-2 c = omega arith
-
-shared-slice-read-kd : tie.Need-shared-slice-read-kd Inv-loop μ-loop
-shared-slice-read-kd c = omega arith
-
-loop-less : tie.Need-loop-less Inv-loop μ-loop
-loop-less c = omega arith
-
 loop-again : tie.Need-loop-again Inv-loop μ-loop
 loop-again c = four c
 
@@ -135,23 +84,23 @@ newest-at-spec =
     Inv-loop
     μ-loop
     loop-holds
-    newest-of-few-requires
-    sub-a
-    mul-ka
-    mul-ka-2
-    shared-slice-read-ka
-    sub-b
-    mul-kb
-    mul-kb-2
-    shared-slice-read-kb
-    sub-c
-    mul-kc
-    mul-kc-2
-    shared-slice-read-kc
-    mul-kd
-    mul-kd-2
-    shared-slice-read-kd
-    loop-less
+    (λ c κs. omega arith)
+    (λ c. omega arith)
+    (λ c. omega arith)
+    (λ c. omega arith)
+    (λ c. omega arith)
+    (λ c. omega arith)
+    (λ c. omega arith)
+    (λ c. omega arith)
+    (λ c. omega arith)
+    (λ c. omega arith)
+    (λ c. omega arith)
+    (λ c. omega arith)
+    (λ c. omega arith)
+    (λ c. omega arith)
+    (λ c. omega arith)
+    (λ c. omega arith)
+    (λ c. omega arith)
     loop-again
     returns
     returns-2

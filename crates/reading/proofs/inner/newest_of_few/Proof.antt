@@ -16,21 +16,6 @@ abbrev μ-loop : tie.MeasureT-loop
 loop-holds : tie.Need-loop-holds Inv-loop μ-loop
 loop-holds c = record { within = omega arith; newest = refl }
 
-sub-i : tie.Need-sub-i Inv-loop μ-loop
-sub-i c = omega arith
-
-mul-k : tie.Need-mul-k Inv-loop μ-loop
-mul-k c = omega arith
-
-mul-k-2 : tie.Need-mul-k-2 Inv-loop μ-loop
-mul-k-2 c = omega arith
-
-shared-slice-read-k : tie.Need-shared-slice-read-k Inv-loop μ-loop
-shared-slice-read-k c = omega arith
-
-loop-less : tie.Need-loop-less Inv-loop μ-loop
-loop-less c = omega arith
-
 loop-again : tie.Need-loop-again Inv-loop μ-loop
 loop-again c =
     let l = c .before .before .before in
@@ -56,11 +41,11 @@ newest-of-few-spec =
     Inv-loop
     μ-loop
     loop-holds
-    sub-i
-    mul-k
-    mul-k-2
-    shared-slice-read-k
-    loop-less
+    (λ c. omega arith)
+    (λ c. omega arith)
+    (λ c. omega arith)
+    (λ c. omega arith)
+    (λ c. omega arith)
     loop-again
     returns
     returns-2)

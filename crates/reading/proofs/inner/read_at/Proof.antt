@@ -26,36 +26,12 @@ returns c =
     let a = c .before .args in
     case-zero (a .index) (a .from) (a .to) (c .if1 .taken)
 
-sub-kind-at : tie.Need-sub-kind-at
-sub-kind-at c = search needs
-
-kind-at-requires : tie.Need-kind-at-requires
-kind-at-requires c κs = search needs
-
-enum-known-kind : tie.Need-enum-known-kind
-enum-known-kind c = search needs
-
-enum-told : tie.Need-enum-told
-enum-told c = search needs
-
 returns-2 : tie.Need-returns-2
 returns-2 c =
     let k = c .before .before in
     let a = k .before .before .args in
     let h : kindIs (numbersIn (a .index)) (a .to - 1) Nothing = rw (c .enum-told .given .1) at (k .kind-at .ensures) in
     case-past (a .index) (a .from) (a .to) (k .before .if1 .left) h
-
-enum-told-2 : tie.Need-enum-told-2
-enum-told-2 c = search needs
-
-compacted-marker-requires : tie.Need-compacted-marker-requires
-compacted-marker-requires c κs = search needs
-
-no-entries-requires : tie.Need-no-entries-requires
-no-entries-requires c κs = search needs
-
-enum-told-3 : tie.Need-enum-told-3
-enum-told-3 c = search needs
 
 read-from-requires : tie.Need-read-from-requires
 read-from-requires c κs =
@@ -64,9 +40,6 @@ read-from-requires c κs =
     let a = f .before .args in
     let h : entryIs (numbersIn (a .index)) (a .to - 1) Entry = rw (c .enum-told3 .given .1) at (held e) in
     (f .before .pre, (omega (arith, h .0), omega (arith, h .1, end-le (numbersIn (a .index)), f .if1 .left)))
-
-enum-told-4 : tie.Need-enum-told-4
-enum-told-4 c = search needs
 
 read-from-requires-2 : tie.Need-read-from-requires-2
 unfolding endOf
@@ -97,17 +70,17 @@ read-at-spec =
     tie.close
     (tie.spec
     returns
-    sub-kind-at
-    kind-at-requires
-    enum-known-kind
-    enum-told
+    (λ c. search needs)
+    (λ c κs. search needs)
+    (λ c. search needs)
+    (λ c. search needs)
     returns-2
-    enum-told-2
-    compacted-marker-requires
-    no-entries-requires
-    enum-told-3
+    (λ c. search needs)
+    (λ c κs. search needs)
+    (λ c κs. search needs)
+    (λ c. search needs)
     read-from-requires
-    enum-told-4
+    (λ c. search needs)
     read-from-requires-2
     returns-3
     returns-4

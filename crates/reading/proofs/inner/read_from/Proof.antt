@@ -18,15 +18,6 @@ held e =
     let h : kindIs (numbersIn (a .index)) (a .from) (Is (e .before .kind .given .0 .0)) = rw (e .before .kind .given .1) at (k .kind-at .ensures) in
     h
 
-kind-at-requires : tie.Need-kind-at-requires
-kind-at-requires c κs = search needs
-
-enum-known-kind : tie.Need-enum-known-kind
-enum-known-kind c = search needs
-
-enum-told : tie.Need-enum-told
-enum-told c = search needs
-
 returns : tie.Need-returns
 returns c =
     let k = c .before .before in
@@ -34,9 +25,6 @@ returns c =
     let a = st .args in
     let h : kindIs (numbersIn (a .index)) (a .from) Nothing = rw (c .enum-told .given .1) at (k .kind-at .ensures) in
     case-nothing (a .index) (a .from) (a .to) (st .pre .1 .0) (st .pre .1 .1) h
-
-no-entries-requires : tie.Need-no-entries-requires
-no-entries-requires c κs = search needs
 
 returns-2 : tie.Need-returns-2
 returns-2 c =
@@ -61,11 +49,11 @@ pub read-from-spec : {M : Type 1} → statement M
 read-from-spec =
     tie.close
     (tie.spec
-    kind-at-requires
-    enum-known-kind
-    enum-told
+    (λ c κs. search needs)
+    (λ c. search needs)
+    (λ c. search needs)
     returns
-    no-entries-requires
+    (λ c κs. search needs)
     returns-2
     run-of-requires
     returns-3)

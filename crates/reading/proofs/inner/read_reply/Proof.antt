@@ -19,12 +19,6 @@ bounds : (e : tie.After-stop-past) (t : Bool) → (e .before .start-past .result
     → (startPast (boundOf (e .before .before .before .before .args .from)) || stopPast (boundOf (e .before .before .before .before .args .to))) ≡ t
 bounds e t q = ap₂ (λ (a b : Bool). a || b) (sym (e .before .start-past .ensures)) (sym (e .stop-past .ensures)) ∙ q
 
-start-past-requires : tie.Need-start-past-requires
-start-past-requires c κs = search needs
-
-stop-past-requires : tie.Need-stop-past-requires
-stop-past-requires c κs = search needs
-
 returns : tie.Need-returns
 returns c =
     let st = c .before .before .before .before .before in
@@ -59,4 +53,14 @@ returns-2 c =
     ∙ read-answer x (st .pre) (boundOf (a .from)) (boundOf (a .to)) _ _ (l .accepted .result) (bounds (b .before) false (b .if1 .left)) (f .start-at .ensures) (s .stop-at .ensures) (l .accepted .ensures)
 
 pub read-reply-spec : {M : Type 1} → statement M
-read-reply-spec = tie.close (tie.spec start-past-requires stop-past-requires returns accepted-requires start-at-requires stop-at-requires read-at-requires returns-2)
+read-reply-spec =
+    tie.close
+    (tie.spec
+    (λ c κs. search needs)
+    (λ c κs. search needs)
+    returns
+    accepted-requires
+    start-at-requires
+    stop-at-requires
+    read-at-requires
+    returns-2)

@@ -5,36 +5,6 @@ use borrow.Author.Needs.{needs}
 use Rattle.reading.proofs.inner.run_of.Statement.{statement}
 use Rattle.reading.proofs.inner.run_of.Tie as tie
 
-monus-requires : tie.Need-monus-requires
-monus-requires c κs = search needs
-
-monus-requires-2 : tie.Need-monus-requires-2
-monus-requires-2 c κs = search needs
-
-least-requires : tie.Need-least-requires
-least-requires c κs = search needs
-
-monus-requires-3 : tie.Need-monus-requires-3
-monus-requires-3 c κs = search needs
-
-least-requires-2 : tie.Need-least-requires-2
-least-requires-2 c κs = search needs
-
-accepted-requires : tie.Need-accepted-requires
-accepted-requires c κs = search needs
-
-stop-decided-requires : tie.Need-stop-decided-requires
-stop-decided-requires c κs = search needs
-
-marker-of-requires : tie.Need-marker-of-requires
-marker-of-requires c κs = search needs
-
-monus-requires-4 : tie.Need-monus-requires-4
-monus-requires-4 c κs = search needs
-
-monus-requires-5 : tie.Need-monus-requires-5
-monus-requires-5 c κs = search needs
-
 returns : tie.Need-returns
 returns c =
     let k₅ = c .before in
@@ -57,14 +27,14 @@ pub run-of-spec : {M : Type 1} → statement M
 run-of-spec =
     tie.close
     (tie.spec
-    monus-requires
-    monus-requires-2
-    least-requires
-    monus-requires-3
-    least-requires-2
-    accepted-requires
-    stop-decided-requires
-    marker-of-requires
-    monus-requires-4
-    monus-requires-5
+    (λ c κs. search needs)
+    (λ c κs. search needs)
+    (λ c κs. search needs)
+    (λ c κs. search needs)
+    (λ c κs. search needs)
+    (λ c κs. search needs)
+    (λ c κs. search needs)
+    (λ c κs. search needs)
+    (λ c κs. search needs)
+    (λ c κs. search needs)
     returns)

@@ -7,15 +7,6 @@ use borrow.Author.Needs.{needs}
 use Rattle.reading.proofs.inner.start_past.Statement.{statement}
 use Rattle.reading.proofs.inner.start_past.Tie as tie
 
-enum-told : tie.Need-enum-told
-enum-told c = search needs
-
-enum-known-b : tie.Need-enum-known-b
-enum-known-b c = search needs
-
-enum-told-2 : tie.Need-enum-told-2
-enum-told-2 c = search needs
-
 returns : tie.Need-returns
 returns c = search needs
 
@@ -27,4 +18,11 @@ returns-3 c = search needs
 
 pub start-past-spec : {M : Type 1} → statement M
 start-past-spec =
-    tie.close (tie.spec enum-told enum-known-b enum-told-2 returns returns-2 returns-3)
+    tie.close
+    (tie.spec
+    (λ c. search needs)
+    (λ c. search needs)
+    (λ c. search needs)
+    returns
+    returns-2
+    returns-3)

@@ -12,20 +12,11 @@ use borrow.Author.Needs.{needs}
 use Rattle.reading.proofs.inner.stop_at.Statement.{statement}
 use Rattle.reading.proofs.inner.stop_at.Tie as tie
 
-enum-known-b : tie.Need-enum-known-b
-enum-known-b c = search needs
-
 add-result : tie.Need-add-result
 add-result c =
     let k = c .before .before .b .given in
     let e : eqb (k .0 .0 .0) lastWord ≡ false = sym (ap (λ (b : Bound). stopPast (boundOf b)) (k .1)) ∙ c .before .before .before .before .pre in
     omega (arith, eqb-false (k .0 .0 .0) lastWord e)
-
-enum-known-b-2 : tie.Need-enum-known-b-2
-enum-known-b-2 c = search needs
-
-enum-told : tie.Need-enum-told
-enum-told c = search needs
 
 returns : tie.Need-returns
 returns c = sym (ap (λ (b : Bound). stopAt (boundOf b) (c .before .before .before .before .args .last)) (c .before .before .b .given .1))
@@ -39,4 +30,11 @@ returns-3 c = search needs
 pub stop-at-spec : {M : Type 1} → statement M
 stop-at-spec =
     tie.close
-    (tie.spec enum-known-b add-result enum-known-b-2 enum-told returns returns-2 returns-3)
+    (tie.spec
+    (λ c. search needs)
+    add-result
+    (λ c. search needs)
+    (λ c. search needs)
+    returns
+    returns-2
+    returns-3)

@@ -10,35 +10,23 @@ use borrow.Author.Needs.{needs}
 use Rattle.replay.proofs.answer.appended_line.Statement.{statement}
 use Rattle.replay.proofs.answer.appended_line.Tie as tie
 
-enum-told : tie.Need-enum-told
-enum-told c = search needs
-
-enum-known-answer : tie.Need-enum-known-answer
-enum-known-answer c = search needs
-
-enum-known-answer-2 : tie.Need-enum-known-answer-2
-enum-known-answer-2 c = search needs
-
-number-requires : tie.Need-number-requires
-number-requires c κs = search needs
-
 returns : tie.Need-returns
-returns c = sym (ap (λ (x : Appended). appendedText (appended x)) (c .enum-told .given .1))
+returns c = sym (ap (λ (x : Appended). appendedText (appendSaid x)) (c .enum-told .given .1))
 
 returns-2 : tie.Need-returns-2
-returns-2 c = sym (ap (λ (x : Appended). appendedText (appended x)) (c .before .answer .given .1))
+returns-2 c = sym (ap (λ (x : Appended). appendedText (appendSaid x)) (c .before .answer .given .1))
 
 returns-3 : tie.Need-returns-3
-returns-3 c = ap (λ (n : ℕ). lineOf (Refused n)) (c .number .ensures) ∙ sym (ap (λ (x : Appended). appendedText (appended x)) (c .before .before .answer2 .given .1))
+returns-3 c = ap (λ (n : ℕ). lineOf (Refused n)) (c .number .ensures) ∙ sym (ap (λ (x : Appended). appendedText (appendSaid x)) (c .before .before .answer2 .given .1))
 
 pub appended-line-spec : {M : Type 1} → statement M
 appended-line-spec =
     tie.close
     (tie.spec
-    enum-told
-    enum-known-answer
-    enum-known-answer-2
-    number-requires
+    (λ c. search needs)
+    (λ c. search needs)
+    (λ c. search needs)
+    (λ c κs. search needs)
     returns
     returns-2
     returns-3)

@@ -11,21 +11,6 @@ use borrow.Author.Needs.{needs}
 use Rattle.replay.proofs.answer.batch.Statement.{statement}
 use Rattle.replay.proofs.answer.batch.Tie as tie
 
-fresh-requires : tie.Need-fresh-requires
-fresh-requires c κs = search needs
-
-enum-known-answer : tie.Need-enum-known-answer
-enum-known-answer c = search needs
-
-enum-told : tie.Need-enum-told
-enum-told c = search needs
-
-same-length : tie.Need-same-length
-same-length c = search needs
-
-same-length-2 : tie.Need-same-length-2
-same-length-2 c = search needs
-
 returns : tie.Need-returns
 unfolding answering
 returns c =
@@ -34,15 +19,6 @@ returns c =
     let x = raw (made .result .index) (made .last .1 .0) (made .last .1 .1 .0) in
     let e = sym (ap (λ (s : Settled). outcome (settled s) x) (c .before .enum-told .given .1)) ∙ made .ensures in
     starts (a .n) x (raw (a .index) (now (a .log)) (now (a .snapshot))) e
-
-number-requires : tie.Need-number-requires
-number-requires c κs = search needs
-
-same-length-3 : tie.Need-same-length-3
-same-length-3 c = search needs
-
-same-length-4 : tie.Need-same-length-4
-same-length-4 c = search needs
 
 returns-2 : tie.Need-returns-2
 unfolding answering
@@ -58,13 +34,13 @@ pub batch-spec : {M : Type 1} → statement M
 batch-spec =
     tie.close
     (tie.spec
-    fresh-requires
-    enum-known-answer
-    enum-told
-    same-length
-    same-length-2
+    (λ c κs. search needs)
+    (λ c. search needs)
+    (λ c. search needs)
+    (λ c. search needs)
+    (λ c. search needs)
     returns
-    number-requires
-    same-length-3
-    same-length-4
+    (λ c κs. search needs)
+    (λ c. search needs)
+    (λ c. search needs)
     returns-2)

@@ -8,12 +8,6 @@ use borrow.Author.Needs.{needs}
 use Rattle.replay.proofs.answer.decide.Statement.{statement}
 use Rattle.replay.proofs.answer.decide.Tie as tie
 
-set-decided-idx-requires : tie.Need-set-decided-idx-requires
-set-decided-idx-requires c κs = search needs
-
-settled-line-requires : tie.Need-settled-line-requires
-settled-line-requires c κs = search needs
-
 returns : tie.Need-returns
 unfolding answering
 returns c =
@@ -22,4 +16,4 @@ returns c =
     tells settledText _ (settled (to .result .answer)) (raw (to .result .index) (now (a .log)) (now (a .snapshot))) _ (to .ensures) (c .settled-line .ensures)
 
 pub decide-spec : {M : Type 1} → statement M
-decide-spec = tie.close (tie.spec set-decided-idx-requires settled-line-requires returns)
+decide-spec = tie.close (tie.spec (λ c κs. search needs) (λ c κs. search needs) returns)

@@ -8,18 +8,12 @@ use borrow.Author.Needs.{needs}
 use Rattle.replay.proofs.answer.flush.Statement.{statement}
 use Rattle.replay.proofs.answer.flush.Tie as tie
 
-flush-batch-requires : tie.Need-flush-batch-requires
-flush-batch-requires c κs = search needs
-
-accepted-line-requires : tie.Need-accepted-line-requires
-accepted-line-requires c κs = search needs
-
 returns : tie.Need-returns
 unfolding answering
 returns c =
     let a = c .before .before .before .before .before .args in
     let to = c .before .before .flush-batch in
-    tells acceptedText _ (accepted (to .result .answer)) (raw (to .result .index) (now (a .log)) (now (a .snapshot))) _ (to .ensures) (c .accepted-line .ensures)
+    tells acceptedText _ (indexSaid (to .result .answer)) (raw (to .result .index) (now (a .log)) (now (a .snapshot))) _ (to .ensures) (c .accepted-line .ensures)
 
 pub flush-spec : {M : Type 1} → statement M
-flush-spec = tie.close (tie.spec flush-batch-requires accepted-line-requires returns)
+flush-spec = tie.close (tie.spec (λ c κs. search needs) (λ c κs. search needs) returns)

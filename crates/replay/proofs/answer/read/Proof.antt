@@ -8,9 +8,6 @@ use borrow.Author.Needs.{needs}
 use Rattle.replay.proofs.answer.read.Statement.{statement}
 use Rattle.replay.proofs.answer.read.Tie as tie
 
-read-reply-requires : tie.Need-read-reply-requires
-read-reply-requires c κs = search needs
-
 returns : tie.Need-returns
 unfolding answering
 returns c =
@@ -18,4 +15,4 @@ returns c =
     reads (included (a .from)) (excluded (a .to)) (c .read-reply .result) (raw (a .index) (now (a .log)) (now (a .snapshot))) (c .read-reply .ensures)
 
 pub read-spec : {M : Type 1} → statement M
-read-spec = tie.close (tie.spec read-reply-requires returns)
+read-spec = tie.close (tie.spec (λ c κs. search needs) returns)

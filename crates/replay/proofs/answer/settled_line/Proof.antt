@@ -10,15 +10,6 @@ use borrow.Author.Needs.{needs}
 use Rattle.replay.proofs.answer.settled_line.Statement.{statement}
 use Rattle.replay.proofs.answer.settled_line.Tie as tie
 
-enum-told : tie.Need-enum-told
-enum-told c = search needs
-
-enum-known-answer : tie.Need-enum-known-answer
-enum-known-answer c = search needs
-
-number-requires : tie.Need-number-requires
-number-requires c κs = search needs
-
 returns : tie.Need-returns
 returns c = sym (ap (λ (x : Settled). settledText (settled x)) (c .enum-told .given .1))
 
@@ -27,4 +18,10 @@ returns-2 c = ap (λ (n : ℕ). lineOf (Refused n)) (c .number .ensures) ∙ sym
 
 pub settled-line-spec : {M : Type 1} → statement M
 settled-line-spec =
-    tie.close (tie.spec enum-told enum-known-answer number-requires returns returns-2)
+    tie.close
+    (tie.spec
+    (λ c. search needs)
+    (λ c. search needs)
+    (λ c κs. search needs)
+    returns
+    returns-2)

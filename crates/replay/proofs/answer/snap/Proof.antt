@@ -7,18 +7,6 @@ use borrow.Author.Needs.{needs}
 use Rattle.replay.proofs.answer.snap.Statement.{statement}
 use Rattle.replay.proofs.answer.snap.Tie as tie
 
-try-snapshot-requires : tie.Need-try-snapshot-requires
-try-snapshot-requires c κs = search needs
-
-settled-line-requires : tie.Need-settled-line-requires
-settled-line-requires c κs = search needs
-
-same-length : tie.Need-same-length
-same-length c = search needs
-
-same-length-2 : tie.Need-same-length-2
-same-length-2 c = search needs
-
 returns : tie.Need-returns
 unfolding answering
 returns c =
@@ -28,4 +16,9 @@ returns c =
 pub snap-spec : {M : Type 1} → statement M
 snap-spec =
     tie.close
-    (tie.spec try-snapshot-requires settled-line-requires same-length same-length-2 returns)
+    (tie.spec
+    (λ c κs. search needs)
+    (λ c κs. search needs)
+    (λ c. search needs)
+    (λ c. search needs)
+    returns)

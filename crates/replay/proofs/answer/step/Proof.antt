@@ -11,21 +11,6 @@ use borrow.Author.Needs.{needs}
 use Rattle.replay.proofs.answer.step.Statement.{statement}
 use Rattle.replay.proofs.answer.step.Tie as tie
 
-carry-out-requires : tie.Need-carry-out-requires
-carry-out-requires c κs = search needs
-
-put-reply-requires : tie.Need-put-reply-requires
-put-reply-requires c κs = search needs
-
-same-length : tie.Need-same-length
-same-length c = search needs
-
-same-length-2 : tie.Need-same-length-2
-same-length-2 c = search needs
-
-same-length-3 : tie.Need-same-length-3
-same-length-3 c = search needs
-
 returns : tie.Need-returns
 returns c =
     let a = c .before .before .before .before .before .before .before .before .before .before .before .before .before .before .before .before .args in
@@ -38,9 +23,9 @@ pub step-spec : {M : Type 1} → statement M
 step-spec =
     tie.close
     (tie.spec
-    carry-out-requires
-    put-reply-requires
-    same-length
-    same-length-2
-    same-length-3
+    (λ c κs. search needs)
+    (λ c κs. search needs)
+    (λ c. search needs)
+    (λ c. search needs)
+    (λ c. search needs)
     returns)

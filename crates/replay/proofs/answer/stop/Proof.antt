@@ -13,18 +13,6 @@ use borrow.Author.Needs.{needs}
 use Rattle.replay.proofs.answer.stop.Statement.{statement}
 use Rattle.replay.proofs.answer.stop.Tie as tie
 
-stop-sign-requires : tie.Need-stop-sign-requires
-stop-sign-requires c κs = search needs
-
-append-stopsign-requires : tie.Need-append-stopsign-requires
-append-stopsign-requires c κs = search needs
-
-get-accepted-idx-requires : tie.Need-get-accepted-idx-requires
-get-accepted-idx-requires c κs = search needs
-
-stop-line-requires : tie.Need-stop-line-requires
-stop-line-requires c κs = search needs
-
 returns : tie.Need-returns
 unfolding answering
 returns c =
@@ -32,14 +20,14 @@ returns c =
     let to = c .before .before .before .append-stopsign in
     let last = c .before .get-accepted-idx in
     let e = to .ensures ∙ ap (λ (g : StopSign). run (appendStop g) true (raw (a .index) (now (a .log)) (now (a .snapshot)))) (c .before .before .before .before .stop-sign .ensures) in
-    stops _ (appendSaid (to .result .answer)) (accepted (last .result)) (raw (to .result .index) (now (a .log)) (now (a .snapshot))) _ e (last .ensures) (c .stop-line .ensures)
+    stops _ (appendSaid (to .result .answer)) (indexSaid (last .result)) (raw (to .result .index) (now (a .log)) (now (a .snapshot))) _ e (last .ensures) (c .stop-line .ensures)
 
 pub stop-spec : {M : Type 1} → statement M
 stop-spec =
     tie.close
     (tie.spec
-    stop-sign-requires
-    append-stopsign-requires
-    get-accepted-idx-requires
-    stop-line-requires
+    (λ c κs. search needs)
+    (λ c κs. search needs)
+    (λ c κs. search needs)
+    (λ c κs. search needs)
     returns)

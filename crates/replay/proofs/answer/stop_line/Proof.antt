@@ -11,43 +11,25 @@ use borrow.Author.Needs.{needs}
 use Rattle.replay.proofs.answer.stop_line.Statement.{statement}
 use Rattle.replay.proofs.answer.stop_line.Tie as tie
 
-enum-told : tie.Need-enum-told
-enum-told c = search needs
-
-accepted-line-requires : tie.Need-accepted-line-requires
-accepted-line-requires c κs = search needs
-
-enum-told-2 : tie.Need-enum-told-2
-enum-told-2 c = search needs
-
-accepted-line-requires-2 : tie.Need-accepted-line-requires-2
-accepted-line-requires-2 c κs = search needs
-
-enum-known-answer : tie.Need-enum-known-answer
-enum-known-answer c = search needs
-
-number-requires : tie.Need-number-requires
-number-requires c κs = search needs
-
 returns : tie.Need-returns
-returns c = c .accepted-line .ensures ∙ sym (ap (λ (x : Appended). stopLine (appended x) (indexSaid (c .before .before .before .args .last))) (c .before .enum-told .given .1))
+returns c = c .accepted-line .ensures ∙ sym (ap (λ (x : Appended). stopLine (appendSaid x) (indexSaid (c .before .before .before .args .last))) (c .before .enum-told .given .1))
 
 returns-2 : tie.Need-returns-2
-returns-2 c = c .accepted-line2 .ensures ∙ sym (ap (λ (x : Appended). stopLine (appended x) (indexSaid (c .before .before .before .args .last))) (c .before .enum-told2 .given .1))
+returns-2 c = c .accepted-line2 .ensures ∙ sym (ap (λ (x : Appended). stopLine (appendSaid x) (indexSaid (c .before .before .before .args .last))) (c .before .enum-told2 .given .1))
 
 returns-3 : tie.Need-returns-3
-returns-3 c = ap (λ (n : ℕ). lineOf (Refused n)) (c .number .ensures) ∙ sym (ap (λ (x : Appended). stopLine (appended x) (indexSaid (c .before .before .before .before .args .last))) (c .before .before .answer .given .1))
+returns-3 c = ap (λ (n : ℕ). lineOf (Refused n)) (c .number .ensures) ∙ sym (ap (λ (x : Appended). stopLine (appendSaid x) (indexSaid (c .before .before .before .before .args .last))) (c .before .before .answer .given .1))
 
 pub stop-line-spec : {M : Type 1} → statement M
 stop-line-spec =
     tie.close
     (tie.spec
-    enum-told
-    accepted-line-requires
-    enum-told-2
-    accepted-line-requires-2
-    enum-known-answer
-    number-requires
+    (λ c. search needs)
+    (λ c κs. search needs)
+    (λ c. search needs)
+    (λ c κs. search needs)
+    (λ c. search needs)
+    (λ c κs. search needs)
     returns
     returns-2
     returns-3)

@@ -8,15 +8,6 @@ use borrow.Author.Needs.{needs}
 use Rattle.replay.proofs.answer.trim.Statement.{statement}
 use Rattle.replay.proofs.answer.trim.Tie as tie
 
-try-trim-requires : tie.Need-try-trim-requires
-try-trim-requires c κs = search needs
-
-settled-line-requires : tie.Need-settled-line-requires
-settled-line-requires c κs = search needs
-
-same-length : tie.Need-same-length
-same-length c = search needs
-
 returns : tie.Need-returns
 unfolding answering
 returns c =
@@ -25,4 +16,4 @@ returns c =
     tells settledText _ (settled (to .result .answer)) (raw (to .result .index) (to .last .1 .0) (now (a .snapshot))) _ (to .ensures) (c .settled-line .ensures)
 
 pub trim-spec : {M : Type 1} → statement M
-trim-spec = tie.close (tie.spec try-trim-requires settled-line-requires same-length returns)
+trim-spec = tie.close (tie.spec (λ c κs. search needs) (λ c κs. search needs) (λ c. search needs) returns)

@@ -8,18 +8,6 @@ use borrow.Author.Needs.{needs}
 use Rattle.replay.proofs.feed.end.Statement.{statement}
 use Rattle.replay.proofs.feed.end.Tie as tie
 
-finish-requires : tie.Need-finish-requires
-finish-requires c κs = search needs
-
-same-length : tie.Need-same-length
-same-length c = search needs
-
-same-length-2 : tie.Need-same-length-2
-same-length-2 c = search needs
-
-same-length-3 : tie.Need-same-length-3
-same-length-3 c = search needs
-
 returns : tie.Need-returns
 returns c =
     let s = c .before .before .before .before .before .before .before .before .before .before .before .before .before .before .before .before .before .before in
@@ -35,4 +23,11 @@ returns-2 c =
 
 pub end-spec : {M : Type 1} → statement M
 end-spec =
-    tie.close (tie.spec finish-requires same-length same-length-2 same-length-3 returns returns-2)
+    tie.close
+    (tie.spec
+    (λ c κs. search needs)
+    (λ c. search needs)
+    (λ c. search needs)
+    (λ c. search needs)
+    returns
+    returns-2)

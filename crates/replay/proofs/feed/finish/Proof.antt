@@ -16,24 +16,9 @@ use borrow.Author.Needs.{needs}
 use Rattle.replay.proofs.feed.finish.Statement.{statement}
 use Rattle.replay.proofs.feed.finish.Tie as tie
 
-room-requires : tie.Need-room-requires
-room-requires c κs = search needs
-
-command-of-requires : tie.Need-command-of-requires
-command-of-requires c κs = search needs
-
 step-requires : tie.Need-step-requires
 step-requires c κs = let s = c .before .before .before .before .before .before .before .before .before .before .before in
     (omega (arith, c .before .before .before .before .room .ensures, next-low lastStart (s .args .st .used), s .pre .room), s .pre .words)
-
-same-length : tie.Need-same-length
-same-length c = search needs
-
-same-length-2 : tie.Need-same-length-2
-same-length-2 c = search needs
-
-same-length-3 : tie.Need-same-length-3
-same-length-3 c = search needs
 
 returns : tie.Need-returns
 returns c =
@@ -53,10 +38,10 @@ pub finish-spec : {M : Type 1} → statement M
 finish-spec =
     tie.close
     (tie.spec
-    room-requires
-    command-of-requires
+    (λ c κs. search needs)
+    (λ c κs. search needs)
     step-requires
-    same-length
-    same-length-2
-    same-length-3
+    (λ c. search needs)
+    (λ c. search needs)
+    (λ c. search needs)
     returns)

@@ -10,9 +10,6 @@ use borrow.Author.Needs.{needs}
 use Rattle.replay.proofs.feed.start.Statement.{statement}
 use Rattle.replay.proofs.feed.start.Tie as tie
 
-fresh-requires : tie.Need-fresh-requires
-fresh-requires c κs = search needs
-
 returns : tie.Need-returns
 returns c =
     let a = c .before .before .before .before .args in
@@ -21,4 +18,4 @@ returns c =
     (ap (λ (o : Outcome (Unit {0})). o .after) (c .before .fresh .ensures) ∙ fresh-starts 0 (now (a .log)) (now (a .snapshot)) (omega arith) log snapshot, refl, refl, refl)
 
 pub start-spec : {M : Type 1} → statement M
-start-spec = tie.close (tie.spec fresh-requires returns)
+start-spec = tie.close (tie.spec (λ c κs. search needs) returns)

@@ -7,24 +7,6 @@ use borrow.Author.Needs.{needs}
 use Rattle.replay.proofs.feed.take_line.Statement.{statement}
 use Rattle.replay.proofs.feed.take_line.Tie as tie
 
-keep-requires : tie.Need-keep-requires
-keep-requires c κs = search needs
-
-finish-requires : tie.Need-finish-requires
-finish-requires c κs = search needs
-
-same-length : tie.Need-same-length
-same-length c = search needs
-
-same-length-2 : tie.Need-same-length-2
-same-length-2 c = search needs
-
-same-length-3 : tie.Need-same-length-3
-same-length-3 c = search needs
-
-same-length-4 : tie.Need-same-length-4
-same-length-4 c = search needs
-
 returns : tie.Need-returns
 returns c =
     let s = c .before .before .before .before .before .before .before .before .before .before .before .before .before .before .before .before .before .before .before .before .before in
@@ -32,9 +14,6 @@ returns c =
     let keep = c .before .before .before .before .before .before .before .before .before .before .before .before .before .before .keep in
     let finish = c .before .before .before .before .before .before .finish in
     ((omega (arith, finish .ensures .0 .0, keep .kept), finish .ensures .0 .1), λ (ls : Lines) st. rw (c .before .before .before .before .before .before .before .before .before .before .before .if1 .taken) (finish .ensures .1 (restWith (now (a .bytes)) ls) (kept ls _ _ _ _ _ _ _ _ _ (now (a .out)) (now (a .bytes)) (keep .ensures .0 .2) (keep .ensures .0 .1) (s .pre .buffer) (keep .ensures .1) st)))
-
-same-length-5 : tie.Need-same-length-5
-same-length-5 c = search needs
 
 returns-2 : tie.Need-returns-2
 returns-2 c =
@@ -47,12 +26,12 @@ pub take-line-spec : {M : Type 1} → statement M
 take-line-spec =
     tie.close
     (tie.spec
-    keep-requires
-    finish-requires
-    same-length
-    same-length-2
-    same-length-3
-    same-length-4
+    (λ c κs. search needs)
+    (λ c κs. search needs)
+    (λ c. search needs)
+    (λ c. search needs)
+    (λ c. search needs)
+    (λ c. search needs)
     returns
-    same-length-5
+    (λ c. search needs)
     returns-2)

@@ -30,33 +30,6 @@ loop-holds : tie.Need-loop-holds Inv-loop μ-loop
 unfolding linesFrom
 loop-holds c = (omega arith, λ (ls : Lines) st. st)
 
-sub-gap : tie.Need-sub-gap Inv-loop μ-loop
-sub-gap c = omega arith
-
-part-gap-start : tie.Need-part-gap-start Inv-loop μ-loop
-part-gap-start c = omega arith
-
-part-gap-end : tie.Need-part-gap-end Inv-loop μ-loop
-part-gap-end c = omega arith
-
-gap-requires : tie.Need-gap-requires Inv-loop μ-loop
-gap-requires c κs = tt
-
-add-e : tie.Need-add-e Inv-loop μ-loop
-add-e c = omega arith
-
-sub-take-line : tie.Need-sub-take-line Inv-loop μ-loop
-sub-take-line c = omega arith
-
-part-take-line-start : tie.Need-part-take-line-start Inv-loop μ-loop
-part-take-line-start c = omega arith
-
-part-take-line-end : tie.Need-part-take-line-end Inv-loop μ-loop
-part-take-line-end c = omega arith
-
-take-line-requires : tie.Need-take-line-requires Inv-loop μ-loop
-take-line-requires c κs = omega arith
-
 add-at : tie.Need-add-at Inv-loop μ-loop
 add-at c =
     let g = simp (length-take, length-drop) at (c .before .before .before .before .before .before .before .before .before .before .before .before .before .before .gap .ensures .0 .0) in
@@ -78,18 +51,6 @@ loop-again c =
           (line .ensures .1 (linesFrom ls (take (turn .at) part)) (turn .inv .1 ls st)),
     )
 
-same-length : tie.Need-same-length Inv-loop μ-loop
-same-length c = omega arith
-
-same-length-2 : tie.Need-same-length-2 Inv-loop μ-loop
-same-length-2 c = omega arith
-
-same-length-3 : tie.Need-same-length-3 Inv-loop μ-loop
-same-length-3 c = omega arith
-
-same-length-4 : tie.Need-same-length-4 Inv-loop μ-loop
-same-length-4 c = omega arith
-
 returns : tie.Need-returns Inv-loop μ-loop
 returns c =
     let part = now (c .before .before .before .before .before .before .before .args .part) in
@@ -103,20 +64,20 @@ take-part-spec =
     Inv-loop
     μ-loop
     loop-holds
-    sub-gap
-    part-gap-start
-    part-gap-end
-    gap-requires
-    add-e
-    sub-take-line
-    part-take-line-start
-    part-take-line-end
-    take-line-requires
+    (λ c. omega arith)
+    (λ c. omega arith)
+    (λ c. omega arith)
+    (λ c κs. tt)
+    (λ c. omega arith)
+    (λ c. omega arith)
+    (λ c. omega arith)
+    (λ c. omega arith)
+    (λ c κs. omega arith)
     add-at
     loop-less
     loop-again
-    same-length
-    same-length-2
-    same-length-3
-    same-length-4
+    (λ c. omega arith)
+    (λ c. omega arith)
+    (λ c. omega arith)
+    (λ c. omega arith)
     returns)

@@ -10,15 +10,6 @@ use borrow.Author.Needs.{needs}
 use Rattle.replay.proofs.shown.lines_of_marker.Statement.{statement}
 use Rattle.replay.proofs.shown.lines_of_marker.Tie as tie
 
-enum-told : tie.Need-enum-told
-enum-told c = search needs
-
-enum-told-2 : tie.Need-enum-told-2
-enum-told-2 c = search needs
-
-enum-told-3 : tie.Need-enum-told-3
-enum-told-3 c = search needs
-
 returns : tie.Need-returns
 returns c = λ (snapshot : List ℕ). sym (ap (λ (m : Marker). oneIf (given (markerSaid snapshot m))) (c .enum-told .given .1))
 
@@ -30,4 +21,11 @@ returns-3 c = λ (snapshot : List ℕ). sym (ap (λ (m : Marker). oneIf (given (
 
 pub lines-of-marker-spec : {M : Type 1} → statement M
 lines-of-marker-spec =
-    tie.close (tie.spec enum-told enum-told-2 enum-told-3 returns returns-2 returns-3)
+    tie.close
+    (tie.spec
+    (λ c. search needs)
+    (λ c. search needs)
+    (λ c. search needs)
+    returns
+    returns-2
+    returns-3)

@@ -13,29 +13,11 @@ use borrow.Author.Needs.{needs}
 use Rattle.replay.proofs.shown.put_marker.Statement.{statement}
 use Rattle.replay.proofs.shown.put_marker.Tie as tie
 
-enum-told : tie.Need-enum-told
-enum-told c = search needs
-
-enum-known-marker : tie.Need-enum-known-marker
-enum-known-marker c = search needs
-
-put-line-requires : tie.Need-put-line-requires
-put-line-requires c κs = search needs
-
-enum-known-marker-2 : tie.Need-enum-known-marker-2
-enum-known-marker-2 c = search needs
-
-put-line-requires-2 : tie.Need-put-line-requires-2
-put-line-requires-2 c κs = search needs
-
 returns : tie.Need-returns
 returns c =
     let a = c .before .before .before .args in
     let front = take (a .at) (now (a .out)) in
     (omega arith, λ (snapshot : List ℕ). sym (append-nil front) ∙ sym (ap (λ (m : Marker). front ++ markerText (markerSaid snapshot m)) (c .enum-told .given .1)))
-
-same-length : tie.Need-same-length
-same-length c = search needs
 
 returns-2 : tie.Need-returns-2
 returns-2 c =
@@ -43,9 +25,6 @@ returns-2 c =
     let a = b .before .before .before .before .before .before .args in
     let front = take (a .at) (now (a .out)) in
     (b .put-line .ensures .0, λ (snapshot : List ℕ). b .put-line .ensures .1 ∙ sym (ap (λ (m : Marker). front ++ markerText (markerSaid snapshot m)) (b .before .before .before .marker .given .1)))
-
-same-length-2 : tie.Need-same-length-2
-same-length-2 c = search needs
 
 returns-3 : tie.Need-returns-3
 returns-3 c =
@@ -59,13 +38,13 @@ pub put-marker-spec : {M : Type 1} → statement M
 put-marker-spec =
     tie.close
     (tie.spec
-    enum-told
-    enum-known-marker
-    put-line-requires
-    enum-known-marker-2
-    put-line-requires-2
+    (λ c. search needs)
+    (λ c. search needs)
+    (λ c κs. search needs)
+    (λ c. search needs)
+    (λ c κs. search needs)
     returns
-    same-length
+    (λ c. search needs)
     returns-2
-    same-length-2
+    (λ c. search needs)
     returns-3)

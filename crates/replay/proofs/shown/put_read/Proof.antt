@@ -15,30 +15,6 @@ use borrow.Author.Needs.{needs}
 use Rattle.replay.proofs.shown.put_read.Statement.{statement}
 use Rattle.replay.proofs.shown.put_read.Tie as tie
 
-enum-told : tie.Need-enum-told
-enum-told c = search needs
-
-put-line-requires : tie.Need-put-line-requires
-put-line-requires c κs = search needs
-
-enum-known-reply : tie.Need-enum-known-reply
-enum-known-reply c = search needs
-
-put-shown-requires : tie.Need-put-shown-requires
-put-shown-requires c κs = search needs
-
-enum-known-reply-2 : tie.Need-enum-known-reply-2
-enum-known-reply-2 c = search needs
-
-number-requires : tie.Need-number-requires
-number-requires c κs = search needs
-
-put-line-requires-2 : tie.Need-put-line-requires-2
-put-line-requires-2 c κs = search needs
-
-same-length : tie.Need-same-length
-same-length c = search needs
-
 returns : tie.Need-returns
 returns c =
     let b = c .before .before in
@@ -46,18 +22,12 @@ returns c =
     let front = take (a .at) (now (a .out)) in
     (omega (arith, b .put-line .ensures .0), λ (snapshot : List ℕ). b .put-line .ensures .1 ∙ sym (ap (λ (r : ReadReply). front ++ readTextIn (now (a .log)) (readSaid (raw (a .index) (now (a .log)) snapshot) r)) (b .before .before .enum-told .given .1)))
 
-same-length-2 : tie.Need-same-length-2
-same-length-2 c = search needs
-
 returns-2 : tie.Need-returns-2
 returns-2 c =
     let b = c .before .before in
     let a = b .before .before .before .before .before .before .before .args in
     let front = take (a .at) (now (a .out)) in
     (b .put-shown .ensures .0, λ (snapshot : List ℕ). b .put-shown .ensures .1 snapshot ∙ sym (ap (λ (r : ReadReply). front ++ readTextIn (now (a .log)) (readSaid (raw (a .index) (now (a .log)) snapshot) r)) (b .before .before .before .reply .given .1)))
-
-same-length-3 : tie.Need-same-length-3
-same-length-3 c = search needs
 
 returns-3 : tie.Need-returns-3
 returns-3 c =
@@ -70,16 +40,16 @@ pub put-read-spec : {M : Type 1} → statement M
 put-read-spec =
     tie.close
     (tie.spec
-    enum-told
-    put-line-requires
-    enum-known-reply
-    put-shown-requires
-    enum-known-reply-2
-    number-requires
-    put-line-requires-2
-    same-length
+    (λ c. search needs)
+    (λ c κs. search needs)
+    (λ c. search needs)
+    (λ c κs. search needs)
+    (λ c. search needs)
+    (λ c κs. search needs)
+    (λ c κs. search needs)
+    (λ c. search needs)
     returns
-    same-length-2
+    (λ c. search needs)
     returns-2
-    same-length-3
+    (λ c. search needs)
     returns-3)

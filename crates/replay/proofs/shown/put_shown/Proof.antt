@@ -26,37 +26,19 @@ few : (c : lts.After-entries-of (entries-of-reads.Asked, entries-of-reads.Learnt
 few c = let a = c .before .before .before .args in
     rw (c .entries-of .ensures .0) (part-few (a .run .first) (a .run .count) (now (a .log)) (c .before .before .before .pre .1))
 
-entries-of-requires : tie.Need-entries-of-requires
-entries-of-requires c κs = search needs
-
-lines-of-marker-requires : tie.Need-lines-of-marker-requires
-lines-of-marker-requires c κs = search needs
-
 add-lines : tie.Need-add-lines
 add-lines c = let m = c .lines-of-marker .ensures [] in
     omega (arith, few (c .before), m, one-few (given (markerSaid [] (c .before .before .before .before .args .run .marker))))
 
-one-if-requires : tie.Need-one-if-requires
-one-if-requires c κs = search needs
-
 add-lines-2 : tie.Need-add-lines-2
 add-lines-2 c = let a = c .before .before .before .before .before .args in
     omega (arith, few (c .before .before), c .before .lines-of-marker .ensures [], one-few (given (markerSaid [] (a .run .marker))), c .one-if .ensures, one-few (a .run .stop))
-
-put-line-requires : tie.Need-put-line-requires
-put-line-requires c κs = search needs
-
-put-marker-requires : tie.Need-put-marker-requires
-put-marker-requires c κs = search needs
 
 put-run-requires : tie.Need-put-run-requires
 put-run-requires c κs = omega (arith, few (c .before .before .before .before .before .before .before .before .before .before .before), c .before .before .before .before .before .before .before .put-line .ensures .0, c .before .before .before .before .before .before .before .put-line .kept, c .before .before .before .put-marker .ensures .0, c .before .before .before .put-marker .kept, c .before .before .before .before .before .before .before .before .before .before .before .before .before .before .pre)
 
 put-stop-requires : tie.Need-put-stop-requires
 put-stop-requires c κs = omega (arith, few (c .before .before .before .before .before .before .before .before .before .before .before .before .before .before .before), c .before .before .before .before .before .before .before .before .before .before .before .put-line .ensures .0, c .before .before .before .before .before .before .before .before .before .before .before .put-line .kept, c .before .before .before .before .before .before .before .put-marker .ensures .0, c .before .before .before .before .before .before .before .put-marker .kept, c .before .before .before .before .before .before .before .before .before .before .before .before .before .before .before .before .before .before .pre, c .before .before .before .put-run .ensures .0, c .before .before .before .put-run .kept)
-
-same-length : tie.Need-same-length
-same-length c = search needs
 
 returns : tie.Need-returns
 returns c =
@@ -70,14 +52,14 @@ pub put-shown-spec : {M : Type 1} → statement M
 put-shown-spec =
     tie.close
     (tie.spec
-    entries-of-requires
-    lines-of-marker-requires
+    (λ c κs. search needs)
+    (λ c κs. search needs)
     add-lines
-    one-if-requires
+    (λ c κs. search needs)
     add-lines-2
-    put-line-requires
-    put-marker-requires
+    (λ c κs. search needs)
+    (λ c κs. search needs)
     put-run-requires
     put-stop-requires
-    same-length
+    (λ c. search needs)
     returns)

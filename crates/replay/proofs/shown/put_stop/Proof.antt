@@ -12,12 +12,6 @@ use borrow.Author.Needs.{needs}
 use Rattle.replay.proofs.shown.put_stop.Statement.{statement}
 use Rattle.replay.proofs.shown.put_stop.Tie as tie
 
-put-line-requires : tie.Need-put-line-requires
-put-line-requires c κs = search needs
-
-same-length : tie.Need-same-length
-same-length c = search needs
-
 returns : tie.Need-returns
 returns c =
     let b = c .before .before in
@@ -32,4 +26,4 @@ returns-2 c =
     (omega arith, sym (append-nil front) ∙ sym (ap (λ (t : Bool). front ++ stopText (if t then some (a .index .stop) else none) (a .run .«stop_decided»)) (c .if1 .left)))
 
 pub put-stop-spec : {M : Type 1} → statement M
-put-stop-spec = tie.close (tie.spec put-line-requires same-length returns returns-2)
+put-stop-spec = tie.close (tie.spec (λ c κs. search needs) (λ c. search needs) returns returns-2)

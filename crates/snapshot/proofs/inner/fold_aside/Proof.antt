@@ -3,20 +3,8 @@ use borrow.Author.Needs.{needs}
 use Rattle.snapshot.proofs.inner.fold_aside.Statement.{statement}
 use Rattle.snapshot.proofs.inner.fold_aside.Tie as tie
 
-slice-aggregate-copy-words : tie.Need-slice-aggregate-copy-words
-slice-aggregate-copy-words c = search needs
-
-copy-words-requires : tie.Need-copy-words-requires
-copy-words-requires c κs = search needs
-
-slice-aggregate-fold-out : tie.Need-slice-aggregate-fold-out
-slice-aggregate-fold-out c = search needs
-
 fold-out-requires : tie.Need-fold-out-requires
 fold-out-requires c κs = rw (c .before .before .before .copy-words .ensures) (c .before .before .before .before .before .before .before .before .pre)
-
-same-length : tie.Need-same-length
-same-length c = search needs
 
 returns : tie.Need-returns
 returns c = rw (c .before .before .before .before .before .before .before .copy-words .ensures) at (c .before .before .before .fold-out .ensures)
@@ -25,9 +13,9 @@ pub fold-aside-spec : {M : Type 1} → statement M
 fold-aside-spec =
     tie.close
     (tie.spec
-    slice-aggregate-copy-words
-    copy-words-requires
-    slice-aggregate-fold-out
+    (λ c. search needs)
+    (λ c κs. search needs)
+    (λ c. search needs)
     fold-out-requires
-    same-length
+    (λ c. search needs)
     returns)

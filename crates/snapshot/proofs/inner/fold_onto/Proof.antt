@@ -22,37 +22,10 @@ loop-holds c =
     let a = c .before .before in
     (omega arith, sofar-start (a .args .kept) (now (a .args .s)) (a .pre .0))
 
-mul-at : tie.Need-mul-at Inv-loop μ-loop
-mul-at c = omega arith
-
-add-put : tie.Need-add-put Inv-loop μ-loop
-add-put c = omega arith
-
-mul-put : tie.Need-mul-put Inv-loop μ-loop
-mul-put c = omega arith
-
-sub-put : tie.Need-sub-put Inv-loop μ-loop
-sub-put c = search needs
-
-part-put-start : tie.Need-part-put-start Inv-loop μ-loop
-part-put-start c = search needs
-
-part-put-end : tie.Need-part-put-end Inv-loop μ-loop
-part-put-end c = search needs
-
 put-requires : tie.Need-put-requires Inv-loop μ-loop
 put-requires c κs =
     let l = c .before .before .before in
     (sofar-holds _ _ (l .loop .s) (l .loop .keys) (l .loop .inv .1), simp (length-take, length-drop) (omega arith))
-
-enum-known-r : tie.Need-enum-known-r Inv-loop μ-loop
-enum-known-r c = search needs
-
-enum-told : tie.Need-enum-told Inv-loop μ-loop
-enum-told c = search needs
-
-same-length : tie.Need-same-length Inv-loop μ-loop
-same-length c = search needs
 
 returns : tie.Need-returns Inv-loop μ-loop
 returns c =
@@ -62,12 +35,6 @@ returns c =
     let a = l .before .before .before in
     fold-refused (length (now (a .args .s))) (entriesOf (a .args .kept) (now (a .args .s))) (a .args .n) (now (a .args .entries)) (a .pre .1) (l .loop .i) (l .loop .s) (l .loop .keys) (l .loop .inv .1) (t .loop-test .taken) (q .put .result) (q .put .last .0) (q .put .ensures) _ (c .enum-told .given .1)
 
-add-i : tie.Need-add-i Inv-loop μ-loop
-add-i c = omega arith
-
-loop-less : tie.Need-loop-less Inv-loop μ-loop
-loop-less c = omega arith
-
 loop-again : tie.Need-loop-again Inv-loop μ-loop
 loop-again c =
     let q = c .before .before .before .before .before in
@@ -75,9 +42,6 @@ loop-again c =
     let l = t .before in
     let a = l .before .before .before in
     (omega arith, fold-turn (length (now (a .args .s))) (entriesOf (a .args .kept) (now (a .args .s))) (a .args .n) (now (a .args .entries)) (a .pre .1) (l .loop .i) (l .loop .s) (l .loop .keys) (l .loop .inv .1) (t .loop-test .taken) (q .put .result) (q .put .last .0) (q .put .ensures) _ (c .before .r .given .1))
-
-same-length-2 : tie.Need-same-length-2 Inv-loop μ-loop
-same-length-2 c = search needs
 
 returns-2 : tie.Need-returns-2 Inv-loop μ-loop
 returns-2 c =
@@ -92,19 +56,19 @@ fold-onto-spec =
     Inv-loop
     μ-loop
     loop-holds
-    mul-at
-    add-put
-    mul-put
-    sub-put
-    part-put-start
-    part-put-end
+    (λ c. omega arith)
+    (λ c. omega arith)
+    (λ c. omega arith)
+    (λ c. search needs)
+    (λ c. search needs)
+    (λ c. search needs)
     put-requires
-    enum-known-r
-    enum-told
-    same-length
+    (λ c. search needs)
+    (λ c. search needs)
+    (λ c. search needs)
     returns
-    add-i
-    loop-less
+    (λ c. omega arith)
+    (λ c. omega arith)
     loop-again
-    same-length-2
+    (λ c. search needs)
     returns-2)

@@ -10,29 +10,11 @@ fold-onto-requires c κs =
     let st = c .before .before .before .before in
     aside-needs (st .args .kept) (now (st .args .scratch)) (st .args .n) (now (st .args .entries)) (now (st .args .out)) (st .pre)
 
-enum-known-r : tie.Need-enum-known-r
-enum-known-r c = search needs
-
-enum-told : tie.Need-enum-told
-enum-told c = search needs
-
-same-length : tie.Need-same-length
-same-length c = search needs
-
 returns : tie.Need-returns
 returns c =
     let f = c .before .before .before .before in
     let st = f .before .before .before .before .before in
     out-refused (st .args .kept) (now (st .args .scratch)) (st .args .n) (now (st .args .entries)) (now (st .args .out)) (st .pre) (f .fold-onto .result) (f .fold-onto .last .0) (f .fold-onto .ensures) _ (c .enum-told .given .1)
-
-copy-words-requires : tie.Need-copy-words-requires
-copy-words-requires c κs = search needs
-
-same-length-2 : tie.Need-same-length-2
-same-length-2 c = search needs
-
-same-length-3 : tie.Need-same-length-3
-same-length-3 c = search needs
 
 returns-2 : tie.Need-returns-2
 returns-2 c =
@@ -47,11 +29,11 @@ fold-out-spec =
     tie.close
     (tie.spec
     fold-onto-requires
-    enum-known-r
-    enum-told
-    same-length
+    (λ c. search needs)
+    (λ c. search needs)
+    (λ c. search needs)
     returns
-    copy-words-requires
-    same-length-2
-    same-length-3
+    (λ c κs. search needs)
+    (λ c. search needs)
+    (λ c. search needs)
     returns-2)

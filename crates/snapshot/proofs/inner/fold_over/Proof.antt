@@ -19,28 +19,10 @@ folded-is : (f : tie.After-fold-onto)
     → FoldIs (length (now (startOf f .args .snapshot))) (foldOnto (entriesOf (startOf f .args .kept) (now (startOf f .args .snapshot))) (entriesOf (startOf f .args .n) (now (startOf f .args .entries)))) (f .fold-onto .result) (f .fold-onto .last .0)
 folded-is f = rw (f .before .before .before .copy-words .ensures) at (f .fold-onto .ensures)
 
-slice-aggregate-copy-words : tie.Need-slice-aggregate-copy-words
-slice-aggregate-copy-words c = search needs
-
-copy-words-requires : tie.Need-copy-words-requires
-copy-words-requires c κs = search needs
-
-slice-aggregate-fold-onto : tie.Need-slice-aggregate-fold-onto
-slice-aggregate-fold-onto c = search needs
-
 fold-onto-requires : tie.Need-fold-onto-requires
 fold-onto-requires c κs =
     let st = c .before .before .before .before .before .before .before .before in
     rw (c .before .before .copy-words .ensures) (aside-needs (st .args .kept) (now (st .args .snapshot)) (st .args .n) (now (st .args .entries)) (now (st .args .snapshot)) (st .pre .0))
-
-enum-known-r : tie.Need-enum-known-r
-enum-known-r c = search needs
-
-enum-told : tie.Need-enum-told
-enum-told c = search needs
-
-same-length : tie.Need-same-length
-same-length c = search needs
 
 returns : tie.Need-returns
 returns c =
@@ -48,18 +30,12 @@ returns c =
     let st = startOf f in
     twice-refused (st .args .kept) (now (st .args .snapshot)) (st .args .n) (now (st .args .entries)) (st .args .m) (now (st .args .more)) (st .pre .0) (st .pre .1) (f .fold-onto .result) (f .fold-onto .last .0) (folded-is f) _ (c .enum-told .given .1)
 
-slice-aggregate-fold-out : tie.Need-slice-aggregate-fold-out
-slice-aggregate-fold-out c = search needs
-
 fold-out-requires : tie.Need-fold-out-requires
 fold-out-requires c κs =
     let g = c .before .before .before in
     let f = g .before .before .before in
     let st = startOf f in
     twice-next (st .args .kept) (now (st .args .snapshot)) (st .args .n) (now (st .args .entries)) (st .args .m) (now (st .args .more)) (st .pre .0) (st .pre .1) (f .fold-onto .result) (f .fold-onto .last .0) (folded-is f) _ (g .r .given .1)
-
-same-length-2 : tie.Need-same-length-2
-same-length-2 c = search needs
 
 returns-2 : tie.Need-returns-2
 returns-2 c =
@@ -74,15 +50,15 @@ pub fold-over-spec : {M : Type 1} → statement M
 fold-over-spec =
     tie.close
     (tie.spec
-    slice-aggregate-copy-words
-    copy-words-requires
-    slice-aggregate-fold-onto
+    (λ c. search needs)
+    (λ c κs. search needs)
+    (λ c. search needs)
     fold-onto-requires
-    enum-known-r
-    enum-told
-    same-length
+    (λ c. search needs)
+    (λ c. search needs)
+    (λ c. search needs)
     returns
-    slice-aggregate-fold-out
+    (λ c. search needs)
     fold-out-requires
-    same-length-2
+    (λ c. search needs)
     returns-2)

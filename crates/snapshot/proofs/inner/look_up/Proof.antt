@@ -12,15 +12,6 @@ use borrow.Author.Needs.{needs}
 use Rattle.snapshot.proofs.inner.look_up.Statement.{statement}
 use Rattle.snapshot.proofs.inner.look_up.Tie as tie
 
-search-requires : tie.Need-search-requires
-search-requires c κs = search needs
-
-enum-known-spot : tie.Need-enum-known-spot
-enum-known-spot c = search needs
-
-enum-told : tie.Need-enum-told
-enum-told c = search needs
-
 returns : tie.Need-returns
 returns c =
     let f = c .before .before in
@@ -32,9 +23,6 @@ said-at-requires c κs =
     let f = c .before .before .before in
     let st = f .before .before in
     omega (arith, st .pre .laid .fits, spot-inside (st .args .n) (now (st .args .s)) (st .args .key) _ (sym (c .before .spot .given .1) ∙ f .search .ensures))
-
-found-of-requires : tie.Need-found-of-requires
-found-of-requires c κs = search needs
 
 returns-2 : tie.Need-returns-2
 returns-2 c =
@@ -49,10 +37,10 @@ pub look-up-spec : {M : Type 1} → statement M
 look-up-spec =
     tie.close
     (tie.spec
-    search-requires
-    enum-known-spot
-    enum-told
+    (λ c κs. search needs)
+    (λ c. search needs)
+    (λ c. search needs)
     returns
     said-at-requires
-    found-of-requires
+    (λ c κs. search needs)
     returns-2)

@@ -8,18 +8,6 @@ use borrow.Author.Needs.{needs}
 use Rattle.snapshot.proofs.inner.put.Statement.{statement}
 use Rattle.snapshot.proofs.inner.put.Tie as tie
 
-mul-used : tie.Need-mul-used
-mul-used c = search needs
-
-shared-slice-read-key : tie.Need-shared-slice-read-key
-shared-slice-read-key c = search needs
-
-search-requires : tie.Need-search-requires
-search-requires c κs = search needs
-
-enum-known-spot : tie.Need-enum-known-spot
-enum-known-spot c = search needs
-
 mul-splice : tie.Need-mul-splice
 mul-splice c =
     let k = c .before .before .before .before in
@@ -32,15 +20,6 @@ splice-requires c κs =
     let st = k .before .before .before .before .before in
     let i = spot-inside (st .args .n) (now (st .args .s)) _ _ (sym (c .before .before .spot .given .1) ∙ k .search .ensures) in
     (omega arith, (omega arith, (omega arith, st .pre .0 .laid .zeros)))
-
-enum-known-spot-2 : tie.Need-enum-known-spot-2
-enum-known-spot-2 c = search needs
-
-sub-if1 : tie.Need-sub-if1
-sub-if1 c = search needs
-
-same-length : tie.Need-same-length
-same-length c = search needs
 
 returns : tie.Need-returns
 returns c =
@@ -61,21 +40,12 @@ splice-requires-2 c κs =
     let i = before-inside (now (st .args .s)) (st .args .n) (now (st .args .item)) (st .pre .0) (st .pre .1) _ (sym (c .before .before .before .spot2 .given .1) ∙ k .search .ensures) in
     (omega arith, (omega arith, (omega arith, st .pre .0 .laid .zeros)))
 
-add-t19 : tie.Need-add-t19
-add-t19 c = search needs
-
-same-length-2 : tie.Need-same-length-2
-same-length-2 c = search needs
-
 returns-2 : tie.Need-returns-2
 returns-2 c =
     let k = c .before .before .before .before .before .before .before in
     let st = k .before .before .before .before .before in
     rw (c .before .before .splice .ensures)
     (put-at (now (st .args .s)) (st .args .n) (now (st .args .item)) (st .pre .0) (st .pre .1) _ (sym (c .before .before .before .before .before .spot .given .1) ∙ k .search .ensures))
-
-same-length-3 : tie.Need-same-length-3
-same-length-3 c = search needs
 
 returns-3 : tie.Need-returns-3
 returns-3 c =
@@ -88,20 +58,20 @@ pub put-spec : {M : Type 1} → statement M
 put-spec =
     tie.close
     (tie.spec
-    mul-used
-    shared-slice-read-key
-    search-requires
-    enum-known-spot
+    (λ c. search needs)
+    (λ c. search needs)
+    (λ c κs. search needs)
+    (λ c. search needs)
     mul-splice
     splice-requires
-    enum-known-spot-2
-    sub-if1
-    same-length
+    (λ c. search needs)
+    (λ c. search needs)
+    (λ c. search needs)
     returns
     mul-splice-2
     splice-requires-2
-    add-t19
-    same-length-2
+    (λ c. search needs)
+    (λ c. search needs)
     returns-2
-    same-length-3
+    (λ c. search needs)
     returns-3)

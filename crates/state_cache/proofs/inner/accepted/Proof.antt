@@ -6,12 +6,6 @@ use borrow.Author.Needs.{needs}
 use Rattle.state_cache.proofs.inner.accepted.Statement.{statement}
 use Rattle.state_cache.proofs.inner.accepted.Tie as tie
 
-end-requires : tie.Need-end-requires
-end-requires c κs = search needs
-
-one-if-requires : tie.Need-one-if-requires
-one-if-requires c κs = search needs
-
 add-result : tie.Need-add-result
 unfolding endOf
 add-result c = omega (arith, one-le (c .before .before .args .index .«stop_held»), c .before .end .ensures)
@@ -21,4 +15,4 @@ unfolding acceptedOf
 returns c = cc
 
 pub accepted-spec : {M : Type 1} → statement M
-accepted-spec = tie.close (tie.spec end-requires one-if-requires add-result returns)
+accepted-spec = tie.close (tie.spec (λ c κs. search needs) (λ c κs. search needs) add-result returns)

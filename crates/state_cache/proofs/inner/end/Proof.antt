@@ -5,12 +5,9 @@ use borrow.Author.Needs.{needs}
 use Rattle.state_cache.proofs.inner.end.Statement.{statement}
 use Rattle.state_cache.proofs.inner.end.Tie as tie
 
-add-result : tie.Need-add-result
-add-result c = search needs
-
 returns : tie.Need-returns
 unfolding endOf
 returns c = refl
 
 pub end-spec : {M : Type 1} → statement M
-end-spec = tie.close (tie.spec add-result returns)
+end-spec = tie.close (tie.spec (λ c. search needs) returns)

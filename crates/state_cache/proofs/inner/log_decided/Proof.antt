@@ -6,15 +6,9 @@ use borrow.Author.Needs.{needs}
 use Rattle.state_cache.proofs.inner.log_decided.Statement.{statement}
 use Rattle.state_cache.proofs.inner.log_decided.Tie as tie
 
-stop-decided-requires : tie.Need-stop-decided-requires
-stop-decided-requires c κs = search needs
-
 returns : tie.Need-returns
 unfolding logDecided
 returns c = rw (sym (c .before .before .stop-decided .ensures) ∙ c .before .if1 .taken) (omega arith)
-
-sub-result : tie.Need-sub-result
-sub-result c = search needs
 
 returns-2 : tie.Need-returns-2
 unfolding logDecided
@@ -25,5 +19,4 @@ unfolding logDecided
 returns-3 c = rw (sym (c .before .stop-decided .ensures) ∙ c .if1 .left)
 
 pub log-decided-spec : {M : Type 1} → statement M
-log-decided-spec =
-    tie.close (tie.spec stop-decided-requires returns sub-result returns-2 returns-3)
+log-decided-spec = tie.close (tie.spec (λ c κs. search needs) returns (λ c. search needs) returns-2 returns-3)

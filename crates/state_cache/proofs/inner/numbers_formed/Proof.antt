@@ -7,23 +7,11 @@ use borrow.Author.Needs.{needs}
 use Rattle.state_cache.proofs.inner.numbers_formed.Statement.{statement}
 use Rattle.state_cache.proofs.inner.numbers_formed.Tie as tie
 
-log-decided-requires : tie.Need-log-decided-requires
-log-decided-requires c κs = search needs
-
-end-requires : tie.Need-end-requires
-end-requires c κs = search needs
-
-accepted-requires : tie.Need-accepted-requires
-accepted-requires c κs = search needs
-
 add-result : tie.Need-add-result
 unfolding endOf
 add-result c =
     let st = c .before .before .before .before .before in
     omega (arith, accepted-le (numbersIn (st .args .index)), c .before .before .accepted .ensures, st .pre)
-
-add-result-2 : tie.Need-add-result-2
-add-result-2 c = search needs
 
 returns : tie.Need-returns
 unfolding numbersFormed
@@ -32,4 +20,10 @@ returns c = cc
 pub numbers-formed-spec : {M : Type 1} → statement M
 numbers-formed-spec =
     tie.close
-    (tie.spec log-decided-requires end-requires accepted-requires add-result add-result-2 returns)
+    (tie.spec
+    (λ c κs. search needs)
+    (λ c κs. search needs)
+    (λ c κs. search needs)
+    add-result
+    (λ c. search needs)
+    returns)

@@ -8,18 +8,6 @@ use borrow.Author.Needs.{needs}
 use Rattle.state_cache.proofs.inner.reload.Statement.{statement}
 use Rattle.state_cache.proofs.inner.reload.Tie as tie
 
-add-used : tie.Need-add-used
-add-used c = search needs
-
-mul-used : tie.Need-mul-used
-mul-used c = search needs
-
-mul-cut-out : tie.Need-mul-cut-out
-mul-cut-out c = search needs
-
-mul-cut-out-2 : tie.Need-mul-cut-out-2
-mul-cut-out-2 c = search needs
-
 cut-out-requires : tie.Need-cut-out-requires
 cut-out-requires c κs =
     let st = c .before .before .before .before .before .before in
@@ -31,9 +19,6 @@ accepted-requires c κs =
     let s = sound-small _ (st .pre .numbers) in
     record { few = s .few; waiting = omega arith; low = s .low }
 
-same-length : tie.Need-same-length
-same-length c = search needs
-
 returns : tie.Need-returns
 returns c =
     let k = c .before .before .before in
@@ -44,11 +29,11 @@ pub reload-spec : {M : Type 1} → statement M
 reload-spec =
     tie.close
     (tie.spec
-    add-used
-    mul-used
-    mul-cut-out
-    mul-cut-out-2
+    (λ c. search needs)
+    (λ c. search needs)
+    (λ c. search needs)
+    (λ c. search needs)
     cut-out-requires
     accepted-requires
-    same-length
+    (λ c. search needs)
     returns)

@@ -4,12 +4,9 @@ use borrow.Author.Needs.{needs}
 use Rattle.state_cache.proofs.inner.stop_decided.Statement.{statement}
 use Rattle.state_cache.proofs.inner.stop_decided.Tie as tie
 
-accepted-requires : tie.Need-accepted-requires
-accepted-requires c κs = search needs
-
 returns : tie.Need-returns
 unfolding stopDecided
 returns c = cc
 
 pub stop-decided-spec : {M : Type 1} → statement M
-stop-decided-spec = tie.close (tie.spec accepted-requires returns)
+stop-decided-spec = tie.close (tie.spec (λ c κs. search needs) returns)

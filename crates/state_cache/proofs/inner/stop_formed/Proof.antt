@@ -4,15 +4,9 @@ use borrow.Author.Needs.{needs}
 use Rattle.state_cache.proofs.inner.stop_formed.Statement.{statement}
 use Rattle.state_cache.proofs.inner.stop_formed.Tie as tie
 
-sign-formed-requires : tie.Need-sign-formed-requires
-sign-formed-requires c κs = search needs
-
-sign-blank-requires : tie.Need-sign-blank-requires
-sign-blank-requires c κs = search needs
-
 returns : tie.Need-returns
 unfolding signHeld
 returns c = cc
 
 pub stop-formed-spec : {M : Type 1} → statement M
-stop-formed-spec = tie.close (tie.spec sign-formed-requires sign-blank-requires returns)
+stop-formed-spec = tie.close (tie.spec (λ c κs. search needs) (λ c κs. search needs) returns)

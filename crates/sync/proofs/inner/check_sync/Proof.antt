@@ -112,24 +112,6 @@ left7 e =
     left6 (e .before)
     ∙ first-goes-on 6 _ _ _ (not-above (startOf k .args .log-sync .«sync_idx» .0) (startOf k .args .n) (startOf k .args .decided-idx .0) _ _ (startOf k .args .log-sync .«stop_held») (numbersAt k) (k .before .before .one-if .ensures) (k .before .larger .ensures) (e .if7 .left))
 
-is-plain-requires : tie.Need-is-plain-requires
-is-plain-requires c κs = search needs
-
-end-requires : tie.Need-end-requires
-end-requires c κs = search needs
-
-accepted-requires : tie.Need-accepted-requires
-accepted-requires c κs = search needs
-
-one-if-requires : tie.Need-one-if-requires
-one-if-requires c κs = search needs
-
-larger-requires : tie.Need-larger-requires
-larger-requires c κs = search needs
-
-stop-decided-requires : tie.Need-stop-decided-requires
-stop-decided-requires c κs = search needs
-
 returns : tie.Need-returns
 unfolding partNumberGuards
 returns c = let k = c .before in found {gs = guardsAt k} (stopping (sym (k .stop-decided .ensures) ∙ c .if1 .taken) (k .before .before .before .accepted .ensures))
@@ -174,9 +156,6 @@ returns-5 c =
     found {gs = drop 4 (guardsAt k)}
     (stopping (past-is _ _ _ _ (startOf k .args .log-sync .«stop_held») _ (k .before .before .one-if .ensures) (m .past-last .ensures) ∙ c .if5 .taken) (k .before .before .before .accepted .ensures))
     ∙ sym (left4 e)
-
-kept-of-requires : tie.Need-kept-of-requires
-kept-of-requires c κs = search needs
 
 add-if6 : tie.Need-add-if6
 add-if6 c = omega (arith, few c, startOf (from5 (c .before)) .pre .room)
@@ -236,12 +215,12 @@ pub check-sync-spec : {M : Type 1} → statement M
 check-sync-spec =
     tie.close
     (tie.spec
-    is-plain-requires
-    end-requires
-    accepted-requires
-    one-if-requires
-    larger-requires
-    stop-decided-requires
+    (λ c κs. search needs)
+    (λ c κs. search needs)
+    (λ c κs. search needs)
+    (λ c κs. search needs)
+    (λ c κs. search needs)
+    (λ c κs. search needs)
     returns
     returns-2
     returns-3
@@ -249,7 +228,7 @@ check-sync-spec =
     add-past-last
     past-last-requires
     returns-5
-    kept-of-requires
+    (λ c κs. search needs)
     add-if6
     sub-if6
     returns-6

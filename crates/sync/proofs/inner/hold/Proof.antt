@@ -16,20 +16,11 @@ stateAt c = raw (c .args .index) (now (c .args .log)) (now (c .args .snapshot))
 abbrev startOf : tie.After-log-decided → tie.Start
 startOf k = k .before .before .before .before .before .before
 
-enum-told : tie.Need-enum-told
-enum-told c = search needs
-
-enum-told-2 : tie.Need-enum-told-2
-enum-told-2 c = search needs
-
 copy-words-requires : tie.Need-copy-words-requires
 copy-words-requires c κs =
     let t = c .before in
     let st = t .before .before .before .before .before in
     st .pre .1 (ap plainBy (t .enum-told2 .given .1)) .laid .long ∙ sym (st .pre .0 .snapshot .laid .long)
-
-enum-told-3 : tie.Need-enum-told-3
-enum-told-3 c = search needs
 
 log-decided-requires : tie.Need-log-decided-requires
 log-decided-requires c κs = sound-small _ (c .before .before .before .before .before .pre .0 .numbers)
@@ -53,18 +44,12 @@ returns c =
     let st = c .before .before .before .before .before in
     hold-plain (st .args .kind) (stateAt st) (st .pre .0) (st .args .keys) (now (st .args .incoming)) (c .enum-told .given .1)
 
-same-length : tie.Need-same-length
-same-length c = search needs
-
 returns-2 : tie.Need-returns-2
 returns-2 c =
     let w = c .before .before in
     let t = w .before .before in
     let st = t .before .before .before .before .before in
     hold-complete (st .args .kind) (stateAt st) (st .pre .0) (st .args .keys) (now (st .args .incoming)) (t .enum-told2 .given .1) (st .pre .1 (ap plainBy (t .enum-told2 .given .1))) _ (w .copy-words .ensures)
-
-same-length-2 : tie.Need-same-length-2
-same-length-2 c = search needs
 
 returns-3 : tie.Need-returns-3
 returns-3 c =
@@ -78,15 +63,15 @@ pub hold-spec : {M : Type 1} → statement M
 hold-spec =
     tie.close
     (tie.spec
-    enum-told
-    enum-told-2
+    (λ c. search needs)
+    (λ c. search needs)
     copy-words-requires
-    enum-told-3
+    (λ c. search needs)
     log-decided-requires
     sub-n
     fold-over-requires
     returns
-    same-length
+    (λ c. search needs)
     returns-2
-    same-length-2
+    (λ c. search needs)
     returns-3)

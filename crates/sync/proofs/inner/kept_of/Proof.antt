@@ -3,9 +3,6 @@ use borrow.Author.Needs.{needs}
 use Rattle.sync.proofs.inner.kept_of.Statement.{statement}
 use Rattle.sync.proofs.inner.kept_of.Tie as tie
 
-sub-result : tie.Need-sub-result
-sub-result c = search needs
-
 returns : tie.Need-returns
 returns c = rw (c .if1 .taken)
 
@@ -13,4 +10,4 @@ returns-2 : tie.Need-returns-2
 returns-2 c = search needs
 
 pub kept-of-spec : {M : Type 1} → statement M
-kept-of-spec = tie.close (tie.spec sub-result returns returns-2)
+kept-of-spec = tie.close (tie.spec (λ c. search needs) returns returns-2)

@@ -3,11 +3,8 @@ use borrow.Author.Needs.{needs}
 use Rattle.sync.proofs.inner.mark.Statement.{statement}
 use Rattle.sync.proofs.inner.mark.Tie as tie
 
-larger-requires : tie.Need-larger-requires
-larger-requires c κs = search needs
-
 returns : tie.Need-returns
 returns c = rw (c .larger .ensures)
 
 pub mark-spec : {M : Type 1} → statement M
-mark-spec = tie.close (tie.spec larger-requires returns)
+mark-spec = tie.close (tie.spec (λ c κs. search needs) returns)

@@ -4,12 +4,6 @@ use borrow.Author.Needs.{needs}
 use Rattle.sync.proofs.inner.round_at.Statement.{statement}
 use Rattle.sync.proofs.inner.round_at.Tie as tie
 
-accepted-requires : tie.Need-accepted-requires
-accepted-requires c κs = search needs
-
-mark-requires : tie.Need-mark-requires
-mark-requires c κs = search needs
-
 returns : tie.Need-returns
 returns c =
     let m = c .before .before in
@@ -23,4 +17,4 @@ returns-2 c =
     round-passes (a .accepted-round) (a .decided-idx .0) (m .before .accepted .result) (a .index) (m .mark .result) (m .before .accepted .ensures) (m .mark .ensures) (c .if1 .left)
 
 pub round-at-spec : {M : Type 1} → statement M
-round-at-spec = tie.close (tie.spec accepted-requires mark-requires returns returns-2)
+round-at-spec = tie.close (tie.spec (λ c κs. search needs) (λ c κs. search needs) returns returns-2)

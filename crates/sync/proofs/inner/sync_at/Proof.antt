@@ -48,32 +48,11 @@ took : (m : tie.After-take-suffix) → let st = startOf (toldOf (holdOf m)) in
     Taken (st .args .log-sync) (length (now (st .args .suffix)) / width) (m .before .before .before .r2 .given .0 .0) (marked (st .args .accepted-round) (st .args .decided-idx .0) (st .args .index)) (now (st .args .log)) (now (st .args .suffix)) (m .take-suffix .result) (m .take-suffix .last .1 .0)
 took m = rw (markOf (holdOf m) .mark .ensures) at (m .take-suffix .ensures)
 
-check-sync-requires : tie.Need-check-sync-requires
-check-sync-requires c κs = search needs
-
-enum-known-check : tie.Need-enum-known-check
-enum-known-check c = search needs
-
 returns : tie.Need-returns
 returns c =
     let k = c .before .before .before in
     let st = k .before .before .before .before .before in
     sync-refused (stateAt st) (st .args .log-sync) (now (st .args .incoming)) (now (st .args .suffix)) (st .pre) (st .args .accepted-round) (st .args .decided-idx .0) _ _ (ap verdictOf (sym (c .before .check .given .1)) ∙ k .check-sync .ensures)
-
-enum-told : tie.Need-enum-told
-enum-told c = search needs
-
-mark-requires : tie.Need-mark-requires
-mark-requires c κs = search needs
-
-hold-requires : tie.Need-hold-requires
-hold-requires c κs = search needs
-
-enum-known-r : tie.Need-enum-known-r
-enum-known-r c = search needs
-
-enum-known-r-2 : tie.Need-enum-known-r-2
-enum-known-r-2 c = search needs
 
 take-suffix-requires : tie.Need-take-suffix-requires
 take-suffix-requires c κs =
@@ -89,24 +68,12 @@ accepted-requires c κs =
     let st = startOf t in
     fits-small (stateAt st) (st .args .log-sync) (now (st .args .incoming)) (now (st .args .suffix)) (st .pre) (st .args .accepted-round) (st .args .decided-idx .0) (pass t) _ (m .take-suffix .result) (took m .index)
 
-same-length : tie.Need-same-length
-same-length c = search needs
-
-same-length-2 : tie.Need-same-length-2
-same-length-2 c = search needs
-
 returns-2 : tie.Need-returns-2
 returns-2 c =
     let h = c .before .before .before .before .before in
     let t = toldOf h in
     let st = startOf t in
     sync-over (stateAt st) (st .args .log-sync) (now (st .args .incoming)) (now (st .args .suffix)) (st .pre) (st .args .accepted-round) (st .args .decided-idx .0) (pass t) (h .hold .result) (h .hold .last .1 .1 .0) (h .hold .ensures) _ (c .before .r .given .1)
-
-same-length-3 : tie.Need-same-length-3
-same-length-3 c = search needs
-
-same-length-4 : tie.Need-same-length-4
-same-length-4 c = search needs
 
 returns-3 : tie.Need-returns-3
 returns-3 c =
@@ -120,19 +87,19 @@ pub sync-at-spec : {M : Type 1} → statement M
 sync-at-spec =
     tie.close
     (tie.spec
-    check-sync-requires
-    enum-known-check
+    (λ c κs. search needs)
+    (λ c. search needs)
     returns
-    enum-told
-    mark-requires
-    hold-requires
-    enum-known-r
-    enum-known-r-2
+    (λ c. search needs)
+    (λ c κs. search needs)
+    (λ c κs. search needs)
+    (λ c. search needs)
+    (λ c. search needs)
     take-suffix-requires
     accepted-requires
-    same-length
-    same-length-2
+    (λ c. search needs)
+    (λ c. search needs)
     returns-2
-    same-length-3
-    same-length-4
+    (λ c. search needs)
+    (λ c. search needs)
     returns-3)

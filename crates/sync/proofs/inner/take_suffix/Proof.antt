@@ -15,24 +15,6 @@ few k =
     let st = startOf k in
     kept-few (st .args .log-sync) (st .args .n) (st .args .keys) (st .args .index) (now (st .args .log)) (now (st .args .suffix)) (st .pre) (k .before .is-plain .result) (k .before .is-plain .ensures) (k .kept-of .result) (k .kept-of .ensures)
 
-is-plain-requires : tie.Need-is-plain-requires
-is-plain-requires c κs = search needs
-
-kept-of-requires : tie.Need-kept-of-requires
-kept-of-requires c κs = search needs
-
-start-of-requires : tie.Need-start-of-requires
-start-of-requires c κs = search needs
-
-sign-if-requires : tie.Need-sign-if-requires
-sign-if-requires c κs = search needs
-
-add-splice : tie.Need-add-splice
-add-splice c = search needs
-
-mul-splice : tie.Need-mul-splice
-mul-splice c = search needs
-
 mul-splice-2 : tie.Need-mul-splice-2
 mul-splice-2 c =
     let k = c .before .before .before .before in
@@ -60,9 +42,6 @@ add-next c =
     let st = startOf k in
     omega (arith, st .pre .room, kept-is (st .args .log-sync) (st .args .n) (st .args .keys) (st .args .index) (now (st .args .log)) (now (st .args .suffix)) (st .pre) (k .before .is-plain .result) (k .before .is-plain .ensures) (k .kept-of .result) (k .kept-of .ensures))
 
-same-length : tie.Need-same-length
-same-length c = search needs
-
 returns : tie.Need-returns
 returns c =
     let w = c .before .before .before in
@@ -75,16 +54,16 @@ pub take-suffix-spec : {M : Type 1} → statement M
 take-suffix-spec =
     tie.close
     (tie.spec
-    is-plain-requires
-    kept-of-requires
-    start-of-requires
-    sign-if-requires
-    add-splice
-    mul-splice
+    (λ c κs. search needs)
+    (λ c κs. search needs)
+    (λ c κs. search needs)
+    (λ c κs. search needs)
+    (λ c. search needs)
+    (λ c. search needs)
     mul-splice-2
     sub-splice
     mul-splice-3
     splice-requires
     add-next
-    same-length
+    (λ c. search needs)
     returns)

@@ -19,9 +19,6 @@ abbrev μ-loop : tie.MeasureT-loop
 returns : tie.Need-returns Inv-loop μ-loop
 returns c = sym (number-empty (now (c .before .args .s)) (c .if1 .taken))
 
-shared-slice-read-if3 : tie.Need-shared-slice-read-if3 Inv-loop μ-loop
-shared-slice-read-if3 c = omega arith
-
 returns-2 : tie.Need-returns-2 Inv-loop μ-loop
 returns-2 c =
     let a = c .before .before .before .before .args in
@@ -37,9 +34,6 @@ loop-holds c = let s = now (c .before .before .args .s) in (
       (c .if2 .came),
 )
 
-shared-slice-read-b : tie.Need-shared-slice-read-b Inv-loop μ-loop
-shared-slice-read-b c = omega arith
-
 returns-3 : tie.Need-returns-3 Inv-loop μ-loop
 returns-3 c =
     let l = c .before .before .before in
@@ -52,29 +46,11 @@ returns-4 c =
     let a = l .before .before .before .args in
     sym (whole-above (l .loop .n) (now (a .s)) (l .loop .i) (omega arith) (c .if5 .taken)) ∙ l .loop .inv .2
 
-cast-d : tie.Need-cast-d Inv-loop μ-loop
-cast-d c = omega arith
-
-sub-if6 : tie.Need-sub-if6 Inv-loop μ-loop
-sub-if6 c = omega arith
-
 returns-5 : tie.Need-returns-5 Inv-loop μ-loop
 returns-5 c =
     let l = c .before .before .before .before .before in
     let a = l .before .before .before .args in
     sym (whole-over (l .loop .n) (now (a .s)) (l .loop .i) (omega arith) (omega arith)) ∙ l .loop .inv .2
-
-mul-n : tie.Need-mul-n Inv-loop μ-loop
-mul-n c = omega arith
-
-add-n : tie.Need-add-n Inv-loop μ-loop
-add-n c = omega arith
-
-add-i : tie.Need-add-i Inv-loop μ-loop
-add-i c = omega arith
-
-loop-less : tie.Need-loop-less Inv-loop μ-loop
-loop-less c = omega arith
 
 loop-again : tie.Need-loop-again Inv-loop μ-loop
 loop-again c =
@@ -95,18 +71,18 @@ number-spec =
     Inv-loop
     μ-loop
     returns
-    shared-slice-read-if3
+    (λ c. omega arith)
     returns-2
     loop-holds
-    shared-slice-read-b
+    (λ c. omega arith)
     returns-3
     returns-4
-    cast-d
-    sub-if6
+    (λ c. omega arith)
+    (λ c. omega arith)
     returns-5
-    mul-n
-    add-n
-    add-i
-    loop-less
+    (λ c. omega arith)
+    (λ c. omega arith)
+    (λ c. omega arith)
+    (λ c. omega arith)
     loop-again
     returns-6)

@@ -7,18 +7,6 @@ use borrow.Author.Needs.{needs}
 use Rattle.text.proofs.inner.put_one.Statement.{statement}
 use Rattle.text.proofs.inner.put_one.Tie as tie
 
-put-requires : tie.Need-put-requires
-put-requires c κs = search needs
-
-put-number-requires : tie.Need-put-number-requires
-put-number-requires c κs = search needs
-
-put-requires-2 : tie.Need-put-requires-2
-put-requires-2 c κs = search needs
-
-same-length : tie.Need-same-length
-same-length c = search needs
-
 returns : tie.Need-returns
 returns c =
     let q = c .before .before in
@@ -29,4 +17,10 @@ returns c =
 
 pub put-one-spec : {M : Type 1} → statement M
 put-one-spec =
-    tie.close (tie.spec put-requires put-number-requires put-requires-2 same-length returns)
+    tie.close
+    (tie.spec
+    (λ c κs. search needs)
+    (λ c κs. search needs)
+    (λ c κs. search needs)
+    (λ c. search needs)
+    returns)

@@ -26,27 +26,6 @@ loop-holds c =
     let e : a .decided - 0 ≡ a .decided = omega arith in
     (omega arith, omega arith, refl, ap (λ (k : ℕ). take (a .at) (now (a .out)) ++ entryLines k (entriesOf (a .n) (now (a .entries)))) e)
 
-mul-key : tie.Need-mul-key Inv-loop μ-loop
-mul-key c = omega arith
-
-mul-key-2 : tie.Need-mul-key-2 Inv-loop μ-loop
-mul-key-2 c = omega arith
-
-shared-slice-read-key : tie.Need-shared-slice-read-key Inv-loop μ-loop
-shared-slice-read-key c = omega arith
-
-said-at-requires : tie.Need-said-at-requires Inv-loop μ-loop
-said-at-requires c κs = omega arith
-
-put-entry-requires : tie.Need-put-entry-requires Inv-loop μ-loop
-put-entry-requires c κs = omega arith
-
-add-i : tie.Need-add-i Inv-loop μ-loop
-add-i c = omega arith
-
-loop-less : tie.Need-loop-less Inv-loop μ-loop
-loop-less c = omega arith
-
 loop-again : tie.Need-loop-again Inv-loop μ-loop
 loop-again c =
     let p = c .before .before in
@@ -62,9 +41,6 @@ loop-again c =
       turn (take (l .loop .o) (l .loop .out)) (line (changeAt ws i .said)) (entryLines (a .decided - i) (drop i es)) (entryLines (a .decided - (i + 1)) (drop (i + 1) es)) (take (a .at) (now (a .out)) ++ entryLines (a .decided) es) (p .put-entry .ensures .1 ∙ ap (λ (x : Said). take (l .loop .o) (l .loop .out) ++ line x) (p .before .said-at .ensures)) (lines-next (a .decided) (a .n) ws i (omega arith)) (l .loop .inv .3),
     )
 
-same-length : tie.Need-same-length Inv-loop μ-loop
-same-length c = omega arith
-
 returns : tie.Need-returns Inv-loop μ-loop
 returns c =
     let l = c .before in
@@ -78,13 +54,13 @@ put-run-spec =
     Inv-loop
     μ-loop
     loop-holds
-    mul-key
-    mul-key-2
-    shared-slice-read-key
-    said-at-requires
-    put-entry-requires
-    add-i
-    loop-less
+    (λ c. omega arith)
+    (λ c. omega arith)
+    (λ c. omega arith)
+    (λ c κs. omega arith)
+    (λ c κs. omega arith)
+    (λ c. omega arith)
+    (λ c. omega arith)
     loop-again
-    same-length
+    (λ c. omega arith)
     returns)

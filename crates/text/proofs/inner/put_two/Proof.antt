@@ -8,21 +8,6 @@ use borrow.Author.Needs.{needs}
 use Rattle.text.proofs.inner.put_two.Statement.{statement}
 use Rattle.text.proofs.inner.put_two.Tie as tie
 
-slice-aggregate-put-one : tie.Need-slice-aggregate-put-one
-slice-aggregate-put-one c = search needs
-
-put-one-requires : tie.Need-put-one-requires
-put-one-requires c κs = search needs
-
-slice-aggregate-put-count : tie.Need-slice-aggregate-put-count
-slice-aggregate-put-count c = search needs
-
-put-count-requires : tie.Need-put-count-requires
-put-count-requires c κs = search needs
-
-same-length : tie.Need-same-length
-same-length c = search needs
-
 returns : tie.Need-returns
 returns c =
     let q = c .before .before in
@@ -34,9 +19,9 @@ pub put-two-spec : {M : Type 1} → statement M
 put-two-spec =
     tie.close
     (tie.spec
-    slice-aggregate-put-one
-    put-one-requires
-    slice-aggregate-put-count
-    put-count-requires
-    same-length
+    (λ c. search needs)
+    (λ c κs. search needs)
+    (λ c. search needs)
+    (λ c κs. search needs)
+    (λ c. search needs)
     returns)

@@ -13,11 +13,8 @@ returns c = simp (le-leb _ _ (c .if1 .taken))
 slice-aggregate-write-all : tie.Need-slice-aggregate-write-all
 slice-aggregate-write-all c = sym (length-take-le _ _ (omega arith))
 
-write-all-requires : tie.Need-write-all-requires
-write-all-requires c κs = search needs
-
 returns-2 : tie.Need-returns-2
 returns-2 c = simp (lt-leb _ _ (c .before .before .if1 .left))
 
 pub room-spec : {M : Type 1} → statement M
-room-spec = tie.close (tie.spec returns slice-aggregate-write-all write-all-requires returns-2)
+room-spec = tie.close (tie.spec returns slice-aggregate-write-all (λ c κs. search needs) returns-2)

@@ -27,12 +27,6 @@ past : (p : tie.After-past-last) → let x = p .before .before .before .before .
     p .past-last .result ≡ ltb lastIndex (acceptedOf (numbersIn x) + x .batched)
 past p = let x = p .before .before .before .before .before .args .index in past-sum x (p .before .one-if .result) (p .before .one-if .ensures) _ (p .past-last .ensures)
 
-accepted-requires : tie.Need-accepted-requires
-accepted-requires c κs = search needs
-
-one-if-requires : tie.Need-one-if-requires
-one-if-requires c κs = search needs
-
 add-more : tie.Need-add-more
 add-more c =
     let st = c .before .before .before .before in
@@ -81,8 +75,8 @@ pub judge-last-spec : {M : Type 1} → statement M
 judge-last-spec =
     tie.close
     (tie.spec
-    accepted-requires
-    one-if-requires
+    (λ c κs. search needs)
+    (λ c κs. search needs)
     add-more
     past-last-requires
     returns

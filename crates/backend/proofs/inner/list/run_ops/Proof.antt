@@ -46,12 +46,6 @@ loop-holds c =
     let st = c .before .before .before .before .before in
     (omega arith, (ready-held (stateAt st) (st .pre .ready), all-left (stateAt st) (lentAt st) (opsIn (st .args .list))))
 
-mul-o : tie.Need-mul-o Inv-loop μ-loop
-mul-o c = omega arith
-
-array-copy-out-o : tie.Need-array-copy-out-o Inv-loop μ-loop
-array-copy-out-o c = search needs
-
 step-requires : tie.Need-step-requires Inv-loop μ-loop
 step-requires c κs =
     let l = c .before .before .before .before in
@@ -68,9 +62,6 @@ step-requires c κs =
         ),
       ),
     )
-
-enum-known-answer : tie.Need-enum-known-answer Inv-loop μ-loop
-enum-known-answer c = search needs
 
 same-length : tie.Need-same-length Inv-loop μ-loop
 same-length c =
@@ -95,15 +86,6 @@ returns c =
     wrote-refused (stateAt st) (lentAt st) (opsIn (a .list)) _ (raw (v .index) (p .step .last .1 .1 .1 .0) (p .step .last .1 .1 .1 .1 .0))
     (turn-refused (numbersIn (a .before)) (lentAt st) (a .list .ops) (a .list .count) (st .pre .few) (eight st) (asked (stateAt st) (lentAt st) (opsIn (a .list))) (end (stateAt st) (lentAt st) (opsIn (a .list))) (midstOf (v .start) (raw (v .index) (v .log) (v .snapshot))) (v .i) (v .inv .1 .1) (t .loop-test .taken)
     (p .step .result) (p .step .last .1 .1 .1 .0) (p .step .last .1 .1 .1 .1 .0) (p .step .ensures) _ (c .before .answer .given .1))
-
-enum-told : tie.Need-enum-told Inv-loop μ-loop
-enum-told c = search needs
-
-add-i : tie.Need-add-i Inv-loop μ-loop
-add-i c = omega arith
-
-loop-less : tie.Need-loop-less Inv-loop μ-loop
-loop-less c = omega arith
 
 loop-again : tie.Need-loop-again Inv-loop μ-loop
 loop-again c =
@@ -158,16 +140,16 @@ run-ops-spec =
     Inv-loop
     μ-loop
     loop-holds
-    mul-o
-    array-copy-out-o
+    (λ c. omega arith)
+    (λ c. search needs)
     step-requires
-    enum-known-answer
+    (λ c. search needs)
     same-length
     same-length-2
     returns
-    enum-told
-    add-i
-    loop-less
+    (λ c. search needs)
+    (λ c. omega arith)
+    (λ c. omega arith)
     loop-again
     judge-last-requires
     same-length-3

@@ -46,24 +46,6 @@ stood e =
     let p = e .before .before .before .before .before in
     ready-of (left p) (ran p .after (ap settled (e .enum-told .given .1)) .0)
 
-slice-aggregate-copy-words : tie.Need-slice-aggregate-copy-words
-slice-aggregate-copy-words c = search needs
-
-copy-words-requires : tie.Need-copy-words-requires
-copy-words-requires c κs = search needs
-
-slice-aggregate-copy-words-2 : tie.Need-slice-aggregate-copy-words-2
-slice-aggregate-copy-words-2 c = search needs
-
-copy-words-requires-2 : tie.Need-copy-words-requires-2
-copy-words-requires-2 c κs = search needs
-
-slice-aggregate-run-ops : tie.Need-slice-aggregate-run-ops
-slice-aggregate-run-ops c = search needs
-
-slice-aggregate-run-ops-2 : tie.Need-slice-aggregate-run-ops-2
-slice-aggregate-run-ops-2 c = search needs
-
 run-ops-requires : tie.Need-run-ops-requires
 run-ops-requires c κs =
     let k = c .before .before .before in
@@ -71,45 +53,21 @@ run-ops-requires c κs =
     listed-copy (st .args .before) (now (st .args .log)) (firstCopy k .copy-words .last .1 .0) (now (st .args .snapshot)) (k .copy-words2 .last .1 .0) (firstCopy k .copy-words .ensures) (k .copy-words2 .ensures)
     (st .args .lent) (now (st .args .entries)) (now (st .args .incoming)) (st .args .list) (st .pre)
 
-enum-known-answer : tie.Need-enum-known-answer
-enum-known-answer c = search needs
-
-same-length : tie.Need-same-length
-same-length c = search needs
-
-same-length-2 : tie.Need-same-length-2
-same-length-2 c = search needs
-
 returns : tie.Need-returns
 returns c =
     let p = c .before .before .before .before .before .before in
     let st = startOf (copied p) in
     write-refused (stateAt st) (lentAt st) (opsIn (st .args .list)) (st .pre .ready .okay) (st .pre .okay) (p .run-ops .result .answer) (left p) (ran p) _ (c .before .answer .given .1)
 
-enum-told : tie.Need-enum-told
-enum-told c = search needs
-
-slice-aggregate-copy-words-3 : tie.Need-slice-aggregate-copy-words-3
-slice-aggregate-copy-words-3 c = search needs
-
 copy-words-requires-3 : tie.Need-copy-words-requires-3
 copy-words-requires-3 c κs =
     let e = c .before .before in
     stood e .log .long ∙ sym (startOf (copied (e .before .before .before .before .before)) .pre .ready .log .long)
 
-slice-aggregate-copy-words-4 : tie.Need-slice-aggregate-copy-words-4
-slice-aggregate-copy-words-4 c = search needs
-
 copy-words-requires-4 : tie.Need-copy-words-requires-4
 copy-words-requires-4 c κs =
     let e = c .before .before .before .before .before .before .before in
     stood e .snapshot .laid .long ∙ sym (startOf (copied (e .before .before .before .before .before)) .pre .ready .snapshot .laid .long)
-
-same-length-3 : tie.Need-same-length-3
-same-length-3 c = search needs
-
-same-length-4 : tie.Need-same-length-4
-same-length-4 c = search needs
 
 returns-2 : tie.Need-returns-2
 returns-2 c =
@@ -125,22 +83,22 @@ pub write-at-spec : {M : Type 1} → statement M
 write-at-spec =
     tie.close
     (tie.spec
-    slice-aggregate-copy-words
-    copy-words-requires
-    slice-aggregate-copy-words-2
-    copy-words-requires-2
-    slice-aggregate-run-ops
-    slice-aggregate-run-ops-2
+    (λ c. search needs)
+    (λ c κs. search needs)
+    (λ c. search needs)
+    (λ c κs. search needs)
+    (λ c. search needs)
+    (λ c. search needs)
     run-ops-requires
-    enum-known-answer
-    same-length
-    same-length-2
+    (λ c. search needs)
+    (λ c. search needs)
+    (λ c. search needs)
     returns
-    enum-told
-    slice-aggregate-copy-words-3
+    (λ c. search needs)
+    (λ c. search needs)
     copy-words-requires-3
-    slice-aggregate-copy-words-4
+    (λ c. search needs)
     copy-words-requires-4
-    same-length-3
-    same-length-4
+    (λ c. search needs)
+    (λ c. search needs)
     returns-2)

@@ -4,12 +4,9 @@ use borrow.Author.Needs.{needs}
 use Rattle.backend.proofs.inner.request.incoming_formed.Statement.{statement}
 use Rattle.backend.proofs.inner.request.incoming_formed.Tie as tie
 
-snapshot-formed-requires : tie.Need-snapshot-formed-requires
-snapshot-formed-requires c κs = search needs
-
 returns : tie.Need-returns
 unfolding incomingFormed
 returns c = cc
 
 pub incoming-formed-spec : {M : Type 1} → statement M
-incoming-formed-spec = tie.close (tie.spec snapshot-formed-requires returns)
+incoming-formed-spec = tie.close (tie.spec (λ c κs. search needs) returns)

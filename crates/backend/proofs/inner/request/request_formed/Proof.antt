@@ -16,18 +16,6 @@ returns c =
     let st = c .before .before .before .before in
     too-many (st .args .lent) (now (st .args .entries)) (now (st .args .incoming)) (st .args .list) (c .if1 .taken)
 
-entries-formed-requires : tie.Need-entries-formed-requires
-entries-formed-requires c κs = search needs
-
-incoming-formed-requires : tie.Need-incoming-formed-requires
-incoming-formed-requires c κs = search needs
-
-sign-formed-requires : tie.Need-sign-formed-requires
-sign-formed-requires c κs = search needs
-
-all-supplied-requires : tie.Need-all-supplied-requires
-all-supplied-requires c κs = search needs
-
 returns-2 : tie.Need-returns-2
 returns-2 c =
     let e = c .before .before .before .before .before in
@@ -40,8 +28,8 @@ request-formed-spec =
     tie.close
     (tie.spec
     returns
-    entries-formed-requires
-    incoming-formed-requires
-    sign-formed-requires
-    all-supplied-requires
+    (λ c κs. search needs)
+    (λ c κs. search needs)
+    (λ c κs. search needs)
+    (λ c κs. search needs)
     returns-2)

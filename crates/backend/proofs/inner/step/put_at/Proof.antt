@@ -14,31 +14,10 @@ use Rattle.words.proofs.splice.Reads as splice-reads
 abbrev stateAt : tie.Start → Raw
 stateAt c = raw (c .args .index) (now (c .args .log)) (now (c .args .snapshot))
 
-add-if1 : tie.Need-add-if1
-add-if1 c = search needs
-
-add-if1-2 : tie.Need-add-if1-2
-add-if1-2 c = search needs
-
 returns : tie.Need-returns
 returns c =
     let st = c .before .before .before .before .before in
     put-refused (st .args .start) (stateAt st) (st .pre .0) (st .args .at) (now (st .args .entries)) (now (st .args .log)) (c .if1 .taken)
-
-add-used : tie.Need-add-used
-add-used c = search needs
-
-mul-used : tie.Need-mul-used
-mul-used c = search needs
-
-mul-splice : tie.Need-mul-splice
-mul-splice c = search needs
-
-sub-splice : tie.Need-sub-splice
-sub-splice c = search needs
-
-mul-splice-2 : tie.Need-mul-splice-2
-mul-splice-2 c = search needs
 
 splice-requires : tie.Need-splice-requires
 splice-requires c κs =
@@ -46,15 +25,6 @@ splice-requires c κs =
     let st = e .before .before .before .before .before in
     let w = slice-whole (now (st .args .entries)) (st .pre .1 .1) in
     (omega (arith, st .pre .1 .0), (omega (arith, st .pre .0 .log .fits, st .pre .0 .log .long), (omega (arith, e .if1 .left, st .pre .0 .log .long, st .pre .1 .0, w), st .pre .0 .log .zeros)))
-
-add-next : tie.Need-add-next
-add-next c = search needs
-
-done-requires : tie.Need-done-requires
-done-requires c κs = search needs
-
-same-length : tie.Need-same-length
-same-length c = search needs
 
 returns-2 : tie.Need-returns-2
 returns-2 c =
@@ -68,16 +38,16 @@ pub put-at-spec : {M : Type 1} → statement M
 put-at-spec =
     tie.close
     (tie.spec
-    add-if1
-    add-if1-2
+    (λ c. search needs)
+    (λ c. search needs)
     returns
-    add-used
-    mul-used
-    mul-splice
-    sub-splice
-    mul-splice-2
+    (λ c. search needs)
+    (λ c. search needs)
+    (λ c. search needs)
+    (λ c. search needs)
+    (λ c. search needs)
     splice-requires
-    add-next
-    done-requires
-    same-length
+    (λ c. search needs)
+    (λ c κs. search needs)
+    (λ c. search needs)
     returns-2)

@@ -9,12 +9,6 @@ use Rattle.backend.proofs.inner.step.put_on_prefix.Tie as tie
 abbrev stateAt : tie.Start → Raw
 stateAt c = raw (c .args .index) (now (c .args .log)) (now (c .args .snapshot))
 
-end-requires : tie.Need-end-requires
-end-requires c κs = search needs
-
-above-requires : tie.Need-above-requires
-above-requires c κs = search needs
-
 returns : tie.Need-returns
 returns c =
     let k = c .before .before in
@@ -28,9 +22,6 @@ put-at-requires c κs =
     let st = k .before .before .before .before .before in
     (st .pre .0, (prefix-inside (st .args .start) (stateAt st) (st .pre .0) (numbersIn (st .args .before)) (st .args .from .0) (k .above .result) (k .above .ensures) (now (st .args .entries)) (now (st .args .log)) (e .if1 .left), st .pre .1 .1))
 
-same-length : tie.Need-same-length
-same-length c = search needs
-
 returns-2 : tie.Need-returns-2
 returns-2 c =
     let p = c .before .before in
@@ -41,4 +32,11 @@ returns-2 c =
 
 pub put-on-prefix-spec : {M : Type 1} → statement M
 put-on-prefix-spec =
-    tie.close (tie.spec end-requires above-requires returns put-at-requires same-length returns-2)
+    tie.close
+    (tie.spec
+    (λ c κs. search needs)
+    (λ c κs. search needs)
+    returns
+    put-at-requires
+    (λ c. search needs)
+    returns-2)

@@ -33,76 +33,10 @@ lentAt c = lentOf (c .args .lent) (now (c .args .entries)) (now (c .args .incomi
 abbrev midstAt : tie.Start → Midst
 midstAt c = midstOf (c .args .start) (stateAt c)
 
-enum-told : tie.Need-enum-told
-enum-told c = search needs
-
-put-at-requires : tie.Need-put-at-requires
-put-at-requires c κs = search needs
-
-enum-told-2 : tie.Need-enum-told-2
-enum-told-2 c = search needs
-
-put-on-prefix-requires : tie.Need-put-on-prefix-requires
-put-on-prefix-requires c κs = search needs
-
-enum-told-3 : tie.Need-enum-told-3
-enum-told-3 c = search needs
-
-done-requires : tie.Need-done-requires
-done-requires c κs = search needs
-
-enum-told-4 : tie.Need-enum-told-4
-enum-told-4 c = search needs
-
-done-requires-2 : tie.Need-done-requires-2
-done-requires-2 c κs = search needs
-
-enum-told-5 : tie.Need-enum-told-5
-enum-told-5 c = search needs
-
-done-requires-3 : tie.Need-done-requires-3
-done-requires-3 c κs = search needs
-
-enum-told-6 : tie.Need-enum-told-6
-enum-told-6 c = search needs
-
-done-requires-4 : tie.Need-done-requires-4
-done-requires-4 c κs = search needs
-
-enum-told-7 : tie.Need-enum-told-7
-enum-told-7 c = search needs
-
-trim-to-requires : tie.Need-trim-to-requires
-trim-to-requires c κs = search needs
-
-enum-told-8 : tie.Need-enum-told-8
-enum-told-8 c = search needs
-
-sign-if-requires : tie.Need-sign-if-requires
-sign-if-requires c κs = search needs
-
-done-requires-5 : tie.Need-done-requires-5
-done-requires-5 c κs = search needs
-
-enum-told-9 : tie.Need-enum-told-9
-enum-told-9 c = search needs
-
 write-snapshot-requires : tie.Need-write-snapshot-requires
 write-snapshot-requires c κs =
     let st = c .before .before .before .before .before .before .before .before .before in
     (st .pre .0 .snapshot .laid .long, long-incoming (st .args .lent) (now (st .args .entries)) (now (st .args .incoming)) (st .pre .1 .1 .0))
-
-keys-if-requires : tie.Need-keys-if-requires
-keys-if-requires c κs = search needs
-
-done-requires-6 : tie.Need-done-requires-6
-done-requires-6 c κs = search needs
-
-same-length : tie.Need-same-length
-same-length c = search needs
-
-same-length-2 : tie.Need-same-length-2
-same-length-2 c = search needs
 
 returns : tie.Need-returns
 returns c =
@@ -110,12 +44,6 @@ returns c =
     let e = p .before .before .before in
     let st = e .before .before .before .before .before .before .before .before in
     goes-of (numbersAt st) (lentAt st) (midstAt st) (st .args .o) AppendEntries (p .put-at .result) (p .put-at .last .1 .1 .0) (now (st .args .snapshot)) (e .enum-told .given .1) (append-goes (st .args .start) (stateAt st) (st .pre .0) (numbersAt st) (lentAt st) (p .put-at .result) (p .put-at .last .1 .1 .0) (p .put-at .ensures))
-
-same-length-3 : tie.Need-same-length-3
-same-length-3 c = search needs
-
-same-length-4 : tie.Need-same-length-4
-same-length-4 c = search needs
 
 returns-2 : tie.Need-returns-2
 returns-2 c =
@@ -152,12 +80,6 @@ returns-6 c =
     rw (c .done4 .ensures)
     (goes-of (numbersAt st) (lentAt st) (midstAt st) (st .args .o) SetCompactedIdx _ (now (st .args .log)) (now (st .args .snapshot)) (e .enum-told6 .given .1) (compacted-goes (st .args .start) (stateAt st) (st .pre .0) (numbersAt st) (lentAt st) (st .args .o .index)))
 
-same-length-5 : tie.Need-same-length-5
-same-length-5 c = search needs
-
-same-length-6 : tie.Need-same-length-6
-same-length-6 c = search needs
-
 returns-7 : tie.Need-returns-7
 returns-7 c =
     let p = c .before .before in
@@ -173,9 +95,6 @@ returns-8 c =
     rw (c .done5 .ensures)
     (sign-done (a .start) (stateAt st) (st .pre .0) (numbersAt st) (a .lent) (now (a .entries)) (now (a .incoming)) (st .pre .1 .1 .0) (a .o) (e .enum-told8 .given .1) (st .pre .1 .1 .1) (c .before .sign-if .result) (c .before .sign-if .ensures))
 
-same-length-7 : tie.Need-same-length-7
-same-length-7 c = search needs
-
 returns-9 : tie.Need-returns-9
 returns-9 c =
     let p = c .before .before .before .before in
@@ -189,40 +108,40 @@ pub step-spec : {M : Type 1} → statement M
 step-spec =
     tie.close
     (tie.spec
-    enum-told
-    put-at-requires
-    enum-told-2
-    put-on-prefix-requires
-    enum-told-3
-    done-requires
-    enum-told-4
-    done-requires-2
-    enum-told-5
-    done-requires-3
-    enum-told-6
-    done-requires-4
-    enum-told-7
-    trim-to-requires
-    enum-told-8
-    sign-if-requires
-    done-requires-5
-    enum-told-9
+    (λ c. search needs)
+    (λ c κs. search needs)
+    (λ c. search needs)
+    (λ c κs. search needs)
+    (λ c. search needs)
+    (λ c κs. search needs)
+    (λ c. search needs)
+    (λ c κs. search needs)
+    (λ c. search needs)
+    (λ c κs. search needs)
+    (λ c. search needs)
+    (λ c κs. search needs)
+    (λ c. search needs)
+    (λ c κs. search needs)
+    (λ c. search needs)
+    (λ c κs. search needs)
+    (λ c κs. search needs)
+    (λ c. search needs)
     write-snapshot-requires
-    keys-if-requires
-    done-requires-6
-    same-length
-    same-length-2
+    (λ c κs. search needs)
+    (λ c κs. search needs)
+    (λ c. search needs)
+    (λ c. search needs)
     returns
-    same-length-3
-    same-length-4
+    (λ c. search needs)
+    (λ c. search needs)
     returns-2
     returns-3
     returns-4
     returns-5
     returns-6
-    same-length-5
-    same-length-6
+    (λ c. search needs)
+    (λ c. search needs)
     returns-7
     returns-8
-    same-length-7
+    (λ c. search needs)
     returns-9)

@@ -13,38 +13,11 @@ use Rattle.state_cache.proofs.inner.larger.Reads as larger-reads
 use Rattle.state_cache.proofs.inner.least.Reads as least-reads
 use Rattle.words.proofs.cut_out.Reads as cut-out-reads
 
-above-requires : tie.Need-above-requires
-above-requires c κs = search needs
-
-least-requires : tie.Need-least-requires
-least-requires c κs = search needs
-
-add-used : tie.Need-add-used
-add-used c = search needs
-
-mul-used : tie.Need-mul-used
-mul-used c = search needs
-
-mul-cut-out : tie.Need-mul-cut-out
-mul-cut-out c = search needs
-
 cut-out-requires : tie.Need-cut-out-requires
 cut-out-requires c κs =
     let k = c .before .before in
     let st = k .before .before .before .before in
     (omega (arith, k .least .ensures), (omega (arith, st .pre .log .fits, st .pre .log .long), st .pre .log .zeros))
-
-sub-next : tie.Need-sub-next
-sub-next c = search needs
-
-larger-requires : tie.Need-larger-requires
-larger-requires c κs = search needs
-
-done-requires : tie.Need-done-requires
-done-requires c κs = search needs
-
-same-length : tie.Need-same-length
-same-length c = search needs
 
 returns : tie.Need-returns
 returns c =
@@ -59,14 +32,14 @@ pub trim-to-spec : {M : Type 1} → statement M
 trim-to-spec =
     tie.close
     (tie.spec
-    above-requires
-    least-requires
-    add-used
-    mul-used
-    mul-cut-out
+    (λ c κs. search needs)
+    (λ c κs. search needs)
+    (λ c. search needs)
+    (λ c. search needs)
+    (λ c. search needs)
     cut-out-requires
-    sub-next
-    larger-requires
-    done-requires
-    same-length
+    (λ c. search needs)
+    (λ c κs. search needs)
+    (λ c κs. search needs)
+    (λ c. search needs)
     returns)

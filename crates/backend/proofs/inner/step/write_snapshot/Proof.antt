@@ -6,20 +6,8 @@ use borrow.Author.Needs.{needs}
 use Rattle.backend.proofs.inner.step.write_snapshot.Statement.{statement}
 use Rattle.backend.proofs.inner.step.write_snapshot.Tie as tie
 
-copy-words-requires : tie.Need-copy-words-requires
-copy-words-requires c κs = search needs
-
-clear-requires : tie.Need-clear-requires
-clear-requires c κs = search needs
-
-same-length : tie.Need-same-length
-same-length c = search needs
-
 returns : tie.Need-returns
 returns c = search needs
-
-same-length-2 : tie.Need-same-length-2
-same-length-2 c = search needs
 
 returns-2 : tie.Need-returns-2
 returns-2 c =
@@ -29,4 +17,10 @@ returns-2 c =
 pub write-snapshot-spec : {M : Type 1} → statement M
 write-snapshot-spec =
     tie.close
-    (tie.spec copy-words-requires clear-requires same-length returns same-length-2 returns-2)
+    (tie.spec
+    (λ c κs. search needs)
+    (λ c κs. search needs)
+    (λ c. search needs)
+    returns
+    (λ c. search needs)
+    returns-2)

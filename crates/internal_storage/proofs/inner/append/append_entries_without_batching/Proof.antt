@@ -13,9 +13,6 @@ use Rattle.internal_storage.proofs.inner.append.append_entries_without_
 abbrev stateAt : tie.Start → Raw
 stateAt c = raw (c .args .index) (now (c .args .log)) (now (c .args .snapshot))
 
-entries-formed-requires : tie.Need-entries-formed-requires
-entries-formed-requires c κs = search needs
-
 returns : tie.Need-returns
 unfolding malformed
 returns c =
@@ -28,9 +25,6 @@ append-now-at-requires c κs =
     let st = f .before .before .before .before .before in
     slice-appends (now (st .args .entries)) (stateAt st) (st .pre .okay) (sym (f .before .entries-formed .ensures) ∙ not-false _ (f .if1 .left))
 
-same-length : tie.Need-same-length
-same-length c = search needs
-
 returns-2 : tie.Need-returns-2
 returns-2 c =
     let p = c .before .before in
@@ -42,8 +36,8 @@ pub append-entries-without-batching-spec : {M : Type 1} → statement M
 append-entries-without-batching-spec =
     tie.close
     (tie.spec
-    entries-formed-requires
+    (λ c κs. search needs)
     returns
     append-now-at-requires
-    same-length
+    (λ c. search needs)
     returns-2)

@@ -8,18 +8,6 @@ use borrow.Author.Needs.{needs}
 use Rattle.internal_storage.proofs.inner.append.append_entry_with_batching.Statement.{statement}
 use Rattle.internal_storage.proofs.inner.append.append_entry_with_batching.Tie as tie
 
-lent-requires : tie.Need-lent-requires
-lent-requires c κs = search needs
-
-slice-aggregate-append-entries-with-batching : tie.Need-slice-aggregate-append-entries-with-batching
-slice-aggregate-append-entries-with-batching c = search needs
-
-append-entries-with-batching-requires : tie.Need-append-entries-with-batching-requires
-append-entries-with-batching-requires c κs = search needs
-
-same-length : tie.Need-same-length
-same-length c = search needs
-
 returns : tie.Need-returns
 returns c =
     let p = c .before .before in
@@ -32,8 +20,8 @@ pub append-entry-with-batching-spec : {M : Type 1} → statement M
 append-entry-with-batching-spec =
     tie.close
     (tie.spec
-    lent-requires
-    slice-aggregate-append-entries-with-batching
-    append-entries-with-batching-requires
-    same-length
+    (λ c κs. search needs)
+    (λ c. search needs)
+    (λ c κs. search needs)
+    (λ c. search needs)
     returns)

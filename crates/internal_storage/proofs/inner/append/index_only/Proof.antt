@@ -6,15 +6,6 @@ use borrow.Author.Needs.{needs}
 use Rattle.internal_storage.proofs.inner.append.index_only.Statement.{statement}
 use Rattle.internal_storage.proofs.inner.append.index_only.Tie as tie
 
-enum-told : tie.Need-enum-told
-enum-told c = search needs
-
-enum-known-answer : tie.Need-enum-known-answer
-enum-known-answer c = search needs
-
-enum-known-answer-2 : tie.Need-enum-known-answer-2
-enum-known-answer-2 c = search needs
-
 returns : tie.Need-returns
 returns c = search needs
 
@@ -27,4 +18,10 @@ returns-3 c = ap (λ (a : Appended). indexOnly (appendSaid a)) (sym (c .before .
 pub index-only-spec : {M : Type 1} → statement M
 index-only-spec =
     tie.close
-    (tie.spec enum-told enum-known-answer enum-known-answer-2 returns returns-2 returns-3)
+    (tie.spec
+    (λ c. search needs)
+    (λ c. search needs)
+    (λ c. search needs)
+    returns
+    returns-2
+    returns-3)

@@ -17,9 +17,6 @@ returns c =
     let a = c .before .before .before .before .args in
     told-by (decideGuards (a .idx .0) (numbersIn (a .index))) tt (withDecided (a .idx) (a .index)) (a .index) (refuses 5 (a .index .decided .0)) (stopping (lt-ltb _ _ (c .if1 .taken)) refl)
 
-accepted-requires : tie.Need-accepted-requires
-accepted-requires c κs = search needs
-
 returns-2 : tie.Need-returns-2
 unfolding decideGuards
 returns-2 c =
@@ -35,4 +32,4 @@ returns-3 c =
     told-by (decideGuards (a .idx .0) (numbersIn (a .index))) tt (withDecided (a .idx) (a .index)) (a .index) passes (passing (le-ltb _ _ (k .before .if1 .left)) (passing (rw (← k .accepted .ensures) (le-ltb _ _ (c .if2 .left))) clear-all))
 
 pub decide-at-spec : {M : Type 1} → statement M
-decide-at-spec = tie.close (tie.spec returns accepted-requires returns-2 returns-3)
+decide-at-spec = tie.close (tie.spec returns (λ c κs. search needs) returns-2 returns-3)

@@ -10,9 +10,6 @@ returns : tie.Need-returns
 unfolding flushSays
 returns c = rw (eq-eqb _ _ (c .if1 .taken))
 
-flush-requires : tie.Need-flush-requires
-flush-requires c κs = search needs
-
 accepted-requires : tie.Need-accepted-requires
 accepted-requires c κs = flushed-small (c .before .before .args .index) (c .before .before .pre) _ (c .flush .ensures)
 
@@ -20,4 +17,4 @@ returns-2 : tie.Need-returns-2
 returns-2 c = flush-answered (c .before .before .before .args .index) (c .before .flush .result) (c .accepted .result) (ne-eqb _ _ (c .before .before .if1 .left)) (c .before .flush .ensures) (c .accepted .ensures)
 
 pub flush-answer-spec : {M : Type 1} → statement M
-flush-answer-spec = tie.close (tie.spec returns flush-requires accepted-requires returns-2)
+flush-answer-spec = tie.close (tie.spec returns (λ c κs. search needs) accepted-requires returns-2)

@@ -15,9 +15,6 @@ use Rattle.internal_storage.proofs.inner.stop.append_stopsign.Tie as ti
 abbrev stateAt : tie.Start → Raw
 stateAt c = raw (c .args .index) (now (c .args .log)) (now (c .args .snapshot))
 
-sign-formed-requires : tie.Need-sign-formed-requires
-sign-formed-requires c κs = search needs
-
 returns : tie.Need-returns
 unfolding malformed
 returns c =
@@ -34,4 +31,4 @@ returns-2 c =
     append-stop-run (stateAt st) (st .pre .okay) (st .args .ss) (sym (f .before .sign-formed .ensures) ∙ not-false _ (f .if1 .left)) (appendSaid (c .append-stop-at .result .answer)) (c .append-stop-at .result .index) (c .append-stop-at .ensures)
 
 pub append-stopsign-spec : {M : Type 1} → statement M
-append-stopsign-spec = tie.close (tie.spec sign-formed-requires returns append-stop-at-requires returns-2)
+append-stopsign-spec = tie.close (tie.spec (λ c κs. search needs) returns append-stop-at-requires returns-2)

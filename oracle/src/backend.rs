@@ -18,6 +18,17 @@ impl Entry for Change {
 #[derive(Clone, Debug, Default, PartialEq)]
 pub struct Keys(pub BTreeMap<u64, Option<u64>>);
 
+impl Keys {
+    /// Its keys' entries, ascending.
+    pub fn entries(&self) -> Vec<Change> {
+        let entry = |(key, place): (&u64, &Option<u64>)| Change {
+            key: *key,
+            place: *place,
+        };
+        self.0.iter().map(entry).collect()
+    }
+}
+
 impl Snapshot<Change> for Keys {
     fn create(entries: &[Change]) -> Self {
         Keys(entries.iter().map(|e| (e.key, e.place)).collect())

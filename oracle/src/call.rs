@@ -1,6 +1,6 @@
 //! A call with its arguments, in form or not, and the lines that ask it.
 use crate::ballot_leader_election::Ballot;
-use crate::port::lend;
+use crate::lines::lend;
 use crate::state::{Shot, Sign};
 use std::ops::Bound;
 

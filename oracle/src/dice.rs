@@ -1,10 +1,15 @@
 //! Numbers, states and calls at random, the same at every run.
-use crate::backend::Change;
+use crate::backend::{Change, Keys};
 use crate::ballot_leader_election::Ballot;
 use crate::call::{Call, Form, Kind, List, Op, OpKind, Part, OP_KINDS};
-use crate::state::{words, Shot, Sign, State, SHOT_WORDS};
-use std::collections::BTreeMap;
+use crate::entry::{at, count, place_at, words, LOG_WORDS, REMOVED, SHOT_WORDS};
+use crate::limits::{ENTRIES, KEYS, LARGEST, LARGEST_BATCH, METADATA, MOST_OPS, NODES, PLACES};
+use crate::state::{largest, Shot, Sign, State};
 use std::ops::Bound;
+
+/// Where keys are many they are below this.
+const MANY_KEYS: u64 = 2000;
+const _: () = assert!(MANY_KEYS > KEYS, "a snapshot is filled with them");
 
 /// xorshift64*
 pub struct Dice(u64);
@@ -45,7 +50,7 @@ impl Dice {
             accepted + s.batched,
         ];
         match self.below(20) {
-            0 => self.pick(&[(1 << 32) - 1, 1 << 32, u64::MAX - 1, u64::MAX, 1 << 63]),
+            0 => self.pick(&[LARGEST, LARGEST + 1, u64::MAX - 1, u64::MAX, 1 << 63]),
             1..=5 => s.compacted + self.below(accepted - s.compacted + 4),
             _ => {
                 let at = self.pick(&near);
@@ -56,13 +61,13 @@ impl Dice {
 
     fn key(&mut self, wide: bool) -> u64 {
         if wide {
-            return self.below(2000);
+            return self.below(MANY_KEYS);
         }
         self.pick(&[0, 1, 2, 3, 5, 9, u64::MAX, 1 << 63])
     }
 
     fn change(&mut self, wide: bool) -> Change {
-        let place = self.pick(&[Some(0), Some(1), Some((1 << 48) - 1), None]);
+        let place = self.pick(&[Some(0), Some(1), Some(PLACES - 1), None]);
         let place = if self.one_in(2) {
             Some(self.below(1000))
         } else {
@@ -83,8 +88,8 @@ impl Dice {
         let n = match self.below(12) {
             0 => 0,
             1..=7 => 1 + self.below(4),
-            8..=10 => self.below(70),
-            _ if wide => self.below(1025),
+            8..=10 => self.below(LARGEST_BATCH + 6),
+            _ if wide => self.below(ENTRIES + 1),
             _ => self.below(20),
         };
         let mut words = words(&self.changes(n, wide));
@@ -94,42 +99,40 @@ impl Dice {
         words
     }
 
-    /// Makes entries of another form: an odd number of words, or a place that is none.
+    /// Makes entries of another form: the last not whole, or a place that is none.
     fn bend(&mut self, words: &mut Vec<u64>) {
         if self.one_in(2) {
             words.pop();
             return;
         }
-        let at = 2 * self.below(words.len() as u64 / 2) as usize + 1;
-        words[at] = self.pick(&[1 << 48, u64::MAX - 1]);
+        let at = place_at(self.below(count(words)));
+        words[at] = self.pick(&[PLACES, REMOVED - 1]);
     }
 
     /// So many different keys, ascending.
     fn keys(&mut self, n: u64, wide: bool) -> Vec<Change> {
-        let mut keys = BTreeMap::new();
-        while (keys.len() as u64) < n {
+        let mut keys = Keys::default();
+        while (keys.0.len() as u64) < n {
             let c = self.change(wide);
-            keys.insert(c.key, c.place);
+            keys.0.insert(c.key, c.place);
         }
-        keys.into_iter()
-            .map(|(key, place)| Change { key, place })
-            .collect()
+        keys.entries()
     }
 
     /// A snapshot; one in 30 is out of form.
     fn shot(&mut self, wide: bool) -> Shot {
         let n = if wide && self.one_in(3) {
-            505 + self.below(8)
+            KEYS - 7 + self.below(8)
         } else {
             self.below(6)
         };
         let mut shot = Shot::of(&self.keys(n, wide));
         if self.one_in(30) {
             match self.below(5) {
-                0 => shot.words.truncate(SHOT_WORDS - 2),
-                1 => shot.keys = self.pick(&[n + 1, 513, u64::MAX]),
+                0 => shot.words.truncate(at(KEYS - 1)),
+                1 => shot.keys = self.pick(&[n + 1, KEYS + 1, u64::MAX]),
                 2 if n > 0 => shot.keys -= 1,
-                3 if n > 1 => shot.words.swap(0, 2),
+                3 if n > 1 => shot.words.swap(at(0), at(1)),
                 _ => shot.words[SHOT_WORDS - 1] = 1,
             }
         }
@@ -138,20 +141,27 @@ impl Dice {
 
     /// A stop-sign; one in 12 is out of form.
     fn sign(&mut self) -> Sign {
-        let nodes: Vec<u64> = (0..1 + self.below(7)).map(|_| self.below(9)).collect();
+        let (most_nodes, most_bytes) = (NODES as u64, METADATA as u64);
+        let nodes: Vec<u64> = (0..1 + self.below(most_nodes))
+            .map(|_| self.below(9))
+            .collect();
         let metadata: Option<Vec<u8>> = if self.one_in(2) {
             None
         } else {
-            Some((0..self.below(33)).map(|_| self.below(256) as u8).collect())
+            Some(
+                (0..self.below(most_bytes + 1))
+                    .map(|_| self.below(256) as u8)
+                    .collect(),
+            )
         };
         let config = self.pick(&[0, 1, 7, u32::MAX]);
         let mut sign = Sign::of(config, &nodes, metadata.as_deref());
         if self.one_in(12) {
             match self.below(4) {
-                0 => sign.node_count = self.pick(&[0, 8, u64::MAX]),
-                1 => sign.metadata_len = self.pick(&[33, u64::MAX]),
-                2 => sign.metadata[31] = 1,
-                _ => sign.nodes[6] = 1,
+                0 => sign.node_count = self.pick(&[0, most_nodes + 1, u64::MAX]),
+                1 => sign.metadata_len = self.pick(&[most_bytes + 1, u64::MAX]),
+                2 => sign.metadata[METADATA - 1] = 1,
+                _ => sign.nodes[NODES - 1] = 1,
             }
         }
         sign
@@ -169,7 +179,7 @@ impl Dice {
     /// How many words of the output area are lent.
     fn output(&mut self) -> usize {
         if self.one_in(40) {
-            self.pick(&[0, 1023])
+            self.pick(&[0, SHOT_WORDS - 1])
         } else {
             SHOT_WORDS
         }
@@ -219,7 +229,7 @@ impl Dice {
     /// An operation list. A trim and the compacted index mostly come together, as a list that stands needs them.
     fn list(&mut self, s: &State, wide: bool) -> List {
         let mut ops = vec![];
-        for _ in 0..self.pick(&[0, 1, 1, 1, 2, 2, 3, 4, 8, 9]) {
+        for _ in 0..self.pick(&[0, 1, 1, 1, 2, 2, 3, 4, MOST_OPS, MOST_OPS + 1]) {
             let op = self.op(s);
             let pair = match op.kind {
                 OpKind::Trim => Some(OpKind::SetCompactedIdx),
@@ -227,12 +237,12 @@ impl Dice {
                 _ => None,
             };
             ops.push(op);
-            if let Some(kind) = pair.filter(|_| ops.len() < 8 && !self.one_in(5)) {
+            if let Some(kind) = pair.filter(|_| ops.len() < MOST_OPS && !self.one_in(5)) {
                 ops.push(Op { kind, ..op });
             }
         }
-        // A tenth would be a bad line.
-        ops.truncate(9);
+        // One more would be a bad line.
+        ops.truncate(MOST_OPS + 1);
         List {
             ops,
             entries: self.entries(wide),
@@ -243,8 +253,8 @@ impl Dice {
     }
 
     fn plain(&mut self, s: &State, wide: bool) -> Call {
-        let count = self.pick(&[0, 1, 2, s.retained, 1023, 1024, u64::MAX]);
-        let first = self.pick(&[0, 1, s.retained, 1023, 1024, 1 << 63, u64::MAX]);
+        let count = self.pick(&[0, 1, 2, s.retained, ENTRIES - 1, ENTRIES, u64::MAX]);
+        let first = self.pick(&[0, 1, s.retained, ENTRIES - 1, ENTRIES, 1 << 63, u64::MAX]);
         match self.below(14) {
             0..=2 => Call::Fold(self.entries(wide), self.output()),
             3..=5 => {
@@ -254,7 +264,7 @@ impl Dice {
             6 => Call::Find(self.shot(wide), self.key(wide)),
             7 => Call::ShotFormed(self.shot(wide)),
             8 => Call::EntriesFormed(self.entries(wide)),
-            9 => Call::PlaceFormed(self.pick(&[0, (1 << 48) - 1, 1 << 48, u64::MAX - 1, u64::MAX])),
+            9 => Call::PlaceFormed(self.pick(&[0, PLACES - 1, PLACES, REMOVED - 1, REMOVED])),
             10 => Call::SignFormed(self.sign()),
             11 => Call::Compare(self.ballot(), self.ballot()),
             12 => Call::EntriesOf(first, count),
@@ -267,7 +277,7 @@ impl Dice {
             0..=15 => {
                 let c = self.change(wide);
                 let place = if self.one_in(50) {
-                    self.pick(&[Some(1 << 48), Some(u64::MAX)])
+                    self.pick(&[Some(PLACES), Some(REMOVED)])
                 } else {
                     c.place
                 };
@@ -301,32 +311,49 @@ impl Dice {
                 Call::WellFormed,
             ]),
             100..=104 => self.plain(s, wide),
-            105 if self.one_in(20) => Call::Fresh(self.pick(&[0, 1, 2, 63, 64, 65, u64::MAX])),
+            105 if self.one_in(20) => Call::Fresh(self.pick(&[
+                0,
+                1,
+                2,
+                LARGEST_BATCH - 1,
+                LARGEST_BATCH,
+                LARGEST_BATCH + 1,
+                u64::MAX,
+            ])),
             _ => Call::Decide(Form::Covered, s.accepted() as u64),
         }
     }
 
     /// A well-formed state: mostly a fresh one.
     pub fn state(&mut self, wide: bool) -> State {
-        let size = self.pick(&[0, 0, 1, 2, 2, 3, 5, 63, 64]);
+        let size = self.pick(&[0, 0, 1, 2, 2, 3, 5, LARGEST_BATCH - 1, LARGEST_BATCH]);
         if !self.one_in(3) {
             return State::fresh(size);
         }
         loop {
             let retained = match wide {
-                true => self.pick(&[0, 1, 511, 512, 513, 1000, 1023, 1024]),
+                true => self.pick(&[
+                    0,
+                    1,
+                    KEYS - 1,
+                    KEYS,
+                    KEYS + 1,
+                    ENTRIES - 24,
+                    ENTRIES - 1,
+                    ENTRIES,
+                ]),
                 false => self.below(6),
             };
             let batched = self.below(size.max(1));
             let entries = self.changes(retained + batched, wide);
             let mut s = State::fresh(size).with_entries(&entries, retained as usize);
-            s.compacted = self.pick(&[0, 1, 2, 1 << 31, (1 << 32) - 1 - retained - batched]);
+            s.compacted = self.pick(&[0, 1, 2, 1 << 31, LARGEST - retained - batched]);
             s.compacted = s.compacted.saturating_sub(self.below(3));
             s.promise = self.ballot();
             s.round = self.ballot();
             if self.one_in(2) {
                 let n = if wide {
-                    self.pick(&[0, 1, 511, 512])
+                    self.pick(&[0, 1, KEYS - 1, KEYS])
                 } else {
                     self.below(6)
                 };
@@ -346,36 +373,40 @@ impl Dice {
     pub fn spoil(&mut self, s: &State) -> Vec<u64> {
         match self.below(4) {
             0 => {
-                let at = self.pick(&[0, 1, 2 * (s.retained + s.batched), 2046, 2047]);
-                vec![2, 0, at.min(2047), self.pick(&[0, 1, 1 << 48, u64::MAX])]
+                let (used, last) = (at(s.retained + s.batched), LOG_WORDS - 1);
+                let at = self.pick(&[at(0), place_at(0), used, at(ENTRIES - 1), last]);
+                let word = self.pick(&[0, 1, PLACES, REMOVED]);
+                vec![2, 0, at.min(last) as u64, word]
             }
             1 => {
-                let at = self.pick(&[0, 1, 2, 3, 2 * s.keys, 1023]);
-                vec![2, 1, at.min(1023), self.pick(&[0, 1, 1 << 48, u64::MAX])]
+                let (used, last) = (at(s.keys), SHOT_WORDS - 1);
+                let at = self.pick(&[at(0), place_at(0), at(1), place_at(1), used, last]);
+                let word = self.pick(&[0, 1, PLACES, REMOVED]);
+                vec![2, 1, at.min(last) as u64, word]
             }
             2 if self.one_in(4) => self.pick(&[
-                vec![3, 0, 2047],
+                vec![3, 0, LOG_WORDS as u64 - 1],
                 vec![3, 0, 0],
-                vec![3, 1, 1023],
-                vec![3, 1, 2],
+                vec![3, 1, SHOT_WORDS as u64 - 1],
+                vec![3, 1, at(1) as u64],
             ]),
             _ => {
-                let f = self.below(59);
-                let old = s.fields()[f as usize];
-                let v = match f {
-                    13 | 15 | 25 => 1 - old,
-                    5..=7 | 9..=11 | 16 => self.pick(&[0, 1, u32::MAX as u64]),
-                    27..=58 => self.pick(&[0, 1, 255]),
-                    _ => self.pick(&[
+                let fields = s.fields();
+                let f = self.below(fields.len() as u64);
+                let old = fields[f as usize];
+                let v = match largest(f) {
+                    1 => 1 - old,
+                    u64::MAX => self.pick(&[
                         0,
                         1,
                         old.wrapping_add(1),
                         old.wrapping_sub(1),
-                        65,
-                        1025,
-                        1 << 32,
+                        LARGEST_BATCH + 1,
+                        ENTRIES + 1,
+                        LARGEST + 1,
                         u64::MAX,
                     ]),
+                    most => self.pick(&[0, 1, most]),
                 };
                 vec![4, f, v]
             }

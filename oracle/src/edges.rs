@@ -1,14 +1,27 @@
-//! Boundaries on purpose: batch sizes, full logs, 511 to 513 keys, indexes around those held and near 2^32 and 2^64, stop-signs held
+//! Boundaries on purpose: batch sizes, full logs and snapshots, indexes around those held and near 2^32 and 2^64, stop-signs held
 //! and decided, every relation of compacted to decided; and states that are not well formed.
 use crate::backend::Change;
 use crate::ballot_leader_election::Ballot;
 use crate::call::{Call, Form, Kind, List, Op, OpKind, Part};
+use crate::entry::{at, place_at, words, LOG_WORDS, REMOVED, SHOT_WORDS};
+use crate::limits::{ENTRIES, KEYS, LARGEST, LARGEST_BATCH, METADATA, MOST_OPS, NODES, PLACES};
 use crate::runner::Runner;
-use crate::state::{words, Shot, Sign, State, KEYS, SHOT_WORDS};
+use crate::state::{largest, Shot, Sign, State};
 use std::collections::BTreeSet;
 use std::ops::Bound;
 
-const SIZES: [u64; 5] = [0, 1, 2, 63, 64];
+const SIZES: [u64; 5] = [0, 1, 2, LARGEST_BATCH - 1, LARGEST_BATCH];
+
+/// The most entries that may wait in a batch.
+const MOST_BATCHED: u64 = LARGEST_BATCH - 1;
+
+/// More keys than a snapshot has room for.
+const TOO_MANY_KEYS: u64 = KEYS + 88;
+
+fn put(key: u64, place: u64) -> Change {
+    let place = Some(place);
+    Change { key, place }
+}
 
 /// So many entries with so many different keys; every third is a removal.
 fn entries(n: u64, keys: u64) -> Vec<Change> {
@@ -31,7 +44,7 @@ fn shot(from: u64, n: u64) -> Vec<Change> {
 }
 
 fn sign() -> Sign {
-    Sign::of(u32::MAX, &[3; 7], Some(&[255; 32]))
+    Sign::of(u32::MAX, &[3; NODES], Some(&[255; METADATA]))
 }
 
 fn round() -> Ballot {
@@ -47,8 +60,8 @@ fn few() -> Vec<State> {
                 for compacted in [
                     0,
                     1,
-                    (1 << 32) - 1 - retained - batched,
-                    (1 << 32) - 3 - retained - batched,
+                    LARGEST - retained - batched,
+                    LARGEST - 2 - retained - batched,
                 ] {
                     for (held, stop) in [(0, false), (1, false), (2, false), (0, true), (1, true)] {
                         let all = entries(retained + batched, 2);
@@ -78,21 +91,21 @@ fn few() -> Vec<State> {
 /// Well-formed states that are full, or nearly: of entries, of keys.
 fn full() -> Vec<State> {
     let mut states = vec![];
-    for (size, batched) in [(0, 0), (64, 0), (64, 63)] {
+    for (size, batched) in [(0, 0), (LARGEST_BATCH, 0), (LARGEST_BATCH, MOST_BATCHED)] {
         for (retained, keys) in [
-            (1022, 1),
-            (1023, 600),
-            (1024, 512),
-            (513, 513),
-            (512, 512),
-            (511, 511),
+            (ENTRIES - 2, 1),
+            (ENTRIES - 1, TOO_MANY_KEYS),
+            (ENTRIES, KEYS),
+            (KEYS + 1, KEYS + 1),
+            (KEYS, KEYS),
+            (KEYS - 1, KEYS - 1),
         ] {
-            if retained + batched > 1024 {
+            if retained + batched > ENTRIES {
                 continue;
             }
             let all = entries(retained + batched, keys);
             let s = State::fresh(size).with_entries(&all, retained as usize);
-            for decided in [0, 1, 511, 512, 513, retained] {
+            for decided in [0, 1, KEYS - 1, KEYS, KEYS + 1, retained] {
                 if decided > retained {
                     continue;
                 }
@@ -102,7 +115,7 @@ fn full() -> Vec<State> {
                 };
                 states.push(held.clone());
                 if decided == retained || decided == 1 {
-                    for (from, n) in [(0, 511), (0, 512), (1000, 511), (1000, 512)] {
+                    for (from, n) in [(0, KEYS - 1), (0, KEYS), (1000, KEYS - 1), (1000, KEYS)] {
                         held = held.with_shot(&shot(from, n));
                         states.push(held.clone());
                     }
@@ -132,8 +145,8 @@ fn lists(s: &State, near: &[u64]) -> Vec<Call> {
     };
     let mut lists = vec![
         list(&[]),
-        list(&[(OpKind::SetPromise, 0); 8]),
-        list(&[(OpKind::SetPromise, 0); 9]),
+        list(&[(OpKind::SetPromise, 0); MOST_OPS]),
+        list(&[(OpKind::SetPromise, 0); MOST_OPS + 1]),
         list(&[(OpKind::AppendEntries, 0); 2]),
         // the run's end may pass 64 bits on the way
         list(&[
@@ -251,9 +264,9 @@ fn one_of_each(s: &State) -> Vec<Call> {
         Call::GetLogDecided,
         Call::StopIsDecided,
         Call::AppendEntry(1, Some(1)),
-        Call::Append(vec![1, 1]),
-        Call::AppendIdx(vec![1, 1]),
-        Call::AppendNow(vec![1, 1]),
+        Call::Append(words(&[put(1, 1)])),
+        Call::AppendIdx(words(&[put(1, 1)])),
+        Call::AppendNow(words(&[put(1, 1)])),
         Call::Flush,
         Call::FlushEntries,
         Call::AppendStop(sign()),
@@ -286,10 +299,10 @@ fn one_of_each(s: &State) -> Vec<Call> {
 /// The same with an argument out of form, where the call takes one that can be.
 fn out_of_form(s: &State) -> Vec<Call> {
     let mut calls = vec![
-        Call::Fresh(65),
+        Call::Fresh(LARGEST_BATCH + 1),
         Call::Fresh(u64::MAX),
-        Call::AppendEntry(1, Some(1 << 48)),
-        Call::AppendEntry(1, Some(u64::MAX)),
+        Call::AppendEntry(1, Some(PLACES)),
+        Call::AppendEntry(1, Some(REMOVED)),
         Call::AppendStop(Sign::default()),
         Call::SetStop(Some(Sign::default())),
         Call::Read(Form::Covered, Bound::Excluded(u64::MAX), Bound::Unbounded),
@@ -297,7 +310,11 @@ fn out_of_form(s: &State) -> Vec<Call> {
         Call::Create(s.decided, SHOT_WORDS - 1),
         Call::Diff(0, 0),
     ];
-    for es in [vec![1], vec![1, 1 << 48], vec![1, 1, 2, u64::MAX - 1]] {
+    for es in [
+        vec![1],
+        words(&[put(1, PLACES)]),
+        words(&[put(1, 1), put(2, REMOVED - 1)]),
+    ] {
         calls.extend([
             Call::Append(es.clone()),
             Call::AppendIdx(es.clone()),
@@ -307,13 +324,17 @@ fn out_of_form(s: &State) -> Vec<Call> {
         ]);
     }
     let full = Shot::of(&shot(0, 3));
+    let with_first = |entry: Change| Shot {
+        words: [&words(&[entry]), &full.words[at(1)..]].concat(),
+        ..full.clone()
+    };
     let bent = [
         Shot {
             keys: 2,
             ..full.clone()
         },
         Shot {
-            keys: 513,
+            keys: KEYS + 1,
             ..full.clone()
         },
         Shot {
@@ -321,21 +342,12 @@ fn out_of_form(s: &State) -> Vec<Call> {
             ..full.clone()
         },
         Shot {
-            words: full.words[..1022].to_vec(),
+            words: full.words[..at(KEYS - 1)].to_vec(),
             ..full.clone()
         },
-        Shot {
-            words: [&[7, 7], &full.words[2..]].concat(),
-            ..full.clone()
-        },
-        Shot {
-            words: [&[1, 7], &full.words[2..]].concat(),
-            ..full.clone()
-        },
-        Shot {
-            words: [&[0, 1 << 48], &full.words[2..]].concat(),
-            ..full.clone()
-        },
+        with_first(put(7, 7)),
+        with_first(put(1, 7)),
+        with_first(put(0, PLACES)),
     ];
     for shot in bent {
         calls.extend([
@@ -381,7 +393,8 @@ fn out_of_form(s: &State) -> Vec<Call> {
 /// Appends of so many entries, and folds of as many keys.
 fn sized(s: &State) -> Vec<Call> {
     let mut calls = vec![];
-    for n in [0, 1, 2, 62, 63, 64, 65] {
+    let most = LARGEST_BATCH;
+    for n in [0, 1, 2, most - 2, most - 1, most, most + 1] {
         let es = words(&entries(n, n));
         calls.extend([
             Call::Append(es.clone()),
@@ -389,7 +402,8 @@ fn sized(s: &State) -> Vec<Call> {
             Call::AppendNow(es),
         ]);
     }
-    for n in [961, 962, 1023, 1024] {
+    let beside = ENTRIES - MOST_BATCHED;
+    for n in [beside, beside + 1, ENTRIES - 1, ENTRIES] {
         for kind in [Kind::Plain, Kind::Complete, Kind::Delta] {
             let part = Part {
                 held: true,
@@ -402,9 +416,9 @@ fn sized(s: &State) -> Vec<Call> {
             calls.push(Call::Sync(round(), s.decided, part));
         }
     }
-    let most = KEYS as u64;
+    let most = KEYS;
     for n in [0, 1, most - 1, most, most + 1] {
-        calls.push(Call::Fold(words(&entries(600, n)), SHOT_WORDS));
+        calls.push(Call::Fold(words(&entries(TOO_MANY_KEYS, n)), SHOT_WORDS));
         if n <= most {
             let other = Shot::of(&shot(most, n));
             calls.push(Call::Merge(s.keys, other.clone(), SHOT_WORDS));
@@ -426,7 +440,7 @@ fn sized(s: &State) -> Vec<Call> {
 /// Every index that matters to a state, one less and one more, and the ends of what an index may be.
 fn near(s: &State) -> Vec<u64> {
     let accepted = s.accepted() as u64;
-    let mut near = BTreeSet::from([0, (1 << 32) - 1, 1 << 32, u64::MAX - 1, u64::MAX]);
+    let mut near = BTreeSet::from([0, LARGEST, LARGEST + 1, u64::MAX - 1, u64::MAX]);
     for i in [
         s.compacted,
         s.decided,
@@ -453,37 +467,45 @@ fn each(runner: &mut Runner, state: &State, calls: Vec<Call>) -> Result<(), Stri
 
 /// What a field may be set to, so that a record is likely not well formed any more.
 fn values(field: u64, old: u64) -> Vec<u64> {
-    match field {
-        13 | 15 | 25 => vec![1 - old],
-        5..=12 => vec![],
-        16 => vec![old ^ 1],
-        27..=58 => vec![255 - old],
-        _ => vec![
+    match (field, largest(field)) {
+        (5..=12, _) => vec![],
+        (16, _) => vec![old ^ 1],
+        (_, u64::MAX) => vec![
             0,
             old.wrapping_add(1),
             old.wrapping_sub(1),
-            65,
-            1 << 32,
+            LARGEST_BATCH + 1,
+            LARGEST + 1,
             u64::MAX,
         ],
+        (_, most) => vec![most - old],
     }
 }
 
 /// One thing set, and every call asked: of a state that is not well formed each is refused.
 fn ill_formed(runner: &mut Runner, state: &State) -> Result<(), String> {
     let mut lines = vec![
-        vec![3, 0, 2046],
+        vec![3, 0, at(ENTRIES - 1) as u64],
         vec![3, 0, 0],
-        vec![3, 1, 1022],
+        vec![3, 1, at(KEYS - 1) as u64],
         vec![3, 1, 0],
     ];
     for (field, old) in (0..).zip(state.fields()) {
         lines.extend(values(field, old).into_iter().map(|v| vec![4, field, v]));
     }
-    let used = 2 * (state.retained + state.batched);
-    for (area, used, whole) in [(0, used, 2048), (1, 2 * state.keys, 1024)] {
-        for at in [0, 1, 3, used.saturating_sub(1), used, used + 1, whole - 1] {
-            lines.extend([1 << 48, u64::MAX, 0].map(|v| vec![2, area, at, v]));
+    let entries = state.retained + state.batched;
+    for (area, used, whole) in [(0, at(entries), LOG_WORDS), (1, at(state.keys), SHOT_WORDS)] {
+        let last = used.saturating_sub(1);
+        for at in [
+            at(0),
+            place_at(0),
+            place_at(1),
+            last,
+            used,
+            used + 1,
+            whole - 1,
+        ] {
+            lines.extend([PLACES, REMOVED, 0].map(|v| vec![2, area, at as u64, v]));
         }
     }
     for line in lines {
@@ -501,6 +523,7 @@ fn ill_formed(runner: &mut Runner, state: &State) -> Result<(), String> {
 
 pub fn run(runner: &mut Runner, every: usize) -> Result<(), String> {
     let (few, full) = (few(), full());
+    let about_full = [KEYS - 2, KEYS - 1, KEYS, KEYS + 1];
     for state in few.iter().step_by(every) {
         let near = near(state);
         each(runner, state, indexed(&near))?;
@@ -515,21 +538,19 @@ pub fn run(runner: &mut Runner, every: usize) -> Result<(), String> {
         each(
             runner,
             state,
-            [510, 511, 512, 513]
-                .map(|i| Call::Snapshot(Some(i)))
-                .to_vec(),
+            about_full.map(|i| Call::Snapshot(Some(i))).to_vec(),
         )?;
         each(
             runner,
             state,
-            [510, 511, 512, 513]
-                .map(|i| Call::Create(i, SHOT_WORDS))
-                .to_vec(),
+            about_full.map(|i| Call::Create(i, SHOT_WORDS)).to_vec(),
         )?;
         each(
             runner,
             state,
-            [0, 1, 2, 511].map(|i| Call::Diff(i, SHOT_WORDS)).to_vec(),
+            [0, 1, 2, KEYS - 1]
+                .map(|i| Call::Diff(i, SHOT_WORDS))
+                .to_vec(),
         )?;
     }
     for state in few.iter().step_by(211 * every) {

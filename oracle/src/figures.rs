@@ -2,10 +2,13 @@
 //! nanoseconds, the least of many rounds.
 use crate::backend::{Backend, Change, Keys, Shared, Sight};
 use crate::ballot_leader_election::Ballot as RustBallot;
+use crate::limits::{ENTRIES, KEYS};
+use crate::shown::{self, ADDED, STATES};
 use crate::storage::internal_storage::{InternalStorage, InternalStorageConfig};
 use crate::storage::{
     Snapshot as _, SnapshotType as RustType, StopSign as RustStop, Storage, StorageOp,
 };
+use crate::store::change as changed;
 use crate::util::LogSync as RustSync;
 use crate::ClusterConfig;
 use kotuseraw::{
@@ -68,7 +71,7 @@ type Original = InternalStorage<Shared, Change>;
 /// With room for entries: a `Vec` that grows moves all it has, which is not what an append costs as a rule.
 fn original(held: &Backend) -> Original {
     let mut held = held.clone();
-    held.log.reserve(1024);
+    held.log.reserve(ENTRIES as usize);
     let shared = Shared::of(held);
     InternalStorage::with(shared, InternalStorageConfig { batch_size: 0 })
 }
@@ -80,12 +83,9 @@ struct Both {
     end: u64,
 }
 
-/// The states of the tables: a name, the snapshot's keys, the entries.
-const STATES: [(&str, u64, u64); 3] = [("empty", 0, 0), ("half", 256, 512), ("full", 512, 1024)];
-
 /// Keys far apart and in no order.
 fn key(i: u64) -> u64 {
-    (i * 7919 % 512) * 1_000_003 + 17
+    (i * 7919 % KEYS) * 1_000_003 + 17
 }
 
 impl Both {
@@ -93,7 +93,7 @@ impl Both {
     fn with(keys: u64, entries: u64) -> Both {
         let run =
             |n: u64, over: u64, from: u64| (0..n).map(move |i| (key(i % over.max(1)), from + i));
-        let over = if keys > 0 { keys / 2 } else { 512 };
+        let over = if keys > 0 { keys / 2 } else { KEYS };
         let end = keys + entries;
         let mut index = Index::fresh(0).unwrap();
         let shared = Shared::default();
@@ -195,13 +195,13 @@ fn change(i: u64) -> Change {
 fn calls(meter: &mut Meter) {
     for (state, keys, entries) in STATES {
         let both = &Both::with(keys, entries);
-        // Where the call adds entries the full state has room for sixteen.
-        let room = &Both::with(keys, entries.min(1008));
+        // Where the call adds entries the full state has room for them.
+        let room = &Both::with(keys, entries.min(ENTRIES - ADDED));
         let (low, end) = (LogIndex(keys), LogIndex(both.end));
         let mid = LogIndex(keys + entries / 2);
         let (mid_at, end_at) = (mid.0 as usize, end.0 as usize);
-        let sixteen: Vec<Entry> = (0..16).map(put).collect();
-        let changes: Vec<Change> = (0..16).map(change).collect();
+        let sixteen: Vec<Entry> = (0..ADDED).map(put).collect();
+        let changes: Vec<Change> = (0..ADDED).map(change).collect();
         let (shot, made) = (Snapshot::fold(&sixteen).unwrap(), Keys::create(&changes));
         let ballot = Ballot {
             n: 1,
@@ -271,7 +271,7 @@ fn calls(meter: &mut Meter) {
 /// Operation lists, beside the test backend, which keeps a copy of all to go back to.
 fn lists(meter: &mut Meter, state: &str, both: &Both, sixteen: &[Entry], changes: &[Change]) {
     // On a full log the sixteen take the place of the last sixteen.
-    let cut = (both.held.log.len() + sixteen.len()).saturating_sub(1024) as u64;
+    let cut = (both.held.log.len() + sixteen.len()).saturating_sub(ENTRIES as usize) as u64;
     let (end, at) = (both.end, both.end - cut);
     let lent = Lent {
         entries: sixteen,
@@ -336,7 +336,7 @@ fn starts(meter: &mut Meter) {
 
 /// Folds, merges and finds, beside the Rust's snapshot, which is a BTreeMap.
 fn snapshots(meter: &mut Meter) {
-    for n in [0, 64, 512] {
+    for n in [0, KEYS / 8, KEYS] {
         let row = |what: &str| format!("{what}, {n}");
         let run: Vec<Entry> = (0..n).map(|i| Entry::put(key(i), BlockPlace(i))).collect();
         let changes: Vec<Change> = run.iter().map(changed).collect();
@@ -365,7 +365,7 @@ fn snapshots(meter: &mut Meter) {
                 .iter()
                 .map(changed)
                 .collect::<Vec<_>>(),
-            listed(&both)
+            both.entries()
         );
         let last = black_box(folded.entries().last().map_or(1, Entry::key));
         let found = meter.of("snapshot", &row("find of the last of keys"), "ours", || {
@@ -376,21 +376,6 @@ fn snapshots(meter: &mut Meter) {
         });
         assert_eq!(found.map(|p| p.0), place);
     }
-}
-
-fn changed(entry: &Entry) -> Change {
-    Change {
-        key: entry.key(),
-        place: entry.place().map(|p| p.0),
-    }
-}
-
-fn listed(keys: &Keys) -> Vec<Change> {
-    let one = |(key, place): (&u64, &Option<u64>)| Change {
-        key: *key,
-        place: *place,
-    };
-    keys.0.iter().map(one).collect()
 }
 
 /// What a Rust program would write for lookup: the newest decided entry, else the snapshot.
@@ -466,13 +451,13 @@ fn lookups(meter: &mut Meter) {
 fn growth(meter: &mut Meter) {
     for (keys, entries) in [
         (0, 0),
-        (0, 256),
-        (0, 512),
-        (0, 1024),
-        (128, 0),
-        (256, 0),
-        (512, 0),
-        (512, 1024),
+        (0, ENTRIES / 4),
+        (0, ENTRIES / 2),
+        (0, ENTRIES),
+        (KEYS / 4, 0),
+        (KEYS / 2, 0),
+        (KEYS, 0),
+        (KEYS, ENTRIES),
     ] {
         let both = Both::with(keys, entries);
         let row = format!("{keys} keys, {entries} entries");
@@ -535,7 +520,7 @@ pub fn run(words: &[String]) -> Result<bool, String> {
                 }
             }
         }
-        Some("show") if words.len() > 2 => crate::shown::run(&words[1], &words[2], words.get(3)),
+        Some("show") if words.len() > 2 => shown::run(&words[1], &words[2], words.get(3)),
         _ => {
             return Err(
                 "usage: oracle figures count | time | show BEFORE COUNTS [TIMES]".to_string(),

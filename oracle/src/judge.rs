@@ -2,8 +2,9 @@
 use crate::backend::{Backend, Change, Keys, Sight};
 use crate::ballot_leader_election::Ballot;
 use crate::call::{Call, Form, Kind, List, Op, OpKind, Part};
+use crate::entry::{self, changes, entries_formed, place_formed, words};
 use crate::rules::{folded, held_with, merged};
-use crate::state::{changes, entries_formed, place_formed, words, State};
+use crate::state::{used, State};
 use crate::storage::internal_storage::{InternalStorage, InternalStorageConfig};
 use crate::storage::{Snapshot, SnapshotType, StorageOp};
 use crate::util::{AcceptedMetaData, LogEntry, LogSync};
@@ -53,17 +54,8 @@ fn differ<T: PartialEq + Debug + ?Sized>(what: &str, rust: &T, port: &T) -> Resu
 
 /// The words of entries as an area shows them.
 fn area(words: &[u64]) -> Vec<u64> {
-    let used = words.iter().rposition(|w| *w != 0).map_or(0, |i| i + 1);
-    let mut shown = vec![used as u64];
-    shown.extend(&words[..used]);
-    shown
-}
-
-fn keys_words(keys: &Keys) -> Vec<u64> {
-    keys.0
-        .iter()
-        .flat_map(|(key, place)| [*key, place.unwrap_or(u64::MAX)])
-        .collect()
+    let used = used(words);
+    [&[used.len() as u64], used].concat()
 }
 
 /// A snapshot against the answer's first numbers and the words of the output area.
@@ -71,7 +63,11 @@ fn written(kind: u64, rest: &[u64], made: &Keys, told: &Told) -> Result<(), Stri
     let mut answer = vec![kind, made.0.len() as u64];
     answer.extend(rest);
     differ("the answer", &answer[..], told.answer)?;
-    differ("the output", &area(&keys_words(made)), &area(told.out))
+    differ(
+        "the output",
+        &area(&words(&made.entries())),
+        &area(told.out),
+    )
 }
 
 /// A run as both sides can show it: the marker (0 none, 1 trimmed, 2 snapshot) with its index and keys, the entries, how many are
@@ -180,7 +176,7 @@ fn log_sync(p: &Part) -> LogSync<Change> {
             Kind::Complete => Some(SnapshotType::Complete(p.shot.held())),
             Kind::Delta => Some(SnapshotType::Delta(p.shot.held())),
         },
-        suffix: changes(&p.suffix, p.suffix.len() / 2),
+        suffix: changes(&p.suffix),
         sync_idx: p.idx as usize,
         stopsign: p.stop.map(|sign| sign.held()),
     }
@@ -189,12 +185,8 @@ fn log_sync(p: &Part) -> LogSync<Change> {
 /// The state that a delta sync is to leave.
 fn after_delta(before: &State, round: &Ballot, decided: u64, p: &Part) -> State {
     let base = folded(before, before.log_decided());
-    let keys: Vec<Change> = merged(&base, &p.shot.held())
-        .0
-        .into_iter()
-        .map(|(key, place)| Change { key, place })
-        .collect();
-    let suffix = changes(&p.suffix, p.suffix.len() / 2);
+    let keys = merged(&base, &p.shot.held()).entries();
+    let suffix = changes(&p.suffix);
     let all = [suffix.clone(), before.batch()].concat();
     let mut after = State {
         compacted: p.idx,
@@ -209,7 +201,7 @@ fn after_delta(before: &State, round: &Ballot, decided: u64, p: &Part) -> State 
 }
 
 fn operation(op: &Op, list: &List) -> StorageOp<Change> {
-    let entries = || changes(&list.entries, list.entries.len() / 2);
+    let entries = || changes(&list.entries);
     let index = op.index as usize;
     match op.kind {
         OpKind::AppendEntries => StorageOp::AppendEntries(entries()),
@@ -393,7 +385,6 @@ impl<S: Sight> Judge<S> {
             let shown = before.entries()[first as usize..(first + count) as usize].to_vec();
             differ("the entries", &rust, &shown)
         };
-        let list = |es: &[u64]| changes(es, es.len() / 2);
         let s = &mut self.storage;
         match call {
             Call::GetAccepted => same(&[1, s.get_accepted_idx() as u64])?,
@@ -405,14 +396,16 @@ impl<S: Sight> Judge<S> {
                 })
                 .unwrap(),
             )?,
-            Call::Append(es) => flushed(s.append_entries_with_batching(list(es)).unwrap())?,
-            Call::AppendIdx(es) => match s.append_entries_and_get_accepted_idx(list(es)).unwrap() {
-                None => same(&[1])?,
-                Some(i) => same(&[2, i as u64])?,
-            },
+            Call::Append(es) => flushed(s.append_entries_with_batching(changes(es)).unwrap())?,
+            Call::AppendIdx(es) => {
+                match s.append_entries_and_get_accepted_idx(changes(es)).unwrap() {
+                    None => same(&[1])?,
+                    Some(i) => same(&[2, i as u64])?,
+                }
+            }
             Call::AppendNow(es) => same(&[
                 1,
-                s.append_entries_without_batching(list(es)).unwrap() as u64,
+                s.append_entries_without_batching(changes(es)).unwrap() as u64,
             ])?,
             Call::Flush => same(&[1, s.flush_batch().unwrap() as u64])?,
             Call::FlushEntries => flushed(s.flush_batch_and_get_entries().unwrap())?,
@@ -484,18 +477,14 @@ fn ours(call: &Call, before: &State, told: &Told) -> Result<(), String> {
     let part = |first: u64, count: u64| {
         let mut log = before.log.clone();
         log.resize(before.lent[0], 0);
-        let (first, end) = (2 * first as u128, 2 * (first as u128 + count as u128));
-        let held = log.get(first as usize..end as usize);
-        let held = held.filter(|_| end <= before.lent[0] as u128);
-        let mut due = vec![1];
-        due.extend(area(held.unwrap_or_default()));
-        same(&due)
+        let held = entry::part(&log, first, count).unwrap_or_default();
+        same(&[vec![1], area(held)].concat())
     };
     match call {
         Call::WellFormed => same(&[1, before.well_formed() as u64]),
         Call::GetLogDecided => same(&[1, before.log_decided()]),
         Call::Lookup(key) => found(&folded(before, before.log_decided()), key),
-        Call::Fold(es, _) => written(1, &[], &Keys::create(&changes(es, es.len() / 2)), told),
+        Call::Fold(es, _) => written(1, &[], &Keys::create(&changes(es)), told),
         Call::Merge(n, shot, _) => {
             let made = merged(&held_with(before, *n).held(), &shot.held());
             written(1, &[], &made, told)

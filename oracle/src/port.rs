@@ -66,19 +66,3 @@ impl Port {
         used(self.calls.area(4)).to_vec()
     }
 }
-
-/// The lines that put words into an area from one on.
-pub fn put(area: u64, from: u64, words: &[u64]) -> Vec<Vec<u64>> {
-    words
-        .chunks(60)
-        .enumerate()
-        .map(|(i, part)| [&[2, area, from + 60 * i as u64], part].concat())
-        .collect()
-}
-
-/// The lines that put words at an area's start and lend so many of it.
-pub fn lend(area: u64, words: &[u64]) -> Vec<Vec<u64>> {
-    let mut lines = put(area, 0, words);
-    lines.push(vec![3, area, words.len() as u64]);
-    lines
-}

@@ -1,7 +1,9 @@
 //! Document 01's refusals: which number a call is answered on a state, and what it carries. All numbers are judged as numbers.
 use crate::backend::{Change, Keys};
 use crate::call::{Call, Kind, List, OpKind, Part};
-use crate::state::*;
+use crate::entry::{self, changes, count, entries_formed, whole, LOG_WORDS, SHOT_WORDS};
+use crate::limits::{ENTRIES, KEYS, LARGEST, LARGEST_BATCH, MOST_OPS};
+use crate::state::{trimmed, Shot, Sign, State};
 use crate::storage::Snapshot;
 use std::ops::Bound;
 
@@ -19,14 +21,17 @@ fn first(rules: &[(bool, u64, u128)]) -> Refusal {
 fn formed(call: &Call, s: &State) -> bool {
     let output = |n: &usize| *n == SHOT_WORDS;
     match call {
-        Call::Fresh(n) => *n <= 64 && s.lent == [LOG_WORDS, SHOT_WORDS],
-        Call::AppendEntry(_, place) => place.is_none_or(|p| p < PLACES),
+        Call::Fresh(n) => *n <= LARGEST_BATCH && s.lent == [LOG_WORDS, SHOT_WORDS],
+        Call::AppendEntry(key, place) => entry::formed(&Change {
+            key: *key,
+            place: *place,
+        }),
         Call::Append(es) | Call::AppendIdx(es) | Call::AppendNow(es) => entries_formed(es),
         Call::AppendStop(sign) | Call::SetStop(Some(sign)) => sign.formed(),
         Call::Read(_, a, b) => *a != Bound::Excluded(u64::MAX) && *b != Bound::Included(u64::MAX),
         Call::Create(_, n) | Call::Diff(_, n) => output(n),
         Call::Sync(_, _, p) => {
-            p.suffix.len() % 2 == 0
+            whole(&p.suffix)
                 && p.shot.words.len() == SHOT_WORDS
                 && (!p.held
                     || (entries_formed(&p.suffix)
@@ -47,7 +52,7 @@ fn list_formed(list: &List) -> bool {
         OpKind::SetSnapshot => op.given && !list.shot_lent,
         _ => false,
     });
-    (1..=8).contains(&list.ops.len())
+    (1..=MOST_OPS).contains(&list.ops.len())
         && entries_formed(&list.entries)
         && list.shot.words.len() == SHOT_WORDS
         && (!list.shot_lent || list.shot.formed())
@@ -86,16 +91,25 @@ pub fn merged(first: &Keys, second: &Keys) -> Keys {
 }
 
 fn over(keys: &Keys) -> bool {
-    keys.0.len() > KEYS
+    keys.0.len() as u64 > KEYS
 }
 
-fn append(s: &State, n: usize) -> Refusal {
+/// Whether a log has no room for so many entries.
+fn too_many(entries: u128) -> bool {
+    entries > ENTRIES as u128
+}
+
+fn past_largest(index: u128) -> bool {
+    index > LARGEST as u128
+}
+
+fn append(s: &State, n: u64) -> Refusal {
     let n = n as u128;
     let (retained, batched) = (s.retained as u128, s.batched as u128);
     first(&[
         (s.stop_held, 4, s.accepted()),
-        (s.accepted() + batched + n > LARGEST, 9, s.accepted()),
-        (retained + batched + n > ENTRIES as u128, 1, 0),
+        (past_largest(s.accepted() + batched + n), 9, s.accepted()),
+        (too_many(retained + batched + n), 1, 0),
     ])
 }
 
@@ -133,7 +147,7 @@ fn diff(s: &State, from: u64) -> Refusal {
 
 fn sync(s: &State, d: u64, p: &Part) -> Refusal {
     let idx = p.idx as u128;
-    let suffix = p.suffix.len() as u128 / 2;
+    let suffix = count(&p.suffix) as u128;
     let batched = s.batched as u128;
     let decided = s.decided.max(d) as u128;
     let accepted = idx + suffix + p.stop.is_some() as u128;
@@ -152,8 +166,8 @@ fn sync(s: &State, d: u64, p: &Part) -> Refusal {
             s.end(),
         ),
         (p.stop.is_some() && s.batched > 0, 10, batched),
-        (accepted + batched > LARGEST, 9, s.accepted()),
-        (kept + suffix + batched > ENTRIES as u128, 1, 0),
+        (past_largest(accepted + batched), 9, s.accepted()),
+        (too_many(kept + suffix + batched), 1, 0),
         (decided > accepted, 6, accepted),
         (!plain && idx > decided, 2, decided),
     ])
@@ -169,7 +183,7 @@ fn write(s: &State, list: &List) -> Refusal {
     let mut t = s.clone();
     let mut start = s.compacted as u128;
     let mut entries = s.entries();
-    let lent = changes(&list.entries, list.entries.len() / 2);
+    let lent = changes(&list.entries);
     for op in &list.ops {
         let index = op.index as u128;
         match op.kind {
@@ -211,14 +225,18 @@ fn write(s: &State, list: &List) -> Refusal {
                 t.shot = trimmed(shot.words);
             }
         }
-        if entries.len() as u64 + s.batched > ENTRIES as u64 {
+        if too_many(entries.len() as u128 + s.batched as u128) {
             return first(&[(true, 1, 0)]);
         }
     }
     let all = [entries.clone(), s.batch()].concat();
     t = t.with_entries(&all, entries.len());
     first(&[
-        (t.accepted() + t.batched as u128 > LARGEST, 9, s.accepted()),
+        (
+            past_largest(t.accepted() + t.batched as u128),
+            9,
+            s.accepted(),
+        ),
         (start != t.compacted as u128 || !t.well_formed(), 12, 0),
     ])
 }
@@ -251,11 +269,11 @@ pub fn refusal(s: &State, call: &Call) -> Refusal {
     }
     match call {
         Call::AppendEntry(..) => append(s, 1),
-        Call::Append(es) | Call::AppendIdx(es) | Call::AppendNow(es) => append(s, es.len() / 2),
+        Call::Append(es) | Call::AppendIdx(es) | Call::AppendNow(es) => append(s, count(es)),
         Call::AppendStop(_) => first(&[
             (s.stop_held, 4, s.accepted()),
             (
-                s.accepted() + s.batched as u128 + 1 > LARGEST,
+                past_largest(s.accepted() + s.batched as u128 + 1),
                 9,
                 s.accepted(),
             ),
@@ -263,7 +281,7 @@ pub fn refusal(s: &State, call: &Call) -> Refusal {
         Call::SetStop(sign) => first(&[
             (s.stop_decided(), 4, s.accepted()),
             (sign.is_some() && s.batched > 0, 10, s.batched as u128),
-            (sign.is_some() && s.end() + 1 > LARGEST, 9, s.accepted()),
+            (sign.is_some() && past_largest(s.end() + 1), 9, s.accepted()),
         ]),
         Call::Decide(_, i) => first(&[
             (*i < s.decided, 5, s.decided as u128),
@@ -278,7 +296,7 @@ pub fn refusal(s: &State, call: &Call) -> Refusal {
         }
         Call::Sync(_, d, part) => sync(s, *d, part),
         Call::Write(_, list) => write(s, list),
-        Call::Fold(es, _) => first(&[(over(&Keys::create(&changes(es, es.len() / 2))), 8, 0)]),
+        Call::Fold(es, _) => first(&[(over(&Keys::create(&changes(es))), 8, 0)]),
         Call::Merge(n, shot, _) => {
             first(&[(over(&merged(&held_with(s, *n).held(), &shot.held())), 8, 0)])
         }

@@ -1,5 +1,6 @@
 //! The calls of a run that are kept for the recorded list.
 use crate::call::Call;
+use crate::entry::at;
 use crate::state::State;
 use std::collections::BTreeMap;
 
@@ -9,8 +10,8 @@ pub struct Sample {
     pub kept: BTreeMap<(&'static str, Vec<u64>), Vec<(State, Call)>>,
 }
 
-/// Words of log and snapshot that are few.
-const FEW: usize = 40;
+/// Words of log and snapshot that are few: of so many entries.
+const FEW: usize = at(20);
 /// How many calls of a sort are kept from states with few, refused and accepted ones. From states with more it is one.
 const REFUSED: usize = 3;
 const ACCEPTED: usize = 20;

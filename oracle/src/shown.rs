@@ -1,5 +1,20 @@
 //! The figures as docs/FIGURES.md shows them, from what `oracle figures count` and `time` printed.
+use crate::entry::{LOG_WORDS, SHOT_WORDS};
+use crate::limits::{ENTRIES, KEYS};
 use std::fs;
+
+/// The states of the tables: a name, the snapshot's keys, the entries.
+pub const STATES: [(&str, u64, u64); 3] = [
+    ("empty", 0, 0),
+    ("half", KEYS / 2, ENTRIES / 2),
+    ("full", KEYS, ENTRIES),
+];
+
+/// Entries that a call adds where it adds many.
+pub const ADDED: u64 = 16;
+
+/// Words that a call on lent words judges.
+const WORDS: u64 = (LOG_WORDS + SHOT_WORDS) as u64;
 
 /// A number, and what was measured: a table, a row of it and a column.
 struct Figure {
@@ -85,7 +100,7 @@ fn print_whole(order: &[Figure], figures: &[Figure], table: &str, corner: &str) 
 fn print_calls(order: &[Figure], figures: &[Figure]) {
     let columns: Vec<String> = ["lent", "owned", "Rust"]
         .iter()
-        .flat_map(|way| ["empty", "half", "full"].map(|state| format!("{way}, {state}")))
+        .flat_map(|way| STATES.map(|(state, ..)| format!("{way}, {state}")))
         .collect();
     print_table(
         order,
@@ -103,7 +118,6 @@ fn print_bars(before: &[Figure], now: &[Figure]) {
         number(figures, "lookup", &format!("full: {row}"), way)
     };
     let scan = "Rust: entries backwards, then the map";
-    let words = 2048 + 1024;
     let row = |name: &str, was: Option<u64>, is: Option<u64>, bar: Option<u64>, why: &str| {
         let (was, is, bar) = (was.unwrap(), is.unwrap(), bar.unwrap());
         let met = if is <= bar { "met" } else { "NOT MET" };
@@ -130,7 +144,7 @@ fn print_bars(before: &[Figure], now: &[Figure]) {
         "the form judged",
         full(before, formed, "lent"),
         full(now, formed, "lent"),
-        Some(3 * words),
+        Some(3 * WORDS),
         "3 a word",
     );
     let decide = "set_decided_idx";
@@ -178,21 +192,30 @@ fn print_bars(before: &[Figure], now: &[Figure]) {
     println!();
 }
 
-const HEAD: &str = "# Figures
+fn head() -> String {
+    let [_, half, full] = STATES.map(|(_, keys, entries)| (written(keys), written(entries)));
+    let room = written(ENTRIES - ADDED);
+    format!(
+        "# Figures
 
 `oracle/figures` measures, and writes this file. Instructions are counted on x86-64 code below qemu-user (`oracle/count.c`), and are the
 same on every machine; the turns of repeated string instructions, by which libc copies, are left out. Times are the least of 200 rounds of
 one call, the clock's own 20 to 50 ns within, where the machine is x86-64.
 
-An empty state has no key and no entry. A half one has 256 keys in its snapshot and 512 entries after it, a full one 512 and 1,024 (1,008
+An empty state has no key and no entry. A half one has {} keys in its snapshot and {} entries after it, a full one {} and {} ({room}
 where the call adds sixteen), over half of the keys; all but the last entry are decided. *Lent* is a call on a record and words that the
 caller lends, whose form is judged first; *owned* one through the crate's `Index`, which is not judged again where the boundary has an
 inner call. The *Rust* is omnipaxos's `InternalStorage` over the oracle's backend, on the same state; both are compared after each is built.
-";
+",
+        half.0, half.1, full.0, full.1
+    )
+}
 
-const SLOWER: &str = "## Where we are slower, and why
+fn slower() -> String {
+    format!(
+        "## Where we are slower, and why
 
-- A call on lent words judges all 3,072 of them first: that is most of what a lent call costs, and why an owned state is not judged again.
+- A call on lent words judges all {} of them first: that is most of what a lent call costs, and why an owned state is not judged again.
 - Folding (`try_snapshot`, `create_snapshot`, a delta, `sync_log` with one) finds each key's place in the sorted words by a walk from the
   front, four keys a step, and moves what follows; the Rust inserts into a tree.
 - A lookup walks the decided entries backwards and then the snapshot's keys from the front; a `BTreeMap` of everything, which nobody has to
@@ -200,12 +223,15 @@ const SLOWER: &str = "## Where we are slower, and why
 - An operation list runs on a copy of all words, judged before it and by its numbers after it; the oracle's backend copies everything too.
 - We are faster where the Rust builds what a reader did not ask for: a read shows a part of the log where the Rust copies entries out, and
   a trim moves words where the Rust's backend copies the whole state.
-";
+",
+        written(WORDS)
+    )
+}
 
 /// Prints the file: the figures before the calls were made fast are kept in a file of their own.
 pub fn run(before: &str, counts: &str, times: Option<&String>) {
     let (before, counts) = (figures(before), figures(counts));
-    println!("{HEAD}");
+    println!("{}", head());
     println!("## Bars of speed\n\nInstructions; before: as `oracle/before.counts` keeps them, when every call judged its state, one test a place.\n");
     print_bars(&before, &counts);
     println!("## Each call: instructions\n");
@@ -227,5 +253,5 @@ pub fn run(before: &str, counts: &str, times: Option<&String>) {
         println!("## How cost grows: nanoseconds\n");
         print_whole(&counts, &times, "growth", "state");
     }
-    print!("{SLOWER}");
+    print!("{}", slower());
 }

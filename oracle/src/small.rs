@@ -2,8 +2,9 @@
 use crate::backend::Change;
 use crate::ballot_leader_election::Ballot;
 use crate::call::{Call, Form, Kind, List, Op, OpKind, Part};
+use crate::entry::{words, SHOT_WORDS};
 use crate::runner::Runner;
-use crate::state::{words, Shot, Sign, State, SHOT_WORDS};
+use crate::state::{Shot, Sign, State};
 use std::collections::BTreeSet;
 use std::ops::Bound;
 

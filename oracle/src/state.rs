@@ -1,48 +1,12 @@
 //! A state as the port shows it, well formed or not, and what document 01 says of it.
 use crate::backend::{Change, Keys};
 use crate::ballot_leader_election::Ballot;
-use crate::port::put;
-use crate::storage::StopSign;
+use crate::entry::{at, first_changes, formed, words, LOG_WORDS, SHOT_WORDS};
+use crate::limits::{ENTRIES, KEYS, LARGEST, LARGEST_BATCH, METADATA, NODES};
+use crate::lines::put;
+use crate::storage::{Snapshot, StopSign};
 use crate::ClusterConfig;
 use kotuseraw::plain::{self, IndexRecord};
-
-pub const REMOVED: u64 = u64::MAX;
-pub const PLACES: u64 = 1 << 48;
-pub const LOG_WORDS: usize = 2048;
-pub const SHOT_WORDS: usize = 1024;
-pub const ENTRIES: usize = 1024;
-pub const KEYS: usize = 512;
-pub const LARGEST: u128 = 4_294_967_295;
-
-/// Words as entries.
-pub fn changes(words: &[u64], n: usize) -> Vec<Change> {
-    let word = |at: usize| words.get(at).copied().unwrap_or(0);
-    (0..n)
-        .map(|i| {
-            let place = word(2 * i + 1);
-            Change {
-                key: word(2 * i),
-                place: (place != REMOVED).then_some(place),
-            }
-        })
-        .collect()
-}
-
-pub fn words(entries: &[Change]) -> Vec<u64> {
-    entries
-        .iter()
-        .flat_map(|e| [e.key, e.place.unwrap_or(REMOVED)])
-        .collect()
-}
-
-pub fn place_formed(word: u64) -> bool {
-    word < PLACES || word == REMOVED
-}
-
-/// An entry slice in form.
-pub fn entries_formed(words: &[u64]) -> bool {
-    words.len() % 2 == 0 && words.iter().skip(1).step_by(2).all(|w| place_formed(*w))
-}
 
 /// A lent snapshot: its words, as many as are lent, and the number of keys said of it.
 #[derive(Clone, Debug, PartialEq)]
@@ -62,17 +26,17 @@ impl Shot {
     }
 
     pub fn formed(&self) -> bool {
-        let n = self.keys as usize;
-        self.words.len() == SHOT_WORDS
-            && self.keys <= KEYS as u64
-            && entries_formed(&self.words[..2 * n])
-            && (1..n).all(|i| self.words[2 * i - 2] < self.words[2 * i])
-            && self.words[2 * n..].iter().all(|w| *w == 0)
+        if self.words.len() != SHOT_WORDS || self.keys > KEYS {
+            return false;
+        }
+        let held = first_changes(&self.words, self.keys);
+        held.iter().all(formed)
+            && held.windows(2).all(|e| e[0].key < e[1].key)
+            && self.words[at(self.keys)..].iter().all(|w| *w == 0)
     }
 
     pub fn held(&self) -> Keys {
-        let list = changes(&self.words, self.keys as usize);
-        Keys(list.iter().map(|e| (e.key, e.place)).collect())
+        Keys::create(&first_changes(&self.words, self.keys))
     }
 }
 
@@ -81,10 +45,10 @@ impl Shot {
 pub struct Sign {
     pub config: u32,
     pub node_count: u64,
-    pub nodes: [u64; 7],
+    pub nodes: [u64; NODES],
     pub metadata_held: bool,
     pub metadata_len: u64,
-    pub metadata: [u8; 32],
+    pub metadata: [u8; METADATA],
 }
 
 impl Sign {
@@ -115,8 +79,8 @@ impl Sign {
     }
 
     pub fn formed(&self) -> bool {
-        (1..=7).contains(&self.node_count)
-            && self.metadata_len <= 32
+        (1..=NODES as u64).contains(&self.node_count)
+            && self.metadata_len <= METADATA as u64
             && (self.metadata_held || self.metadata_len == 0)
             && self.nodes[self.node_count as usize..]
                 .iter()
@@ -200,7 +164,19 @@ fn words_from(area: u64, due: &[u64], held: &[u64]) -> Vec<Vec<u64>> {
         return vec![];
     };
     let words: Vec<u64> = (first..=last).map(|i| word(due, i)).collect();
-    put(area, first as u64, &words)
+    put(area, first, &words)
+}
+
+/// The largest number that a field of the record holds, by docs/CALLS.md's number of it.
+pub fn largest(field: u64) -> u64 {
+    const METADATA_HELD: u64 = 18 + NODES as u64;
+    const METADATA_LEN: u64 = METADATA_HELD + 1;
+    match field {
+        13 | 15 | METADATA_HELD => 1,
+        5..=7 | 9..=11 | 16 => u32::MAX as u64,
+        _ if field > METADATA_LEN => u8::MAX as u64,
+        _ => u64::MAX,
+    }
 }
 
 impl State {
@@ -315,11 +291,11 @@ impl State {
     }
 
     pub fn entries(&self) -> Vec<Change> {
-        changes(&self.log, self.retained as usize)
+        first_changes(&self.log, self.retained)
     }
 
     pub fn batch(&self) -> Vec<Change> {
-        let all = changes(&self.log, (self.retained + self.batched) as usize);
+        let all = first_changes(&self.log, self.retained + self.batched);
         all[self.retained as usize..].to_vec()
     }
 
@@ -344,19 +320,17 @@ impl State {
         let n = self.retained as u128 + self.batched as u128;
         self.lent[0] == LOG_WORDS
             && n <= ENTRIES as u128
-            && self.log.len() as u128 <= 2 * n
-            && changes(&self.log, n as usize)
-                .iter()
-                .all(|e| e.place.is_none_or(|p| p < PLACES))
+            && self.log.len() <= at(n as u64)
+            && first_changes(&self.log, n as u64).iter().all(formed)
     }
 
     fn numbers_formed(&self) -> bool {
         let log_decided = self.decided as u128 - self.stop_decided() as u128;
-        self.size <= 64
+        self.size <= LARGEST_BATCH
             && self.compacted as u128 <= log_decided
             && log_decided <= self.end()
             && self.decided as u128 <= self.accepted()
-            && self.accepted() + self.batched as u128 <= LARGEST
+            && self.accepted() + self.batched as u128 <= LARGEST as u128
             && (self.batched == 0 || (self.batched < self.size && !self.stop_held))
     }
 

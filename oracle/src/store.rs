@@ -2,7 +2,7 @@
 //! [`Index`] untouched. Every write is one operation list, done whole or not at all; what the library refuses comes back as the error.
 use crate::backend::{Backend, Change, Keys, Sight};
 use crate::ballot_leader_election::Ballot;
-use crate::storage::{StopSign, Storage, StorageOp, StorageResult};
+use crate::storage::{Snapshot as _, StopSign, Storage, StorageOp, StorageResult};
 use crate::ClusterConfig;
 use kotuseraw::{BlockPlace, Entry, Index, Lent, LogIndex, Op, Snapshot};
 use std::{cell::RefCell, rc::Rc};
@@ -35,7 +35,7 @@ fn entry(change: &Change) -> Entry {
     }
 }
 
-fn change(entry: &Entry) -> Change {
+pub fn change(entry: &Entry) -> Change {
     Change {
         key: entry.key(),
         place: entry.place().map(|place| place.0),
@@ -65,16 +65,7 @@ impl Brought {
     }
 
     fn snapshot(&mut self, keys: &Keys) -> StorageResult<()> {
-        let run: Vec<Entry> = keys
-            .0
-            .iter()
-            .map(|(key, place)| {
-                entry(&Change {
-                    key: *key,
-                    place: *place,
-                })
-            })
-            .collect();
+        let run: Vec<Entry> = keys.entries().iter().map(entry).collect();
         bring(&mut self.snapshot, Snapshot::fold(&run)?)
     }
 
@@ -264,7 +255,7 @@ impl Storage<Change> for Stored {
 
     fn get_snapshot(&self) -> StorageResult<Option<Keys>> {
         let held = self.0.borrow();
-        let keys = |run: &[Entry]| Keys(run.iter().map(change).map(|c| (c.key, c.place)).collect());
-        Ok(held.snapshot().map(keys))
+        let changes = |run: &[Entry]| run.iter().map(change).collect::<Vec<_>>();
+        Ok(held.snapshot().map(|run| Keys::create(&changes(run))))
     }
 }

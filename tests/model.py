@@ -7,7 +7,11 @@ reads document 01 wrongly.
 import re
 import sys
 
-ENTRIES, KEYS, LAST_INDEX, LARGEST_BATCH, PLACES = 1024, 512, 2**32 - 1, 64, 2**48
+ENTRIES, KEYS, LARGEST_INDEX, LARGEST_BATCH, PLACES = 1024, 512, 2**32 - 1, 64, 2**48
+LARGEST_NUMBER, LARGEST_CONFIG = 2**64 - 1, 2**32 - 1
+DIGITS = len(str(LARGEST_NUMBER))
+# No longer line has a meaning: a read of two numbers of all digits.
+LONGEST_LINE = len("read") + 2 * (1 + DIGITS)
 NUMBER = re.compile(rb"0|[1-9][0-9]*")
 
 
@@ -35,7 +39,7 @@ class Log:
     def append(self, key, place):
         if self.stop is not None:
             return "refused 4"
-        if self.accepted() + len(self.batched) + 1 > LAST_INDEX:
+        if self.accepted() + len(self.batched) + 1 > LARGEST_INDEX:
             return "refused 9"
         if len(self.retained) + len(self.batched) + 1 > ENTRIES:
             return "refused 1"
@@ -48,7 +52,7 @@ class Log:
     def append_stop(self, config):
         if self.stop is not None:
             return "refused 4"
-        if self.accepted() + len(self.batched) + 1 > LAST_INDEX:
+        if self.accepted() + len(self.batched) + 1 > LARGEST_INDEX:
             return "refused 9"
         self.flush()
         self.stop = config
@@ -106,7 +110,7 @@ class Log:
 
 
 def number(word):
-    if NUMBER.fullmatch(word) and len(word) <= 20 and int(word) < 2**64:
+    if NUMBER.fullmatch(word) and len(word) <= DIGITS and int(word) <= LARGEST_NUMBER:
         return int(word)
     return None
 
@@ -138,7 +142,7 @@ class Replay:
                 return [self.log.decide(n)]
             if name == b"snap":
                 return [self.log.compact(n, True)]
-            if name == b"stop" and n < 2**32:
+            if name == b"stop" and n <= LARGEST_CONFIG:
                 return [self.log.append_stop(n)]
             if name == b"trim":
                 return [self.log.compact(n, False)]

@@ -1,14 +1,11 @@
 //! The log with its snapshot: one that a program owns, and one that it lends.
-use crate::entry::{entries, words, Entry};
+use crate::entry::{entries, words, Entry, LOG_WORDS, SNAPSHOT_WORDS};
 use crate::plain::{self, Ballot, BlockPlace, IndexRecord, LogIndex, Reply, Said, ShownSaid, StopSign};
 use crate::requests::{bound, Appended, Diff, Lent, LogSync, Marker, Op, Run};
-use crate::snapshot::{Snapshot, SNAPSHOT_WORDS};
+use crate::snapshot::Snapshot;
 use crate::{ready, Refusal};
 use std::fmt;
 use std::ops::RangeBounds;
-
-/// Words of a log's slice.
-pub const LOG_WORDS: usize = 2048;
 
 /// A log with its snapshot that the program owns. It comes from [`fresh`](Index::fresh), from a state that was judged
 /// ([`judged`](Index::judged)) or from a call on another, and only calls change it: so it is always well formed, and its calls need not
@@ -42,11 +39,11 @@ pub struct Index {
 /// where they are not well formed.
 ///
 /// ```
-/// use kotuseraw::{plain, BlockPlace, Entry, View};
-/// let (mut log, mut snapshot) = (vec![0; 2048], vec![0; 1024]);
+/// use kotuseraw::{entry, plain, BlockPlace, Entry, View, LOG_WORDS, SNAPSHOT_WORDS};
+/// let (mut log, mut snapshot) = (vec![0; LOG_WORDS], vec![0; SNAPSHOT_WORDS]);
 /// let mut record = plain::fresh(0, &mut log, &mut snapshot).index;
 /// View { record: &mut record, log: &mut log, snapshot: &mut snapshot }.append(Entry::put(7, BlockPlace(70)))?;
-/// assert_eq!(log[..2], [7, 70]);
+/// assert_eq!(entry::entries(&log)[0], Entry::put(7, BlockPlace(70)));
 /// record.decided.0 = 2;
 /// let refused = View { record: &mut record, log: &mut log, snapshot: &mut snapshot }.lookup(7);
 /// assert_eq!(refused.unwrap_err().number(), 12);
@@ -225,7 +222,7 @@ macro_rules! calls {
             kept(record, reply).map(|said| LogIndex(said.first))
         }
 
-        /// All of one to eight operations, in their order, or none.
+        /// All of one to [`MOST_OPS`](plain::MOST_OPS) operations, in their order, or none.
         ///
         /// ```
         /// # use kotuseraw::{BlockPlace, Entry, Index, Lent, LogIndex, Op};
@@ -334,7 +331,8 @@ macro_rules! calls {
 }
 
 impl Index {
-    /// An empty log whose batch is flushed when it has so many entries, 64 at most; at 0 no entry waits.
+    /// An empty log whose batch is flushed when it has so many entries, [`LARGEST_BATCH`](plain::LARGEST_BATCH) at most; at 0 no entry
+    /// waits.
     pub fn fresh(batch_size: u64) -> Result<Index, Refusal> {
         let (mut log, mut snapshot) = (Box::new([0; LOG_WORDS]), Box::new([0; SNAPSHOT_WORDS]));
         let reply = plain::fresh(batch_size, &mut log[..], &mut snapshot[..]);

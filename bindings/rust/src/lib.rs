@@ -17,9 +17,9 @@
 //! ```
 //!
 //! - [`Index`] owns its state. [`View`] has the same calls on a record and words that the caller lends. [`plain`] is the boundary
-//!   itself, number for number.
+//!   itself, number for number. [`entry`] says how entries lie in words, and how many there may be.
 //! - A call that is refused says so by a [`Refusal`], and has changed nothing.
-mod entry;
+pub mod entry;
 mod index;
 pub mod plain;
 mod ready;
@@ -27,9 +27,9 @@ mod refusal;
 mod requests;
 mod snapshot;
 
-pub use entry::Entry;
-pub use index::{Index, View, LOG_WORDS};
+pub use entry::{Entry, LOG_WORDS, SNAPSHOT_WORDS};
+pub use index::{Index, View};
 pub use plain::{Ballot, BlockPlace, IndexRecord, LogIndex, StopSign};
 pub use refusal::Refusal;
 pub use requests::{Appended, Diff, Lent, LogSync, Marker, Op, Run, SnapshotType};
-pub use snapshot::{Snapshot, SNAPSHOT_WORDS};
+pub use snapshot::Snapshot;

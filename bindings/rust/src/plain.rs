@@ -4,6 +4,16 @@
 //! changes nothing. Kinds are numbers, and one that there is not is refused with 11. `docs/HOST.md` in the repository says of each
 //! call what its answer tells. [`Index`](crate::Index) and [`View`](crate::View) are the same calls with types.
 
+/// The largest index that is held.
+pub const LARGEST_INDEX: LogIndex = LogIndex(4_294_967_295);
+pub const LARGEST_BATCH: u64 = 64;
+/// Nodes of a stop-sign.
+pub const NODES: usize = 7;
+/// Bytes of a stop-sign's metadata.
+pub const METADATA: usize = 32;
+/// Operations of a list.
+pub const MOST_OPS: usize = 8;
+
 #[repr(C)]
 #[derive(Clone, Copy, Debug, Default, PartialEq, Eq, PartialOrd, Ord, Hash)]
 /// The number of a change in the log.
@@ -11,7 +21,7 @@ pub struct LogIndex(pub u64);
 
 #[repr(C)]
 #[derive(Clone, Copy, Debug, Default, PartialEq, Eq, PartialOrd, Ord, Hash)]
-/// The number of a block on disk, below 2^48.
+/// The number of a block on disk, below [`PLACES`](crate::entry::PLACES).
 pub struct BlockPlace(pub u64);
 
 #[repr(C)]
@@ -26,14 +36,14 @@ pub struct Ballot {
 
 #[repr(C)]
 #[derive(Clone, Copy, Debug, Default, PartialEq, Eq, Hash)]
-/// The next configuration: its nodes, and up to 32 bytes of metadata or none. What is past the counts is zero.
+/// The next configuration: its nodes, and metadata or none. What is past the counts is zero.
 pub struct StopSign {
     pub config_id: u32,
     pub node_count: usize,
-    pub nodes: [u64; 7],
+    pub nodes: [u64; NODES],
     pub metadata_held: bool,
     pub metadata_len: usize,
-    pub metadata: [u8; 32],
+    pub metadata: [u8; METADATA],
 }
 
 #[repr(C)]
@@ -112,10 +122,10 @@ pub struct Op {
 
 #[repr(C)]
 #[derive(Clone, Copy, Debug, Default, PartialEq, Eq)]
-/// The first `count` of eight operations.
+/// The first `count` of the operations.
 pub struct Ops {
     pub count: usize,
-    pub ops: [Op; 8],
+    pub ops: [Op; MOST_OPS],
 }
 
 #[repr(C)]

@@ -21,8 +21,8 @@ impl Ballot {
 }
 
 impl StopSign {
-    /// A stop-sign for up to seven nodes with up to 32 bytes of metadata; None where there are more. One without a node is in no
-    /// form, and refused by every call.
+    /// A stop-sign for up to [`NODES`](plain::NODES) nodes with up to [`METADATA`](plain::METADATA) bytes of metadata; None where there
+    /// are more. One without a node is in no form, and refused by every call.
     pub fn new(config_id: u32, nodes: &[u64], metadata: Option<&[u8]>) -> Option<StopSign> {
         let mut sign = StopSign { config_id, node_count: nodes.len(), metadata_held: metadata.is_some(), ..StopSign::default() };
         let bytes = metadata.unwrap_or(&[]);
@@ -159,7 +159,7 @@ impl Op {
         }
     }
 
-    /// A list of more than eight keeps its count, with which it is refused.
+    /// A list that is too long keeps its count, with which it is refused.
     pub(crate) fn list(ops: &[Op]) -> plain::Ops {
         let mut list = plain::Ops { count: ops.len(), ..plain::Ops::default() };
         for (to, op) in list.ops.iter_mut().zip(ops) {

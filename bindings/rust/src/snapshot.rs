@@ -1,13 +1,10 @@
 //! Snapshots that a program owns: the last word of each key, removals kept.
-use crate::entry::{entries, words, Entry, WIDTH};
+use crate::entry::{entries, words, Entry, SNAPSHOT_WORDS};
 use crate::plain::{self, BlockPlace, Said};
 use crate::Refusal;
 use std::fmt;
 
-/// Words of a snapshot's slice.
-pub const SNAPSHOT_WORDS: usize = 1024;
-
-/// A snapshot in form: up to 512 keys, ascending. It comes from the library's own calls and nobody else writes it.
+/// A snapshot in form: up to [`KEYS`](crate::entry::KEYS) keys, ascending. It comes from the library's own calls and nobody else writes it.
 #[derive(Clone, PartialEq, Eq)]
 pub struct Snapshot {
     keys: usize,
@@ -70,7 +67,7 @@ impl Snapshot {
 
     /// Its keys, ascending.
     pub fn entries(&self) -> &[Entry] {
-        entries(&self.words[..self.keys * WIDTH])
+        &entries(&self.words[..])[..self.keys]
     }
 
     /// Its words, zeros after those of its keys.

@@ -1,6 +1,14 @@
 //! The calls of an owned index, which do not judge its form, beside the same calls on lent words, which do.
-use kotuseraw::{plain, Ballot, BlockPlace, Entry, Index, Lent, LogIndex, LogSync, Op, Refusal, Snapshot, SnapshotType, StopSign, View};
+use kotuseraw::entry::{ENTRIES, KEYS, PLACES, WIDTH};
+use kotuseraw::plain::{LARGEST_BATCH, LARGEST_INDEX, METADATA, NODES};
+use kotuseraw::{
+    plain, Ballot, BlockPlace, Entry, Index, Lent, LogIndex, LogSync, Op, Refusal, Snapshot, SnapshotType, StopSign, View, SNAPSHOT_WORDS,
+};
 use std::collections::BTreeMap;
+
+/// Keys are below this: refusal 8 is met.
+const SOME_KEYS: u64 = 900;
+const _: () = assert!(SOME_KEYS > KEYS as u64);
 
 /// Numbers that look random and are the same in every run.
 struct Dice(u64);
@@ -14,7 +22,7 @@ impl Dice {
     }
 
     fn entry(&mut self) -> Entry {
-        let key = self.next(900);
+        let key = self.next(SOME_KEYS);
         match self.next(4) {
             0 => Entry::removed(key),
             _ => Entry::put(key, BlockPlace(self.next(1 << 20))),
@@ -30,7 +38,7 @@ impl Dice {
     fn index(&mut self, of: &Index) -> LogIndex {
         let record = of.record();
         let end = record.compacted.0 + record.retained as u64;
-        let near = [record.compacted.0, record.decided.0, end, self.next(end + 2), u64::MAX, 4_294_967_290];
+        let near = [record.compacted.0, record.decided.0, end, self.next(end + 2), u64::MAX, LARGEST_INDEX.0 - 5];
         let at = near[[0, 1, 1, 2, 2, 3, 3, 3, 3, 4, 5][self.next(11) as usize]];
         LogIndex(at.wrapping_add(self.next(3)).wrapping_sub(1))
     }
@@ -40,8 +48,8 @@ impl Dice {
     }
 
     fn stopsign(&mut self) -> StopSign {
-        let nodes: Vec<u64> = (0..self.next(8)).collect();
-        let bytes = vec![7; self.next(33) as usize];
+        let nodes: Vec<u64> = (0..self.next(NODES as u64 + 1)).collect();
+        let bytes = vec![7; self.next(METADATA as u64 + 1) as usize];
         StopSign::new(self.next(9) as u32, &nodes, Some(&bytes).filter(|_| nodes.len() > 2).map(|b| &b[..])).unwrap()
     }
 }
@@ -124,7 +132,7 @@ fn turn(index: &mut Index, dice: &mut Dice, met: &mut Met) {
             let ops = [Op::AppendOnPrefix(i), Op::SetDecidedIndex(j), Op::SetPromise(dice.ballot())];
             both!(index, met, write_atomically(lent, &ops[..(i.0 % 4) as usize]))
         }
-        17 => both!(index, met, lookup(i.0 % 900)),
+        17 => both!(index, met, lookup(i.0 % SOME_KEYS)),
         18 => both!(index, met, read(i..j)),
         19 => both!(index, met, read(..=j)),
         20 => both!(index, met, read_decided_suffix(i)),
@@ -173,7 +181,7 @@ fn an_owned_index_answers_as_a_lent_one() {
 #[test]
 fn a_place_that_there_is_not_is_malformed() {
     let mut index = Index::fresh(0).unwrap();
-    for place in [1 << 48, u64::MAX - 1, u64::MAX] {
+    for place in [PLACES, u64::MAX - 1, u64::MAX] {
         assert_eq!(index.append(Entry::put(1, BlockPlace(place))).unwrap_err().number(), 11);
     }
 }
@@ -182,15 +190,19 @@ fn a_place_that_there_is_not_is_malformed() {
 fn a_state_that_is_not_well_formed_becomes_no_index() {
     let index = Index::fresh(4).unwrap();
     let (log, snapshot) = (index.log().to_vec(), index.snapshot_words().to_vec());
-    let spoilt: [fn(&mut kotuseraw::IndexRecord); 4] =
-        [|record| record.retained = 1025, |record| record.decided.0 = 1, |record| record.batch_size = 65, |record| record.keys = 1];
+    let spoilt: [fn(&mut kotuseraw::IndexRecord); 4] = [
+        |record| record.retained = ENTRIES + 1,
+        |record| record.decided.0 = 1,
+        |record| record.batch_size = LARGEST_BATCH + 1,
+        |record| record.keys = 1,
+    ];
     for spoil in spoilt {
         let mut record = *index.record();
         spoil(&mut record);
         assert_eq!(Index::judged(record, &log, &snapshot), None);
     }
     assert_eq!(Index::judged(*index.record(), &log[1..], &snapshot), None);
-    assert_eq!(Index::judged(*index.record(), &log, &snapshot[..1022]), None);
+    assert_eq!(Index::judged(*index.record(), &log, &snapshot[..SNAPSHOT_WORDS - WIDTH]), None);
 }
 
 #[test]
@@ -201,7 +213,7 @@ fn a_refusal_says_what_it_means() {
         index.set_decided_idx(LogIndex(2)).unwrap_err(),
         index.try_trim(LogIndex(1)).unwrap_err(),
         index.append_stopsign(StopSign::default()).unwrap_err(),
-        Index::fresh(65).unwrap_err(),
+        Index::fresh(LARGEST_BATCH + 1).unwrap_err(),
     ]
     .map(|refusal| refusal.to_string())
     .to_vec();

@@ -1,7 +1,7 @@
 //! The fields of a record and of a stop-sign by docs/CALLS.md's numbers. What sets one is None where there is no such field, or where
 //! the number is too large for it.
 use crate::{flag, replies};
-use kotuseraw::plain::{Ballot, IndexRecord, StopSign};
+use kotuseraw::plain::{Ballot, IndexRecord, StopSign, NODES};
 
 fn set_ballot(ballot: &mut Ballot, field: u64, v: u64) -> Option<()> {
     match field {
@@ -13,15 +13,19 @@ fn set_ballot(ballot: &mut Ballot, field: u64, v: u64) -> Option<()> {
     Some(())
 }
 
+/// A stop-sign's fields after its nodes: two, then the metadata.
+const METADATA_HELD: u64 = 2 + NODES as u64;
+const METADATA_LEN: u64 = METADATA_HELD + 1;
+const METADATA: u64 = METADATA_LEN + 1;
+
 pub fn set_sign(sign: &mut StopSign, field: u64, v: u64) -> Option<()> {
     match field {
         0 => sign.config_id = u32::try_from(v).ok()?,
         1 => sign.node_count = v as usize,
-        2..=8 => sign.nodes[field as usize - 2] = v,
-        9 => sign.metadata_held = flag(v)?,
-        10 => sign.metadata_len = v as usize,
-        11..=42 => sign.metadata[field as usize - 11] = u8::try_from(v).ok()?,
-        _ => return None,
+        METADATA_HELD => sign.metadata_held = flag(v)?,
+        METADATA_LEN => sign.metadata_len = v as usize,
+        _ if field < METADATA_HELD => sign.nodes[field as usize - 2] = v,
+        _ => *sign.metadata.get_mut((field - METADATA) as usize)? = u8::try_from(v).ok()?,
     }
     Some(())
 }

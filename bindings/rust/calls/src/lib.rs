@@ -1,12 +1,13 @@
 //! Every call of the library made from a line of numbers, on any record and any words: docs/CALLS.md says what each line does.
-use kotuseraw::plain::{self, Ballot, BlockPlace, Bound, IndexRecord, Lent, LogIndex, LogSync, Op, Ops, ShownSaid, StopSign};
+use kotuseraw::plain::{self, Ballot, BlockPlace, Bound, IndexRecord, Lent, LogIndex, LogSync, Op, Ops, ShownSaid, StopSign, MOST_OPS};
+use kotuseraw::{LOG_WORDS, SNAPSHOT_WORDS};
 
 mod fields;
 mod replies;
 pub mod text;
 
 /// How many words each area has.
-pub const AREAS: [usize; 5] = [2048, 1024, 2048, 1024, 1024];
+pub const AREAS: [usize; 5] = [LOG_WORDS, SNAPSHOT_WORDS, LOG_WORDS, SNAPSHOT_WORDS, SNAPSHOT_WORDS];
 
 /// How many numbers a line has at most.
 const MOST: usize = 64;
@@ -161,9 +162,9 @@ impl Calls {
         Some(())
     }
 
-    /// The list keeps eight operations and counts a ninth.
+    /// The list keeps as many operations as it has room for, and counts one more.
     fn add(&mut self, kind: u64, index: u64, given: bool) -> Option<()> {
-        let at = Some(self.ops.count).filter(|count| *count < 9)?;
+        let at = Some(self.ops.count).filter(|count| *count <= MOST_OPS)?;
         if let Some(op) = self.ops.ops.get_mut(at) {
             *op = Op { kind, index: LogIndex(index), ballot: self.ballot, given };
         }

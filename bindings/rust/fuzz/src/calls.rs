@@ -3,7 +3,8 @@ use crate::check::{hold, Answer, Turn};
 use crate::dice::Dice;
 use crate::form;
 use crate::states::Case;
-use kotuseraw::plain::{self, BlockPlace, Bound, IndexRecord, Lent, LogSync, Ops, Reply, Said, ShownSaid};
+use kotuseraw::entry::{entries, words, ENTRIES, KEYS};
+use kotuseraw::plain::{self, BlockPlace, Bound, IndexRecord, Lent, LogSync, Ops, Reply, Said, ShownSaid, LARGEST_BATCH};
 
 /// What an accepted call may change.
 #[derive(Clone, Copy)]
@@ -108,8 +109,8 @@ fn copied(turn: &Turn, case: &Case, words: usize, due: &[u64]) -> Result<Answer,
 
 /// The words of a part of the log, none where it is not wholly in it.
 fn log_part(case: &Case, first: usize, count: usize) -> &[u64] {
-    let end = first.checked_add(count).and_then(|end| end.checked_mul(2));
-    end.and_then(|end| case.state.log.get(2 * first..end)).unwrap_or_default()
+    let end = first.checked_add(count);
+    words(end.and_then(|end| entries(&case.state.log).get(first..end)).unwrap_or_default())
 }
 
 fn sync(turn: &mut Turn, case: &Case, dice: &mut Dice, held: bool, kind: u64) -> Result<Answer, String> {
@@ -139,7 +140,7 @@ fn bounds(record: &IndexRecord, dice: &mut Dice) -> (Bound, Bound) {
 }
 
 fn fresh(turn: &mut Turn, _: &Case, dice: &mut Dice) -> Result<Answer, String> {
-    let size = if dice.one_in(4) { dice.word() } else { dice.below(66) };
+    let size = if dice.one_in(4) { dice.word() } else { dice.below(LARGEST_BATCH + 2) };
     let made = plain::fresh(size, turn.log.words_mut(), turn.snapshot.words_mut());
     let batch_size = if made.said.number == 0 { size } else { 0 };
     hold(made.index == IndexRecord { batch_size, ..IndexRecord::default() }, format_args!("the record is {:?}", made.index))?;
@@ -147,7 +148,8 @@ fn fresh(turn: &mut Turn, _: &Case, dice: &mut Dice) -> Result<Answer, String> {
         return said(made.said);
     }
     let zero = |words: &[u64]| words.iter().all(|word| *word == 0);
-    hold(size <= 64 && zero(turn.log.words()) && zero(turn.snapshot.words()), "it left a word, or a batch size above 64")?;
+    let clean = size <= LARGEST_BATCH && zero(turn.log.words()) && zero(turn.snapshot.words());
+    hold(clean, format_args!("it left a word, or a batch size above {LARGEST_BATCH}"))?;
     hold(plain::well_formed(made.index, turn.log.words(), turn.snapshot.words()), "it is not well formed")?;
     reply(turn, made)
 }
@@ -236,7 +238,7 @@ fn entries_shown(turn: &mut Turn, case: &Case, dice: &mut Dice) -> Result<Answer
 fn shown_part(record: &IndexRecord, dice: &mut Dice) -> (usize, usize) {
     let mut number = || match dice.below(3) {
         0 => dice.below((record.retained as u64).saturating_add(2).max(1)),
-        1 => dice.pick(&[0, 1, 511, 512, 1023, 1024, 1025]),
+        1 => dice.pick(&[0, 1, KEYS - 1, KEYS, ENTRIES - 1, ENTRIES, ENTRIES + 1]) as u64,
         _ => dice.word(),
     };
     (number() as usize, number() as usize)

@@ -1,6 +1,8 @@
 //! Numbers, slices and requests at random.
-use crate::form::{LARGEST, PLACES, REMOVED, SHOT_WORDS};
-use kotuseraw::plain::{Ballot, Bound, IndexRecord, LogIndex, Op, Ops, StopSign};
+use kotuseraw::entry::{place_at, words, ENTRIES, KEYS, PLACES, REMOVED, WIDTH};
+use kotuseraw::plain::{Ballot, BlockPlace, Bound, IndexRecord, LogIndex, Op, Ops, StopSign};
+use kotuseraw::plain::{LARGEST_BATCH, LARGEST_INDEX, METADATA, MOST_OPS, NODES};
+use kotuseraw::{Entry, LOG_WORDS, SNAPSHOT_WORDS};
 use std::collections::BTreeMap;
 
 /// xorshift64*
@@ -9,6 +11,17 @@ pub struct Dice {
     /// Whether keys and entries are many.
     pub wide: bool,
 }
+
+/// Where keys are many they are below this.
+const MANY_KEYS: u64 = 2000;
+const _: () = assert!(MANY_KEYS > KEYS as u64, "a snapshot is filled with them");
+
+/// Words more than any slice of the library has.
+const LONG: usize = 3000;
+const _: () = assert!(LONG > LOG_WORDS && LONG > SNAPSHOT_WORDS);
+
+/// Somewhat more than the largest batch.
+const SOME: u64 = LARGEST_BATCH + 6;
 
 /// A kind that there is not.
 const UNKNOWN: [u64; 5] = [3, 9, 255, 1 << 32, u64::MAX];
@@ -53,7 +66,7 @@ impl Dice {
     /// Any word, one at an end of what there is more often than others.
     pub fn word(&mut self) -> u64 {
         match self.below(3) {
-            0 => self.pick(&[0, 1, 2, PLACES - 1, PLACES, LARGEST, LARGEST + 1, 1 << 63, REMOVED - 1, REMOVED]),
+            0 => self.pick(&[0, 1, 2, PLACES - 1, PLACES, LARGEST_INDEX.0, LARGEST_INDEX.0 + 1, 1 << 63, REMOVED - 1, REMOVED]),
             1 => self.roll() >> self.below(64),
             _ => self.roll(),
         }
@@ -61,12 +74,12 @@ impl Dice {
 
     /// A batch size in form.
     pub fn size(&mut self) -> u64 {
-        self.pick(&[0, 0, 1, 2, 2, 3, 5, 63, 64])
+        self.pick(&[0, 0, 1, 2, 2, 3, 5, LARGEST_BATCH - 1, LARGEST_BATCH])
     }
 
     pub fn key(&mut self) -> u64 {
         match self.wide {
-            true => self.below(2000),
+            true => self.below(MANY_KEYS),
             false => self.pick(&[0, 1, 2, 3, 5, 9, 1 << 63, u64::MAX]),
         }
     }
@@ -78,7 +91,7 @@ impl Dice {
         let near = [0, record.compacted.0, record.decided.0, end, accepted, accepted.wrapping_add(record.batched as u64)];
         LogIndex(match self.below(20) {
             0 => self.word(),
-            1 => LARGEST - self.below(70),
+            1 => LARGEST_INDEX.0 - self.below(SOME),
             2..=6 => record.compacted.0.wrapping_add(self.below((record.retained as u64).saturating_add(4))),
             _ => self.pick(&near).wrapping_add(self.pick(&[0, 0, 1, u64::MAX, 2])),
         })
@@ -92,34 +105,35 @@ impl Dice {
 
     /// A stop-sign; one in eight is out of form.
     pub fn sign(&mut self) -> StopSign {
-        let mut sign = StopSign { config_id: self.word() as u32, node_count: 1 + self.below(7) as usize, ..StopSign::default() };
+        let mut sign = StopSign { config_id: self.word() as u32, node_count: 1 + self.below(NODES as u64) as usize, ..StopSign::default() };
         for node in &mut sign.nodes[..sign.node_count] {
             *node = self.word();
         }
         if self.one_in(2) {
             sign.metadata_held = true;
-            sign.metadata_len = self.below(33) as usize;
+            sign.metadata_len = self.below(METADATA as u64 + 1) as usize;
             for byte in &mut sign.metadata[..sign.metadata_len] {
                 *byte = self.roll() as u8;
             }
         }
         if self.one_in(8) {
             match self.below(5) {
-                0 => sign.node_count = self.pick(&[0, 8, usize::MAX]),
-                1 => sign.metadata_len = self.pick(&[33, usize::MAX]),
-                2 => sign.metadata[31] ^= 1,
-                3 => sign.nodes[6] ^= 1,
+                0 => sign.node_count = self.pick(&[0, NODES + 1, usize::MAX]),
+                1 => sign.metadata_len = self.pick(&[METADATA + 1, usize::MAX]),
+                2 => sign.metadata[METADATA - 1] ^= 1,
+                3 => sign.nodes[NODES - 1] ^= 1,
                 _ => sign.metadata_held = !sign.metadata_held,
             }
         }
         sign
     }
 
-    pub fn place(&mut self) -> u64 {
+    fn entry(&mut self) -> Entry {
+        let key = self.key();
         match self.below(8) {
-            0 => self.pick(&[0, PLACES - 1]),
-            1 | 2 => REMOVED,
-            _ => self.below(1000),
+            0 => Entry::put(key, BlockPlace(self.pick(&[0, PLACES - 1]))),
+            1 | 2 => Entry::removed(key),
+            _ => Entry::put(key, BlockPlace(self.below(1000))),
         }
     }
 
@@ -128,19 +142,19 @@ impl Dice {
         let n = match self.below(12) {
             0 => 0,
             1..=7 => 1 + self.below(4),
-            8..=10 => self.below(70),
-            _ if self.wide => self.below(1026),
+            8..=10 => self.below(SOME),
+            _ if self.wide => self.below(ENTRIES as u64 + 2),
             _ => self.below(20),
         };
         to.clear();
-        for _ in 0..if self.one_in(200) { 1024 + n } else { n } {
-            to.extend([self.key(), self.place()]);
+        for _ in 0..if self.one_in(200) { ENTRIES as u64 + n } else { n } {
+            to.extend(words(&[self.entry()]));
         }
         if self.one_in(30) {
             match to.len() {
                 0 => to.push(0),
                 len if self.one_in(2) => to.truncate(len - 1),
-                len => to[2 * self.below(len as u64 / 2) as usize + 1] = self.pick(&[PLACES, REMOVED - 1]),
+                len => to[place_at(self.below((len / WIDTH) as u64) as usize)] = self.pick(&[PLACES, REMOVED - 1]),
             }
         }
     }
@@ -148,26 +162,28 @@ impl Dice {
     /// The words of a snapshot, and the number of keys said of it; one in 20 is out of form.
     pub fn second(&mut self, to: &mut Vec<u64>) -> usize {
         let n = match self.wide && self.one_in(6) {
-            true => self.pick(&[500, 511, 512]),
+            true => self.pick(&[KEYS - 12, KEYS - 1, KEYS]),
             false => self.below(6) as usize,
         };
         let mut keys = BTreeMap::new();
         while keys.len() < n {
-            keys.insert(self.key(), self.place());
+            let entry = self.entry();
+            keys.insert(entry.key(), entry);
         }
         to.clear();
-        to.extend(keys.into_iter().flat_map(|(key, place)| [key, place]));
-        to.resize(SHOT_WORDS, 0);
+        to.extend(words(&keys.into_values().collect::<Vec<_>>()));
+        to.resize(SNAPSHOT_WORDS, 0);
         if !self.one_in(20) {
             return n;
         }
+        let whole = SNAPSHOT_WORDS;
         match self.below(7) {
-            0 => to.resize(self.pick(&[0, 1, 1022, 1023, 1025, 2048, 2050]), 0),
+            0 => to.resize(self.pick(&[0, 1, whole - WIDTH, whole - 1, whole + 1, LOG_WORDS, LOG_WORDS + WIDTH]), 0),
             1 if n > 0 => return n - 1,
-            2 => return self.pick(&[n + 1, 512, 513, 1 << 63, usize::MAX]),
-            3 if n > 1 => to.swap(0, 2),
-            4 => to[1] = PLACES,
-            5 => self.noise(to, SHOT_WORDS),
+            2 => return self.pick(&[n + 1, KEYS, KEYS + 1, 1 << 63, usize::MAX]),
+            3 if n > 1 => to.swap(0, WIDTH),
+            4 => to[place_at(0)] = PLACES,
+            5 => self.noise(to, whole),
             _ => *to.last_mut().unwrap() = 1,
         }
         n
@@ -175,9 +191,10 @@ impl Dice {
 
     /// An output slice with words in it; one in 20 of another length than a snapshot's.
     pub fn output(&mut self, to: &mut Vec<u64>) {
-        to.resize(SHOT_WORDS, 7);
+        let whole = SNAPSHOT_WORDS;
+        to.resize(whole, 7);
         if self.one_in(20) {
-            to.resize(self.pick(&[0, 1, 2, 1023, 1025, 2047, 2048, 2050]), 5);
+            to.resize(self.pick(&[0, 1, WIDTH, whole - 1, whole + 1, LOG_WORDS - 1, LOG_WORDS, LOG_WORDS + WIDTH]), 5);
         }
         if let Some(word) = to.first_mut() {
             *word = self.roll();
@@ -186,7 +203,7 @@ impl Dice {
 
     /// Words of any kind, one slice in two of another length.
     pub fn noise(&mut self, to: &mut Vec<u64>, len: usize) {
-        let len = if self.one_in(2) { len } else { self.pick(&[0, 1, 2, len - 1, len + 1, len + 2, 3000]) };
+        let len = if self.one_in(2) { len } else { self.pick(&[0, 1, WIDTH, len - 1, len + 1, len + WIDTH, LONG]) };
         let used = if self.one_in(2) { len } else { len.min(self.below(12) as usize) };
         let few = self.one_in(2);
         to.clear();
@@ -213,7 +230,7 @@ impl Dice {
 
     /// An operation list. A trim and the compacted index mostly come together, as a list that stands needs them.
     pub fn ops(&mut self, record: &IndexRecord) -> Ops {
-        let mut list = Ops { count: self.pick(&[1, 1, 1, 2, 2, 3, 4, 8]), ..Ops::default() };
+        let mut list = Ops { count: self.pick(&[1, 1, 1, 2, 2, 3, 4, MOST_OPS]), ..Ops::default() };
         for at in 0..list.ops.len() {
             list.ops[at] = self.op(record);
             let before = list.ops[at.saturating_sub(1)];
@@ -227,7 +244,7 @@ impl Dice {
             }
         }
         if self.one_in(20) {
-            list.count = self.pick(&[0, 9, 10, 1 << 63, usize::MAX]);
+            list.count = self.pick(&[0, MOST_OPS + 1, MOST_OPS + 2, 1 << 63, usize::MAX]);
         }
         list
     }

@@ -1,12 +1,9 @@
-//! Document 01's forms, read once more: from its text, not from the library. Sums are made of wide numbers, so none wraps.
+//! Document 01's forms, read once more: from its text, not from the library. The limits, and how entries lie in words, are the crate's.
+//! Sums are made of wide numbers, so none wraps.
 use crate::states::State;
-use kotuseraw::plain::{IndexRecord, StopSign};
-
-pub const LOG_WORDS: usize = 2048;
-pub const SHOT_WORDS: usize = 1024;
-pub const REMOVED: u64 = u64::MAX;
-pub const PLACES: u64 = 1 << 48;
-pub const LARGEST: u64 = 4_294_967_295;
+use kotuseraw::entry::{entries, words, PLACES, REMOVED, WIDTH};
+use kotuseraw::plain::{IndexRecord, StopSign, LARGEST_BATCH, LARGEST_INDEX};
+use kotuseraw::{Entry, LOG_WORDS, SNAPSHOT_WORDS};
 
 fn zero(words: &[u64]) -> bool {
     words.iter().all(|word| *word == 0)
@@ -16,20 +13,24 @@ pub fn place_formed(word: u64) -> bool {
     word < PLACES || word == REMOVED
 }
 
-pub fn entries_formed(words: &[u64]) -> bool {
-    words.len() % 2 == 0 && words.chunks(2).all(|entry| place_formed(entry[1]))
+fn formed(entry: &Entry) -> bool {
+    entry.place().map_or(true, |place| place.0 < PLACES)
+}
+
+pub fn entries_formed(slice: &[u64]) -> bool {
+    slice.len() % WIDTH == 0 && entries(slice).iter().all(formed)
 }
 
 /// So many entries in form, and zeros after them.
-fn held_formed(words: &[u64], entries: u128) -> bool {
-    let used = 2 * entries;
-    used <= words.len() as u128 && entries_formed(&words[..used as usize]) && zero(&words[used as usize..])
+fn held_formed(slice: &[u64], n: u128) -> bool {
+    let held = usize::try_from(n).ok().and_then(|n| entries(slice).get(..n));
+    held.is_some_and(|held| held.iter().all(formed) && zero(&slice[words(held).len()..]))
 }
 
-pub fn snapshot_formed(words: &[u64], keys: usize) -> bool {
-    words.len() == SHOT_WORDS
-        && held_formed(words, keys as u128)
-        && words[..2 * keys].chunks(2).zip(words[..2 * keys].chunks(2).skip(1)).all(|(key, next)| key[0] < next[0])
+pub fn snapshot_formed(slice: &[u64], keys: usize) -> bool {
+    slice.len() == SNAPSHOT_WORDS
+        && held_formed(slice, keys as u128)
+        && entries(slice)[..keys].windows(2).all(|pair| pair[0].key() < pair[1].key())
 }
 
 pub fn sign_formed(sign: &StopSign) -> bool {
@@ -45,11 +46,11 @@ fn numbers_formed(record: &IndexRecord) -> bool {
     let accepted = end + record.stop_held as u128;
     let log_decided = if record.stop_held && decided == accepted { decided - 1 } else { decided };
     let batch = batched == 0 || (batched < record.batch_size as u128 && !record.stop_held);
-    record.batch_size <= 64
+    record.batch_size <= LARGEST_BATCH
         && compacted <= log_decided
         && log_decided <= end
         && decided <= accepted
-        && accepted + batched <= LARGEST as u128
+        && accepted + batched <= LARGEST_INDEX.0 as u128
         && batch
 }
 
@@ -57,7 +58,7 @@ pub fn well_formed(state: &State) -> bool {
     let record = &state.record;
     let shot = match record.snapshot_held {
         true => snapshot_formed(&state.snapshot, record.keys),
-        false => state.snapshot.len() == SHOT_WORDS && record.keys == 0 && zero(&state.snapshot),
+        false => state.snapshot.len() == SNAPSHOT_WORDS && record.keys == 0 && zero(&state.snapshot),
     };
     let stop = match record.stop_held {
         true => sign_formed(&record.stop),

@@ -1,7 +1,8 @@
 //! What is lent to a call: a state, and the slices beside it.
 use crate::dice::Dice;
-use crate::form::{LARGEST, LOG_WORDS, PLACES, REMOVED, SHOT_WORDS};
-use kotuseraw::plain::{Ballot, IndexRecord, LogIndex, StopSign};
+use kotuseraw::entry::{ENTRIES, KEYS, PLACES, REMOVED, WIDTH};
+use kotuseraw::plain::{Ballot, IndexRecord, LogIndex, StopSign, LARGEST_BATCH, LARGEST_INDEX, METADATA, NODES};
+use kotuseraw::{LOG_WORDS, SNAPSHOT_WORDS};
 use std::fmt;
 
 /// A record and the words of a log and a snapshot, as many as are lent.
@@ -25,7 +26,7 @@ pub struct Case {
 impl State {
     pub fn fresh(batch_size: u64) -> Self {
         let record = IndexRecord { batch_size, ..IndexRecord::default() };
-        State { record, log: vec![0; LOG_WORDS], snapshot: vec![0; SHOT_WORDS] }
+        State { record, log: vec![0; LOG_WORDS], snapshot: vec![0; SNAPSHOT_WORDS] }
     }
 
     pub fn copy(&mut self, other: &State) {
@@ -38,8 +39,8 @@ impl State {
     fn break_some(&mut self, dice: &mut Dice) {
         for _ in 0..1 + dice.below(3) {
             match dice.below(6) {
-                0 => break_words(&mut self.log, 2 * self.record.retained.saturating_add(self.record.batched).min(LOG_WORDS), dice),
-                1 => break_words(&mut self.snapshot, 2 * self.record.keys.min(SHOT_WORDS), dice),
+                0 => break_words(&mut self.log, WIDTH * self.record.retained.saturating_add(self.record.batched).min(LOG_WORDS), dice),
+                1 => break_words(&mut self.snapshot, WIDTH * self.record.keys.min(SNAPSHOT_WORDS), dice),
                 2 if dice.one_in(3) => break_length(&mut self.log, dice),
                 2 if dice.one_in(2) => break_length(&mut self.snapshot, dice),
                 _ => break_record(&mut self.record, dice),
@@ -66,17 +67,30 @@ impl State {
         self.record.stop_held = dice.one_in(2);
         self.record.stop = dice.sign();
         dice.noise(&mut self.log, LOG_WORDS);
-        dice.noise(&mut self.snapshot, SHOT_WORDS);
+        dice.noise(&mut self.snapshot, SNAPSHOT_WORDS);
     }
 }
 
 /// Another number in place of one.
 fn other(n: u64, dice: &mut Dice) -> u64 {
+    const EDGES: [u64; 11] = [
+        0,
+        1,
+        LARGEST_BATCH,
+        LARGEST_BATCH + 1,
+        KEYS as u64,
+        KEYS as u64 + 1,
+        ENTRIES as u64,
+        ENTRIES as u64 + 1,
+        LARGEST_INDEX.0,
+        LARGEST_INDEX.0 + 1,
+        u64::MAX,
+    ];
     match dice.below(4) {
         0 => n ^ 1 << dice.below(64),
         1 => n.wrapping_add(1),
         2 => n.wrapping_sub(1),
-        _ => dice.pick(&[0, 1, 64, 65, 512, 513, 1024, 1025, LARGEST, LARGEST + 1, REMOVED]),
+        _ => dice.pick(&EDGES),
     }
 }
 
@@ -85,7 +99,7 @@ fn break_words(words: &mut [u64], used: usize, dice: &mut Dice) {
     if words.is_empty() {
         return;
     }
-    let near = dice.pick(&[0, 1, 2, used.saturating_sub(2), used.saturating_sub(1), used, used + 1, words.len() - 1]);
+    let near = dice.pick(&[0, 1, WIDTH, used.saturating_sub(WIDTH), used.saturating_sub(1), used, used + 1, words.len() - 1]);
     let at = if dice.one_in(2) { near.min(words.len() - 1) } else { dice.below(words.len() as u64) as usize };
     words[at] = match dice.below(3) {
         0 => words[at] ^ 1 << dice.below(64),
@@ -95,17 +109,17 @@ fn break_words(words: &mut [u64], used: usize, dice: &mut Dice) {
 
 fn break_length(words: &mut Vec<u64>, dice: &mut Dice) {
     let len = words.len();
-    words.resize(dice.pick(&[0, 1, 2, len - len.min(2), len - len.min(1), len + 1, len + 2, 2 * len]), 0);
+    words.resize(dice.pick(&[0, 1, WIDTH, len - len.min(WIDTH), len - len.min(1), len + 1, len + WIDTH, 2 * len]), 0);
 }
 
 fn break_sign(sign: &mut StopSign, dice: &mut Dice) {
     match dice.below(6) {
         0 => sign.config_id ^= 1 << dice.below(32),
         1 => sign.node_count = other(sign.node_count as u64, dice) as usize,
-        2 => sign.nodes[dice.below(7) as usize] ^= 1 << dice.below(64),
+        2 => sign.nodes[dice.below(NODES as u64) as usize] ^= 1 << dice.below(64),
         3 => sign.metadata_held = !sign.metadata_held,
         4 => sign.metadata_len = other(sign.metadata_len as u64, dice) as usize,
-        _ => sign.metadata[dice.below(32) as usize] ^= 1 << dice.below(8),
+        _ => sign.metadata[dice.below(METADATA as u64) as usize] ^= 1 << dice.below(8),
     }
 }
 

@@ -1,16 +1,16 @@
 -- What is judged after the last operation: refusal 9, then 12. In the midst of a list the words are always in form, so the state is
 -- well formed exactly if its log is.
-use Prim.Native.Nat.{ℕ, _+_, _≤_, _<_}
+use Prim.Native.Nat.{ℕ, _+_}
 use mathlib.Core.Path.{_≡_, refl, sym, ap, _∙_}
 use mathlib.Core.Bool.{Bool, true, false, _&&_, not, and-true}
 use mathlib.Core.List.{List}
 use native.Mathlib.Omega.{arith}
-use borrow.Author.Tests.{lt-ltb, ltb-false, eq-eqb, not-false}
+use borrow.Author.Tests.{ltb-false, eq-eqb, not-false}
 use lib.Dec.{ltb, eqb}
 use lib.ListN.{length}
 use Rattle.words.proofs.Tests.{and-left, and-right, both-true}
 use Rattle.words.proofs.CodedLaws.{entries-length}
-use Rattle.entry.specs.Limits.{lastIndex, entryRoom, logWords, snapshotWords}
+use Rattle.entry.specs.Limits.{lastIndex, logWords, snapshotWords}
 use Rattle.entry.specs.Change.{Change, changeCode, entriesOf, storedIn, Laid}
 use Rattle.entry.specs.Guards.{Guard, Verdict, passes, refuses, first, Answer, refused, replied, settle}
 use Rattle.entry.proofs.GuardLaws.{Finds, clear-all, passing, stopping, found, passed}

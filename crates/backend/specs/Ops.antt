@@ -1,17 +1,14 @@
 -- The request of an operation list, read off its arguments.
-use Prim.Native.Nat.{ℕ, _+_}
-use mathlib.Core.Bool.{Bool, false, _&&_, _||_, not}
-use mathlib.Core.List.{List, [], _∷_, map}
+use Prim.Native.Nat.{ℕ}
+use mathlib.Core.Bool.{Bool, _&&_, _||_, not}
+use mathlib.Core.List.{List, map}
 use mathlib.Core.Option.{none, some}
-use lib.Dec.{ltb, leb, eqb}
-use lib.ListN.{length, take, set, replicate}
+use lib.Dec.{leb, eqb}
+use lib.ListN.{length, take}
 use Rattle.words.specs.If.{if_then_else_}
 use Rattle.entry.specs.Limits.{snapshotWords, mostOps}
 use Rattle.entry.specs.Change.{entriesOf, entriesIn, wholeIn}
-use Rattle.entry.specs.Sign.{noSign}
-use Rattle.entry.specs.declared.StopSign.{StopSign}
 use Rattle.snapshot.specs.Calls.{snapshotFormed}
-use Rattle.model.specs.Log.{noBallot}
 use Rattle.model.specs.Backend.{Op, appendEntries, appendOnPrefix, setDecided, setCompacted, trim, setPromise, setRound}
 use Rattle.model.specs.Backend.{setSign, setSnapshot, Lent}
 use Rattle.backend.specs.declared.Op.{Op as CodeOp}

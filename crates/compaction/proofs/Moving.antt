@@ -1,12 +1,11 @@
 -- A trim or a snapshot of a lent state: refusal 2, where it ends, and the run's start moved up there, the model's `movedTo`.
-use Prim.Native.Nat.{ℕ, _+_, _-_, _≤_, _<_}
+use Prim.Native.Nat.{ℕ, _+_, _-_, _≤_}
 use mathlib.Core.Path.{_≡_, refl, sym, ap, _∙_}
 use mathlib.Core.Bool.{Bool, true, false}
 use mathlib.Core.List.{List, [], _∷_, _++_}
 use mathlib.Core.Option.{Option, some}
 use native.Mathlib.Omega.{arith}
 use borrow.Author.Tests.{lt-ltb, le-ltb}
-use lib.Dec.{ltb}
 use lib.ListN.{length, length-drop}
 use Rattle.words.specs.Coded.{wordsOf}
 use Rattle.words.proofs.CodedLaws.{spliced-trim}

@@ -1,15 +1,13 @@
 -- A snapshot taken of a lent state: refusals 2 and 8, or the fold held and the run's start moved up.
-use Prim.Native.Nat.{ℕ, _+_, _-_}
+use Prim.Native.Nat.{ℕ, _-_}
 use mathlib.Core.Path.{_≡_, refl, sym, ap, _∙_}
 use mathlib.Core.Bool.{Bool, true}
 use mathlib.Core.List.{List, [], _∷_}
 use mathlib.Core.Option.{Option, some}
-use lib.ListN.{length}
 use Rattle.words.specs.If.{if_then_else_}
 use Rattle.words.specs.Coded.{entriesAt}
-use Rattle.entry.specs.Limits.{snapshotWords}
-use Rattle.entry.specs.Change.{Change, entriesOf, stored}
-use Rattle.entry.specs.Guards.{Guard, passes, refuses, first, replied, refusedBy}
+use Rattle.entry.specs.Change.{Change, entriesOf}
+use Rattle.entry.specs.Guards.{passes, first, replied, refusedBy}
 use Rattle.entry.specs.Refusals.{numberOf, carriedOf}
 use Rattle.entry.specs.declared.Refusal.{Refusal}
 use Rattle.snapshot.specs.Folds.{foldOnto}
@@ -28,7 +26,7 @@ use Rattle.state_cache.specs.declared.Settled.{Settled}
 use Rattle.state_cache.specs.declared.Settled.the-variants.{Done, Refused as SettledRefused}
 use Rattle.state_cache.proofs.Stands.{Stands}
 use Rattle.state_cache.proofs.Runs.{call-refused, call-stands}
-use Rattle.compaction.specs.Inner.{pastVerdict, Stay, Up, Moved}
+use Rattle.compaction.specs.Inner.{Stay, Up, Moved}
 use Rattle.compaction.proofs.Moving.{past-stops, past-goes-on, not-past, unmoved-stands, in-run, ends-at, is-past, moved-stands}
 use Rattle.compaction.proofs.Folding.{fold-is}
 

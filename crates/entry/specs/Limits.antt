@@ -29,7 +29,7 @@ mostNodes = 7
 abbrev pub mostMetadata : ℕ
 mostMetadata = 32
 
--- operations of a list
+-- operations of a list; its constant is in `backend`
 abbrev pub mostOps : ℕ
 mostOps = 8
 

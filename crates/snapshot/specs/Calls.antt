@@ -8,7 +8,7 @@ use lib.Dec.{ltb, eqb}
 use lib.ListN.{length}
 use Rattle.entry.specs.Limits.{keyRoom, snapshotWords}
 use Rattle.entry.specs.Change.{Change, entriesOf, entriesIn, sliceFormed, stored, storedIn}
-use Rattle.entry.specs.Guards.{Guard, guard, Verdict, passes, refuses, first, Answer, refused, replied, refusedBy}
+use Rattle.entry.specs.Guards.{Guard, guard, Verdict, first, Answer, refused, replied, refusedBy}
 use Rattle.entry.specs.Guards.{settle}
 use Rattle.snapshot.specs.Folds.{fold, merge, rising, find, placeOf}
 use Rattle.snapshot.specs.declared.Folded.{Folded}

@@ -1,5 +1,4 @@
 -- `compaction::inner::snapshot_at` meets its contract: by what becomes of the run's start, and by what the fold came to.
-use Prim.Native.Nat.{_≤_}
 use mathlib.Core.Path.{refl}
 use denote.Ref.{now}
 use native.Mathlib.Omega.{arith}

@@ -1,10 +1,6 @@
-use mathlib.Core.Path.{sym, ap, _∙_}
 use Prim.Native.Nat.{ℕ}
 use mathlib.Core.List.{List}
 use Rattle.words.proofs.CodedLaws.{entries-length}
-use Rattle.entry.specs.Change.{changeCode}
-use Rattle.diff.specs.Replies.{diffSaid}
-use Rattle.host.specs.Plain.{plain, aDiff}
 use borrow.Author.Needs.{needs}
 use Rattle.host.proofs.answers.diff_said.Statement.{statement}
 use Rattle.host.proofs.answers.diff_said.Tie as tie

@@ -1,4 +1,4 @@
-use mathlib.Core.Path.{_≡_, ap, _∙_}
+use mathlib.Core.Path.{ap, _∙_}
 use mathlib.Core.List.{List, map}
 use Prim.Native.Nat.{ℕ}
 use lib.ListN.{take}
@@ -10,7 +10,7 @@ use Rattle.backend.specs.Ops.{opOf, lentOf, wholeLent}
 use Rattle.backend.specs.declared.Op.{Op}
 use Rattle.host.proofs.Carry.{carry}
 use Rattle.host.specs.Plain.{nothing}
-use Rattle.host.specs.Requests.{countAt, nineAt}
+use Rattle.host.specs.Requests.{countAt}
 use borrow.Author.Needs.{needs}
 use Rattle.host.proofs.lists.kotuseraw_write_atomically.Statement.{statement}
 use Rattle.host.proofs.lists.kotuseraw_write_atomically.Tie as tie

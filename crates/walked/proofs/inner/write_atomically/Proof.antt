@@ -47,7 +47,7 @@ use lib.Seq.{length-take-le}
 use lib.Dec.{lit<}
 use mir.Syntax.{named, w64, tyArray}
 use mir.Val.{Val, vint}
-use base.Logic.{SProp, ent, sep, emp, via, fst∗, id⊢}
+use base.Logic.{SProp, ent, sep, via, id⊢}
 use base.Fml.{GName, Lft, Share, Fml, ftrue, fat, fsep, flft, flent}
 use types.Kit.{Given, ‵, raw, _⊛_, some, later, ⋆, _$_, _∵_, !, qed, by, move, keep, drop, use1, use2, split, join, pick, rewrite, fpick, fpack, fsplit, fjoin, feqI, feqL, suffices, frame, await, done}
 use types.Tokens.{lft-new, lft-end, lent-back}

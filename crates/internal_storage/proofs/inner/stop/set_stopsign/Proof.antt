@@ -1,5 +1,5 @@
 -- `internal_storage::inner::stop::set_stopsign` meets its contract: refusal 11, then by the numbers.
-use mathlib.Core.Path.{_≡_, sym, ap, _∙_}
+use mathlib.Core.Path.{sym, ap, _∙_}
 use mathlib.Core.Bool.{Bool, _&&_, not}
 use denote.Ref.{now}
 use Rattle.state_cache.specs.State.{Raw, raw}

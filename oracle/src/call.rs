@@ -1,7 +1,7 @@
 //! A call with its arguments, in form or not, and the lines that ask it.
 use crate::ballot_leader_election::Ballot;
 use crate::lines::lend;
-use crate::state::{Shot, Sign};
+use crate::state::{LentSnapshot, Sign};
 use std::ops::Bound;
 
 #[derive(Clone, Copy, Debug, PartialEq)]
@@ -17,7 +17,7 @@ pub struct Part {
     pub held: bool,
     pub idx: u64,
     pub kind: Kind,
-    pub shot: Shot,
+    pub snapshot: LentSnapshot,
     pub suffix: Vec<u64>,
     pub stop: Option<Sign>,
 }
@@ -56,13 +56,13 @@ pub struct Op {
     pub ballot: Ballot,
 }
 
-/// An operation list with what is lent beside it. `shot_lent` and `stop` say whether a snapshot and a stop-sign are.
+/// An operation list with what is lent beside it. `snapshot_lent` and `stop` say whether a snapshot and a stop-sign are.
 #[derive(Clone, Debug)]
 pub struct List {
     pub ops: Vec<Op>,
     pub entries: Vec<u64>,
-    pub shot_lent: bool,
-    pub shot: Shot,
+    pub snapshot_lent: bool,
+    pub snapshot: LentSnapshot,
     pub stop: Option<Sign>,
 }
 
@@ -106,9 +106,9 @@ pub enum Call {
     Write(Form, List),
     Fold(Vec<u64>, usize),
     /// Of the held snapshot, with so many keys, and another.
-    Merge(u64, Shot, usize),
-    Find(Shot, u64),
-    ShotFormed(Shot),
+    Merge(u64, LentSnapshot, usize),
+    Find(LentSnapshot, u64),
+    SnapshotFormed(LentSnapshot),
     EntriesFormed(Vec<u64>),
     PlaceFormed(u64),
     SignFormed(Sign),
@@ -131,17 +131,17 @@ fn bound_numbers(b: &Bound<u64>) -> [u64; 2] {
 }
 
 /// Of a snapshot that is not looked at only the length is lent.
-fn lend_shot(shot: &Shot, looked_at: bool) -> Vec<Vec<u64>> {
+fn lend_snapshot(snapshot: &LentSnapshot, looked_at: bool) -> Vec<Vec<u64>> {
     if looked_at {
-        return lend(3, &shot.words);
+        return lend(3, &snapshot.words);
     }
-    vec![vec![3, 3, shot.words.len() as u64]]
+    vec![vec![3, 3, snapshot.words.len() as u64]]
 }
 
 impl List {
     fn lines(&self) -> Vec<Vec<u64>> {
         let mut lines = lend(2, &self.entries);
-        lines.extend(lend_shot(&self.shot, self.shot_lent));
+        lines.extend(lend_snapshot(&self.snapshot, self.snapshot_lent));
         lines.extend(self.stop.iter().flat_map(Sign::lines));
         lines.push(vec![8]);
         for op in &self.ops {
@@ -196,7 +196,7 @@ impl Call {
             Call::Fold(..) => "snapshot::fold",
             Call::Merge(..) => "snapshot::merge",
             Call::Find(..) => "snapshot::find",
-            Call::ShotFormed(_) => "snapshot::snapshot_formed",
+            Call::SnapshotFormed(_) => "snapshot::snapshot_formed",
             Call::EntriesFormed(_) => "entry::entries_formed",
             Call::PlaceFormed(_) => "entry::place_formed",
             Call::SignFormed(_) => "entry::sign_formed",
@@ -329,33 +329,33 @@ impl Call {
             Call::Sync(b, d, p) => {
                 lines.push(ballot_line(b));
                 lines.extend(lend(2, &p.suffix));
-                lines.extend(lend_shot(&p.shot, p.held && p.kind != Kind::Plain));
+                lines.extend(lend_snapshot(&p.snapshot, p.held && p.kind != Kind::Plain));
                 lines.extend(p.stop.iter().flat_map(Sign::lines));
-                let (kind, keys, stop) = (p.kind as u64, p.shot.keys, p.stop.is_some() as u64);
+                let (kind, keys, stop) = (p.kind as u64, p.snapshot.keys, p.stop.is_some() as u64);
                 vec![45, p.held as u64, *d, p.idx, kind, keys, stop]
             }
             Call::Write(form, list) => {
                 lines = list.lines();
-                let (shot, stop) = (list.shot_lent as u64, list.stop.is_some() as u64);
-                vec![[46, 47][*form as usize], shot, list.shot.keys, stop]
+                let (snapshot, stop) = (list.snapshot_lent as u64, list.stop.is_some() as u64);
+                vec![[46, 47][*form as usize], snapshot, list.snapshot.keys, stop]
             }
             Call::Fold(es, out) => {
                 lines = lend(2, es);
                 lines.push(vec![3, 4, *out as u64]);
                 vec![50]
             }
-            Call::Merge(n, shot, out) => {
-                lines = lend(3, &shot.words);
+            Call::Merge(n, snapshot, out) => {
+                lines = lend(3, &snapshot.words);
                 lines.push(vec![3, 4, *out as u64]);
-                vec![51, *n, shot.keys]
+                vec![51, *n, snapshot.keys]
             }
-            Call::Find(shot, key) => {
-                lines = lend(3, &shot.words);
-                vec![52, shot.keys, *key]
+            Call::Find(snapshot, key) => {
+                lines = lend(3, &snapshot.words);
+                vec![52, snapshot.keys, *key]
             }
-            Call::ShotFormed(shot) => {
-                lines = lend(3, &shot.words);
-                vec![53, shot.keys]
+            Call::SnapshotFormed(snapshot) => {
+                lines = lend(3, &snapshot.words);
+                vec![53, snapshot.keys]
             }
             Call::EntriesFormed(es) => {
                 lines = lend(2, es);

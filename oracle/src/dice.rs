@@ -2,9 +2,9 @@
 use crate::backend::{Change, Keys};
 use crate::ballot_leader_election::Ballot;
 use crate::call::{Call, Form, Kind, List, Op, OpKind, Part, OP_KINDS};
-use crate::entry::{at, count, place_at, words, LOG_WORDS, REMOVED, SHOT_WORDS};
+use crate::entry::{at, count, place_at, words, LOG_WORDS, REMOVED, SNAPSHOT_WORDS};
 use crate::limits::{ENTRIES, KEYS, LARGEST, LARGEST_BATCH, METADATA, MOST_OPS, NODES, PLACES};
-use crate::state::{largest, Shot, Sign, State};
+use crate::state::{largest, LentSnapshot, Sign, State};
 use std::ops::Bound;
 
 /// Where keys are many they are below this.
@@ -120,23 +120,23 @@ impl Dice {
     }
 
     /// A snapshot; one in 30 is out of form.
-    fn shot(&mut self, wide: bool) -> Shot {
+    fn snapshot(&mut self, wide: bool) -> LentSnapshot {
         let n = if wide && self.one_in(3) {
             KEYS - 7 + self.below(8)
         } else {
             self.below(6)
         };
-        let mut shot = Shot::of(&self.keys(n, wide));
+        let mut snapshot = LentSnapshot::of(&self.keys(n, wide));
         if self.one_in(30) {
             match self.below(5) {
-                0 => shot.words.truncate(at(KEYS - 1)),
-                1 => shot.keys = self.pick(&[n + 1, KEYS + 1, u64::MAX]),
-                2 if n > 0 => shot.keys -= 1,
-                3 if n > 1 => shot.words.swap(at(0), at(1)),
-                _ => shot.words[SHOT_WORDS - 1] = 1,
+                0 => snapshot.words.truncate(at(KEYS - 1)),
+                1 => snapshot.keys = self.pick(&[n + 1, KEYS + 1, u64::MAX]),
+                2 if n > 0 => snapshot.keys -= 1,
+                3 if n > 1 => snapshot.words.swap(at(0), at(1)),
+                _ => snapshot.words[SNAPSHOT_WORDS - 1] = 1,
             }
         }
-        shot
+        snapshot
     }
 
     /// A stop-sign; one in 12 is out of form.
@@ -179,9 +179,9 @@ impl Dice {
     /// How many words of the output area are lent.
     fn output(&mut self) -> usize {
         if self.one_in(40) {
-            self.pick(&[0, SHOT_WORDS - 1])
+            self.pick(&[0, SNAPSHOT_WORDS - 1])
         } else {
-            SHOT_WORDS
+            SNAPSHOT_WORDS
         }
     }
 
@@ -210,7 +210,7 @@ impl Dice {
             held: !self.one_in(4),
             idx: self.index(s),
             kind: self.pick(&[Kind::Plain, Kind::Plain, Kind::Complete, Kind::Delta]),
-            shot: self.shot(wide),
+            snapshot: self.snapshot(wide),
             suffix: self.entries(wide),
             stop: self.one_in(6).then(|| self.sign()),
         };
@@ -246,8 +246,8 @@ impl Dice {
         List {
             ops,
             entries: self.entries(wide),
-            shot_lent: self.one_in(2),
-            shot: self.shot(wide),
+            snapshot_lent: self.one_in(2),
+            snapshot: self.snapshot(wide),
             stop: self.one_in(2).then(|| self.sign()),
         }
     }
@@ -259,10 +259,10 @@ impl Dice {
             0..=2 => Call::Fold(self.entries(wide), self.output()),
             3..=5 => {
                 let keys = self.pick(&[s.keys, s.keys, s.keys, s.keys + 1]);
-                Call::Merge(keys, self.shot(wide), self.output())
+                Call::Merge(keys, self.snapshot(wide), self.output())
             }
-            6 => Call::Find(self.shot(wide), self.key(wide)),
-            7 => Call::ShotFormed(self.shot(wide)),
+            6 => Call::Find(self.snapshot(wide), self.key(wide)),
+            7 => Call::SnapshotFormed(self.snapshot(wide)),
             8 => Call::EntriesFormed(self.entries(wide)),
             9 => Call::PlaceFormed(self.pick(&[0, PLACES - 1, PLACES, REMOVED - 1, REMOVED])),
             10 => Call::SignFormed(self.sign()),
@@ -357,7 +357,7 @@ impl Dice {
                 } else {
                     self.below(6)
                 };
-                s = s.with_shot(&self.keys(n, wide));
+                s = s.with_snapshot(&self.keys(n, wide));
             }
             if self.one_in(3) {
                 s = s.with_stop(self.sign());
@@ -379,7 +379,7 @@ impl Dice {
                 vec![2, 0, at.min(last) as u64, word]
             }
             1 => {
-                let (used, last) = (at(s.keys), SHOT_WORDS - 1);
+                let (used, last) = (at(s.keys), SNAPSHOT_WORDS - 1);
                 let at = self.pick(&[at(0), place_at(0), at(1), place_at(1), used, last]);
                 let word = self.pick(&[0, 1, PLACES, REMOVED]);
                 vec![2, 1, at.min(last) as u64, word]
@@ -387,7 +387,7 @@ impl Dice {
             2 if self.one_in(4) => self.pick(&[
                 vec![3, 0, LOG_WORDS as u64 - 1],
                 vec![3, 0, 0],
-                vec![3, 1, SHOT_WORDS as u64 - 1],
+                vec![3, 1, SNAPSHOT_WORDS as u64 - 1],
                 vec![3, 1, at(1) as u64],
             ]),
             _ => {

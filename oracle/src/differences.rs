@@ -2,9 +2,9 @@
 use crate::backend::{Change, Shared};
 use crate::ballot_leader_election::Ballot;
 use crate::call::{Call, Form, Kind, Part};
-use crate::entry::{words, SHOT_WORDS};
+use crate::entry::{words, SNAPSHOT_WORDS};
 use crate::runner::Runner;
-use crate::state::{Shot, Sign, State};
+use crate::state::{LentSnapshot, Sign, State};
 use crate::storage::internal_storage::{InternalStorage, InternalStorageConfig};
 use crate::storage::SnapshotType;
 use crate::util::LogSync;
@@ -34,7 +34,7 @@ fn delta(idx: u64) -> Call {
         held: true,
         idx,
         kind: Kind::Delta,
-        shot: Shot::of(&[]),
+        snapshot: LentSnapshot::of(&[]),
         suffix: vec![],
         stop: None,
     };
@@ -88,7 +88,7 @@ fn cases() -> Vec<Case> {
                 append(1),
                 Call::AppendStop(sign),
                 decide(2),
-                Call::Create(2, SHOT_WORDS),
+                Call::Create(2, SNAPSHOT_WORDS),
             ],
             rust: |s| {
                 rust_append(s, 1);

@@ -3,10 +3,10 @@
 use crate::backend::Change;
 use crate::ballot_leader_election::Ballot;
 use crate::call::{Call, Form, Kind, List, Op, OpKind, Part};
-use crate::entry::{at, place_at, words, LOG_WORDS, REMOVED, SHOT_WORDS};
+use crate::entry::{at, place_at, words, LOG_WORDS, REMOVED, SNAPSHOT_WORDS};
 use crate::limits::{ENTRIES, KEYS, LARGEST, LARGEST_BATCH, METADATA, MOST_OPS, NODES, PLACES};
 use crate::runner::Runner;
-use crate::state::{largest, Shot, Sign, State};
+use crate::state::{largest, LentSnapshot, Sign, State};
 use std::collections::BTreeSet;
 use std::ops::Bound;
 
@@ -34,7 +34,7 @@ fn entries(n: u64, keys: u64) -> Vec<Change> {
 }
 
 /// A snapshot of so many keys from one on.
-fn shot(from: u64, n: u64) -> Vec<Change> {
+fn snapshot(from: u64, n: u64) -> Vec<Change> {
     (from..from + n)
         .map(|key| Change {
             key,
@@ -68,7 +68,7 @@ fn few() -> Vec<State> {
                         let mut s = State::fresh(size).with_entries(&all, retained as usize);
                         s.compacted = compacted;
                         if held > 0 {
-                            s = s.with_shot(&shot(0, held - 1));
+                            s = s.with_snapshot(&snapshot(0, held - 1));
                         }
                         if stop {
                             s = s.with_stop(sign());
@@ -116,7 +116,7 @@ fn full() -> Vec<State> {
                 states.push(held.clone());
                 if decided == retained || decided == 1 {
                     for (from, n) in [(0, KEYS - 1), (0, KEYS), (1000, KEYS - 1), (1000, KEYS)] {
-                        held = held.with_shot(&shot(from, n));
+                        held = held.with_snapshot(&snapshot(from, n));
                         states.push(held.clone());
                     }
                 }
@@ -139,8 +139,8 @@ fn lists(s: &State, near: &[u64]) -> Vec<Call> {
             })
             .collect(),
         entries: words(&entries(2, 2)),
-        shot_lent: true,
-        shot: Shot::of(&shot(0, 1)),
+        snapshot_lent: true,
+        snapshot: LentSnapshot::of(&snapshot(0, 1)),
         stop: Some(sign()),
     };
     let mut lists = vec![
@@ -195,7 +195,7 @@ fn syncs(s: &State, near: &[u64]) -> Vec<Call> {
                     held: true,
                     idx: *idx,
                     kind,
-                    shot: Shot::of(&shot(0, 1)),
+                    snapshot: LentSnapshot::of(&snapshot(0, 1)),
                     suffix: words(&entries(suffix, 1)),
                     stop,
                 };
@@ -218,8 +218,8 @@ fn indexed(near: &[u64]) -> Vec<Call> {
             Call::Trim(Form::Covered, *i),
             Call::Trim(Form::ByHand, *i),
             Call::Snapshot(Some(*i)),
-            Call::Create(*i, SHOT_WORDS),
-            Call::Diff(*i, SHOT_WORDS),
+            Call::Create(*i, SNAPSHOT_WORDS),
+            Call::Diff(*i, SNAPSHOT_WORDS),
             Call::ReadDecided(*i),
             Call::Suffix(*i),
         ]);
@@ -242,7 +242,7 @@ fn one_of_each(s: &State) -> Vec<Call> {
         held,
         idx: s.decided,
         kind,
-        shot: Shot::of(&shot(0, 2)),
+        snapshot: LentSnapshot::of(&snapshot(0, 2)),
         suffix: vec![],
         stop: None,
     };
@@ -254,8 +254,8 @@ fn one_of_each(s: &State) -> Vec<Call> {
             ballot: round(),
         }],
         entries: vec![],
-        shot_lent: false,
-        shot: Shot::of(&[]),
+        snapshot_lent: false,
+        snapshot: LentSnapshot::of(&[]),
         stop: None,
     };
     vec![
@@ -284,8 +284,8 @@ fn one_of_each(s: &State) -> Vec<Call> {
         Call::Trim(Form::Covered, s.decided),
         Call::Trim(Form::ByHand, s.decided),
         Call::Snapshot(None),
-        Call::Create(s.decided, SHOT_WORDS),
-        Call::Diff(0, SHOT_WORDS),
+        Call::Create(s.decided, SNAPSHOT_WORDS),
+        Call::Diff(0, SNAPSHOT_WORDS),
         Call::Sync(round(), s.decided, part(false, Kind::Plain)),
         Call::Sync(round(), s.decided, part(true, Kind::Plain)),
         Call::Sync(round(), s.decided, part(true, Kind::Complete)),
@@ -307,7 +307,7 @@ fn out_of_form(s: &State) -> Vec<Call> {
         Call::SetStop(Some(Sign::default())),
         Call::Read(Form::Covered, Bound::Excluded(u64::MAX), Bound::Unbounded),
         Call::Read(Form::ByHand, Bound::Unbounded, Bound::Included(u64::MAX)),
-        Call::Create(s.decided, SHOT_WORDS - 1),
+        Call::Create(s.decided, SNAPSHOT_WORDS - 1),
         Call::Diff(0, 0),
     ];
     for es in [
@@ -319,29 +319,29 @@ fn out_of_form(s: &State) -> Vec<Call> {
             Call::Append(es.clone()),
             Call::AppendIdx(es.clone()),
             Call::AppendNow(es.clone()),
-            Call::Fold(es.clone(), SHOT_WORDS),
+            Call::Fold(es.clone(), SNAPSHOT_WORDS),
             Call::EntriesFormed(es),
         ]);
     }
-    let full = Shot::of(&shot(0, 3));
-    let with_first = |entry: Change| Shot {
+    let full = LentSnapshot::of(&snapshot(0, 3));
+    let with_first = |entry: Change| LentSnapshot {
         words: [&words(&[entry]), &full.words[at(1)..]].concat(),
         ..full.clone()
     };
     let bent = [
-        Shot {
+        LentSnapshot {
             keys: 2,
             ..full.clone()
         },
-        Shot {
+        LentSnapshot {
             keys: KEYS + 1,
             ..full.clone()
         },
-        Shot {
+        LentSnapshot {
             keys: u64::MAX,
             ..full.clone()
         },
-        Shot {
+        LentSnapshot {
             words: full.words[..at(KEYS - 1)].to_vec(),
             ..full.clone()
         },
@@ -349,11 +349,11 @@ fn out_of_form(s: &State) -> Vec<Call> {
         with_first(put(1, 7)),
         with_first(put(0, PLACES)),
     ];
-    for shot in bent {
+    for snapshot in bent {
         calls.extend([
-            Call::Merge(s.keys, shot.clone(), SHOT_WORDS),
-            Call::Find(shot.clone(), 1),
-            Call::ShotFormed(shot.clone()),
+            Call::Merge(s.keys, snapshot.clone(), SNAPSHOT_WORDS),
+            Call::Find(snapshot.clone(), 1),
+            Call::SnapshotFormed(snapshot.clone()),
         ]);
         for (held, kind) in [
             (false, Kind::Plain),
@@ -365,7 +365,7 @@ fn out_of_form(s: &State) -> Vec<Call> {
                 held,
                 idx: s.decided,
                 kind,
-                shot: shot.clone(),
+                snapshot: snapshot.clone(),
                 suffix: vec![],
                 stop: None,
             };
@@ -380,8 +380,8 @@ fn out_of_form(s: &State) -> Vec<Call> {
         let list = List {
             ops: vec![op],
             entries: vec![],
-            shot_lent: true,
-            shot,
+            snapshot_lent: true,
+            snapshot,
             stop: None,
         };
         calls.push(Call::Write(Form::Covered, list.clone()));
@@ -409,7 +409,7 @@ fn sized(s: &State) -> Vec<Call> {
                 held: true,
                 idx: s.decided,
                 kind,
-                shot: Shot::of(&[]),
+                snapshot: LentSnapshot::of(&[]),
                 suffix: words(&entries(n, 1)),
                 stop: None,
             };
@@ -418,16 +418,19 @@ fn sized(s: &State) -> Vec<Call> {
     }
     let most = KEYS;
     for n in [0, 1, most - 1, most, most + 1] {
-        calls.push(Call::Fold(words(&entries(TOO_MANY_KEYS, n)), SHOT_WORDS));
+        calls.push(Call::Fold(
+            words(&entries(TOO_MANY_KEYS, n)),
+            SNAPSHOT_WORDS,
+        ));
         if n <= most {
-            let other = Shot::of(&shot(most, n));
-            calls.push(Call::Merge(s.keys, other.clone(), SHOT_WORDS));
+            let other = LentSnapshot::of(&snapshot(most, n));
+            calls.push(Call::Merge(s.keys, other.clone(), SNAPSHOT_WORDS));
             calls.push(Call::Find(other.clone(), most + n / 2));
             let part = Part {
                 held: true,
                 idx: s.decided,
                 kind: Kind::Delta,
-                shot: other,
+                snapshot: other,
                 suffix: vec![],
                 stop: None,
             };
@@ -494,7 +497,10 @@ fn ill_formed(runner: &mut Runner, state: &State) -> Result<(), String> {
         lines.extend(values(field, old).into_iter().map(|v| vec![4, field, v]));
     }
     let entries = state.retained + state.batched;
-    for (area, used, whole) in [(0, at(entries), LOG_WORDS), (1, at(state.keys), SHOT_WORDS)] {
+    for (area, used, whole) in [
+        (0, at(entries), LOG_WORDS),
+        (1, at(state.keys), SNAPSHOT_WORDS),
+    ] {
         let last = used.saturating_sub(1);
         for at in [
             at(0),
@@ -543,13 +549,13 @@ pub fn run(runner: &mut Runner, every: usize) -> Result<(), String> {
         each(
             runner,
             state,
-            about_full.map(|i| Call::Create(i, SHOT_WORDS)).to_vec(),
+            about_full.map(|i| Call::Create(i, SNAPSHOT_WORDS)).to_vec(),
         )?;
         each(
             runner,
             state,
             [0, 1, 2, KEYS - 1]
-                .map(|i| Call::Diff(i, SHOT_WORDS))
+                .map(|i| Call::Diff(i, SNAPSHOT_WORDS))
                 .to_vec(),
         )?;
     }

@@ -8,7 +8,7 @@ const WIDTH: usize = 2;
 pub const REMOVED: u64 = u64::MAX;
 /// Words of a log's slice, and of a snapshot's.
 pub const LOG_WORDS: usize = at(ENTRIES);
-pub const SHOT_WORDS: usize = at(KEYS);
+pub const SNAPSHOT_WORDS: usize = at(KEYS);
 
 /// Where an entry begins: after the words of so many entries.
 pub const fn at(entry: u64) -> usize {

@@ -202,7 +202,7 @@ fn calls(meter: &mut Meter) {
         let (mid_at, end_at) = (mid.0 as usize, end.0 as usize);
         let sixteen: Vec<Entry> = (0..ADDED).map(put).collect();
         let changes: Vec<Change> = (0..ADDED).map(change).collect();
-        let (shot, made) = (Snapshot::fold(&sixteen).unwrap(), Keys::create(&changes));
+        let (snapshot, made) = (Snapshot::fold(&sixteen).unwrap(), Keys::create(&changes));
         let ballot = Ballot {
             n: 1,
             ..Ballot::default()
@@ -219,7 +219,7 @@ fn calls(meter: &mut Meter) {
         );
         let sync = LogSync {
             sync_idx: end,
-            decided_snapshot: SnapshotType::Complete(&shot),
+            decided_snapshot: SnapshotType::Complete(&snapshot),
             suffix: &sixteen,
             stopsign: None,
         };

@@ -173,8 +173,8 @@ fn log_sync(p: &Part) -> LogSync<Change> {
     LogSync {
         decided_snapshot: match p.kind {
             Kind::Plain => None,
-            Kind::Complete => Some(SnapshotType::Complete(p.shot.held())),
-            Kind::Delta => Some(SnapshotType::Delta(p.shot.held())),
+            Kind::Complete => Some(SnapshotType::Complete(p.snapshot.held())),
+            Kind::Delta => Some(SnapshotType::Delta(p.snapshot.held())),
         },
         suffix: changes(&p.suffix),
         sync_idx: p.idx as usize,
@@ -185,7 +185,7 @@ fn log_sync(p: &Part) -> LogSync<Change> {
 /// The state that a delta sync is to leave.
 fn after_delta(before: &State, round: &Ballot, decided: u64, p: &Part) -> State {
     let base = folded(before, before.log_decided());
-    let keys = merged(&base, &p.shot.held()).entries();
+    let keys = merged(&base, &p.snapshot.held()).entries();
     let suffix = changes(&p.suffix);
     let all = [suffix.clone(), before.batch()].concat();
     let mut after = State {
@@ -197,7 +197,7 @@ fn after_delta(before: &State, round: &Ballot, decided: u64, p: &Part) -> State 
         ..before.clone()
     };
     after = after.with_entries(&all, suffix.len());
-    after.with_shot(&keys)
+    after.with_snapshot(&keys)
 }
 
 fn operation(op: &Op, list: &List) -> StorageOp<Change> {
@@ -214,7 +214,7 @@ fn operation(op: &Op, list: &List) -> StorageOp<Change> {
         OpKind::SetStopsign => {
             StorageOp::SetStopsign(list.stop.filter(|_| op.given).map(|sign| sign.held()))
         }
-        OpKind::SetSnapshot => StorageOp::SetSnapshot(op.given.then(|| list.shot.held())),
+        OpKind::SetSnapshot => StorageOp::SetSnapshot(op.given.then(|| list.snapshot.held())),
     }
 }
 
@@ -485,12 +485,12 @@ fn ours(call: &Call, before: &State, told: &Told) -> Result<(), String> {
         Call::GetLogDecided => same(&[1, before.log_decided()]),
         Call::Lookup(key) => found(&folded(before, before.log_decided()), key),
         Call::Fold(es, _) => written(1, &[], &Keys::create(&changes(es)), told),
-        Call::Merge(n, shot, _) => {
-            let made = merged(&held_with(before, *n).held(), &shot.held());
+        Call::Merge(n, snapshot, _) => {
+            let made = merged(&held_with(before, *n).held(), &snapshot.held());
             written(1, &[], &made, told)
         }
-        Call::Find(shot, key) => found(&shot.held(), key),
-        Call::ShotFormed(shot) => same(&[1, shot.formed() as u64]),
+        Call::Find(snapshot, key) => found(&snapshot.held(), key),
+        Call::SnapshotFormed(snapshot) => same(&[1, snapshot.formed() as u64]),
         Call::EntriesFormed(es) => same(&[1, entries_formed(es) as u64]),
         Call::PlaceFormed(word) => same(&[1, place_formed(*word) as u64]),
         Call::SignFormed(sign) => same(&[1, sign.formed() as u64]),

@@ -1,9 +1,9 @@
 //! Document 01's refusals: which number a call is answered on a state, and what it carries. All numbers are judged as numbers.
 use crate::backend::{Change, Keys};
 use crate::call::{Call, Kind, List, OpKind, Part};
-use crate::entry::{self, changes, count, entries_formed, whole, LOG_WORDS, SHOT_WORDS};
+use crate::entry::{self, changes, count, entries_formed, whole, LOG_WORDS, SNAPSHOT_WORDS};
 use crate::limits::{ENTRIES, KEYS, LARGEST, LARGEST_BATCH, MOST_OPS};
-use crate::state::{trimmed, Shot, Sign, State};
+use crate::state::{trimmed, LentSnapshot, Sign, State};
 use crate::storage::Snapshot;
 use std::ops::Bound;
 
@@ -19,9 +19,9 @@ fn first(rules: &[(bool, u64, u128)]) -> Refusal {
 
 /// Whether its arguments are in form.
 fn formed(call: &Call, s: &State) -> bool {
-    let output = |n: &usize| *n == SHOT_WORDS;
+    let output = |n: &usize| *n == SNAPSHOT_WORDS;
     match call {
-        Call::Fresh(n) => *n <= LARGEST_BATCH && s.lent == [LOG_WORDS, SHOT_WORDS],
+        Call::Fresh(n) => *n <= LARGEST_BATCH && s.lent == [LOG_WORDS, SNAPSHOT_WORDS],
         Call::AppendEntry(key, place) => entry::formed(&Change {
             key: *key,
             place: *place,
@@ -32,16 +32,18 @@ fn formed(call: &Call, s: &State) -> bool {
         Call::Create(_, n) | Call::Diff(_, n) => output(n),
         Call::Sync(_, _, p) => {
             whole(&p.suffix)
-                && p.shot.words.len() == SHOT_WORDS
+                && p.snapshot.words.len() == SNAPSHOT_WORDS
                 && (!p.held
                     || (entries_formed(&p.suffix)
-                        && (p.kind == Kind::Plain || p.shot.formed())
+                        && (p.kind == Kind::Plain || p.snapshot.formed())
                         && p.stop.is_none_or(|sign| sign.formed())))
         }
         Call::Write(_, list) => list_formed(list),
         Call::Fold(es, n) => entries_formed(es) && output(n),
-        Call::Merge(n, shot, out) => held_with(s, *n).formed() && shot.formed() && output(out),
-        Call::Find(shot, _) => shot.formed(),
+        Call::Merge(n, snapshot, out) => {
+            held_with(s, *n).formed() && snapshot.formed() && output(out)
+        }
+        Call::Find(snapshot, _) => snapshot.formed(),
         _ => true,
     }
 }
@@ -49,22 +51,22 @@ fn formed(call: &Call, s: &State) -> bool {
 fn list_formed(list: &List) -> bool {
     let missing = list.ops.iter().any(|op| match op.kind {
         OpKind::SetStopsign => op.given && list.stop.is_none(),
-        OpKind::SetSnapshot => op.given && !list.shot_lent,
+        OpKind::SetSnapshot => op.given && !list.snapshot_lent,
         _ => false,
     });
     (1..=MOST_OPS).contains(&list.ops.len())
         && entries_formed(&list.entries)
-        && list.shot.words.len() == SHOT_WORDS
-        && (!list.shot_lent || list.shot.formed())
+        && list.snapshot.words.len() == SNAPSHOT_WORDS
+        && (!list.snapshot_lent || list.snapshot.formed())
         && list.stop.is_none_or(|sign| sign.formed())
         && !missing
 }
 
 /// The held snapshot's words with another number of keys.
-pub fn held_with(s: &State, keys: u64) -> Shot {
-    Shot {
+pub fn held_with(s: &State, keys: u64) -> LentSnapshot {
+    LentSnapshot {
         keys,
-        ..s.held_shot()
+        ..s.held_snapshot()
     }
 }
 
@@ -173,7 +175,7 @@ fn sync(s: &State, d: u64, p: &Part) -> Refusal {
     ])
     .or_else(|| {
         let delta =
-            p.kind == Kind::Delta && over(&merged(&folded(s, s.log_decided()), &p.shot.held()));
+            p.kind == Kind::Delta && over(&merged(&folded(s, s.log_decided()), &p.snapshot.held()));
         first(&[(delta, 8, 0)])
     })
 }
@@ -215,14 +217,14 @@ fn write(s: &State, list: &List) -> Refusal {
                 };
             }
             OpKind::SetSnapshot => {
-                let shot = if op.given {
-                    list.shot.clone()
+                let snapshot = if op.given {
+                    list.snapshot.clone()
                 } else {
-                    Shot::of(&[])
+                    LentSnapshot::of(&[])
                 };
                 t.snapshot_held = op.given;
-                t.keys = shot.keys;
-                t.shot = trimmed(shot.words);
+                t.keys = snapshot.keys;
+                t.snapshot = trimmed(snapshot.words);
             }
         }
         if too_many(entries.len() as u128 + s.batched as u128) {
@@ -250,7 +252,7 @@ fn on_state(call: &Call) -> bool {
             | Call::Fold(..)
             | Call::Merge(..)
             | Call::Find(..)
-            | Call::ShotFormed(_)
+            | Call::SnapshotFormed(_)
             | Call::EntriesFormed(_)
             | Call::PlaceFormed(_)
             | Call::SignFormed(_)
@@ -297,9 +299,11 @@ pub fn refusal(s: &State, call: &Call) -> Refusal {
         Call::Sync(_, d, part) => sync(s, *d, part),
         Call::Write(_, list) => write(s, list),
         Call::Fold(es, _) => first(&[(over(&Keys::create(&changes(es))), 8, 0)]),
-        Call::Merge(n, shot, _) => {
-            first(&[(over(&merged(&held_with(s, *n).held(), &shot.held())), 8, 0)])
-        }
+        Call::Merge(n, snapshot, _) => first(&[(
+            over(&merged(&held_with(s, *n).held(), &snapshot.held())),
+            8,
+            0,
+        )]),
         _ => None,
     }
 }

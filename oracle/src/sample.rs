@@ -25,7 +25,7 @@ impl Sample {
         };
         let sort = answer[..told].to_vec();
         let kept = self.kept.entry((call.name(), sort)).or_default();
-        let words = |s: &State| s.log.len() + s.shot.len();
+        let words = |s: &State| s.log.len() + s.snapshot.len();
         kept.retain(|(held, _)| words(held) <= FEW || words(held) <= words(before));
         let most = if answer[0] == 0 { REFUSED } else { ACCEPTED };
         if kept.is_empty() || (words(before) <= FEW && kept.len() < most) {

@@ -1,5 +1,5 @@
 //! The figures as docs/FIGURES.md shows them, from what `oracle figures count` and `time` printed.
-use crate::entry::{LOG_WORDS, SHOT_WORDS};
+use crate::entry::{LOG_WORDS, SNAPSHOT_WORDS};
 use crate::limits::{ENTRIES, KEYS};
 use std::fs;
 
@@ -14,7 +14,7 @@ pub const STATES: [(&str, u64, u64); 3] = [
 pub const ADDED: u64 = 16;
 
 /// Words that a call on lent words judges.
-const WORDS: u64 = (LOG_WORDS + SHOT_WORDS) as u64;
+const WORDS: u64 = (LOG_WORDS + SNAPSHOT_WORDS) as u64;
 
 /// A number, and what was measured: a table, a row of it and a column.
 struct Figure {

@@ -2,9 +2,9 @@
 use crate::backend::Change;
 use crate::ballot_leader_election::Ballot;
 use crate::call::{Call, Form, Kind, List, Op, OpKind, Part};
-use crate::entry::{words, SHOT_WORDS};
+use crate::entry::{words, SNAPSHOT_WORDS};
 use crate::runner::Runner;
-use crate::state::{Shot, Sign, State};
+use crate::state::{LentSnapshot, Sign, State};
 use std::collections::BTreeSet;
 use std::ops::Bound;
 
@@ -77,7 +77,7 @@ fn syncs() -> Vec<Call> {
             held,
             idx,
             kind,
-            shot: Shot::of(keys),
+            snapshot: LentSnapshot::of(keys),
             suffix: words(suffix),
             stop,
         };
@@ -143,8 +143,8 @@ fn lists() -> Vec<Call> {
             let list = List {
                 ops,
                 entries: words(&[C]),
-                shot_lent: true,
-                shot: Shot::of(&[B]),
+                snapshot_lent: true,
+                snapshot: LentSnapshot::of(&[B]),
                 stop: Some(sign()),
             };
             [
@@ -169,8 +169,8 @@ fn queries() -> Vec<Call> {
             Call::ReadDecided(i),
             Call::Suffix(i),
             Call::Lookup(i),
-            Call::Create(i, SHOT_WORDS),
-            Call::Diff(i, SHOT_WORDS),
+            Call::Create(i, SNAPSHOT_WORDS),
+            Call::Diff(i, SNAPSHOT_WORDS),
             Call::Read(Form::Covered, Bound::Included(i), Bound::Unbounded),
             Call::Read(Form::Covered, Bound::Excluded(i), Bound::Unbounded),
             Call::Read(Form::Covered, Bound::Unbounded, Bound::Included(i)),

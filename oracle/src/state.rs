@@ -1,7 +1,7 @@
 //! A state as the port shows it, well formed or not, and what document 01 says of it.
 use crate::backend::{Change, Keys};
 use crate::ballot_leader_election::Ballot;
-use crate::entry::{at, first_changes, formed, words, LOG_WORDS, SHOT_WORDS};
+use crate::entry::{at, first_changes, formed, words, LOG_WORDS, SNAPSHOT_WORDS};
 use crate::limits::{ENTRIES, KEYS, LARGEST, LARGEST_BATCH, METADATA, NODES};
 use crate::lines::put;
 use crate::storage::{Snapshot, StopSign};
@@ -10,23 +10,23 @@ use kotuseraw::plain::{self, IndexRecord};
 
 /// A lent snapshot: its words, as many as are lent, and the number of keys said of it.
 #[derive(Clone, Debug, PartialEq)]
-pub struct Shot {
+pub struct LentSnapshot {
     pub keys: u64,
     pub words: Vec<u64>,
 }
 
-impl Shot {
+impl LentSnapshot {
     pub fn of(entries: &[Change]) -> Self {
         let mut words = words(entries);
-        words.resize(SHOT_WORDS, 0);
-        Shot {
+        words.resize(SNAPSHOT_WORDS, 0);
+        LentSnapshot {
             keys: entries.len() as u64,
             words,
         }
     }
 
     pub fn formed(&self) -> bool {
-        if self.words.len() != SHOT_WORDS || self.keys > KEYS {
+        if self.words.len() != SNAPSHOT_WORDS || self.keys > KEYS {
             return false;
         }
         let held = first_changes(&self.words, self.keys);
@@ -136,7 +136,7 @@ pub struct State {
     pub stop_held: bool,
     pub stop: Sign,
     pub log: Vec<u64>,
-    pub shot: Vec<u64>,
+    pub snapshot: Vec<u64>,
     pub lent: [usize; 2],
 }
 
@@ -194,8 +194,8 @@ impl State {
             stop_held: false,
             stop: Sign::default(),
             log: vec![],
-            shot: vec![],
-            lent: [LOG_WORDS, SHOT_WORDS],
+            snapshot: vec![],
+            lent: [LOG_WORDS, SNAPSHOT_WORDS],
         }
     }
 
@@ -207,10 +207,10 @@ impl State {
         self
     }
 
-    pub fn with_shot(mut self, keys: &[Change]) -> Self {
+    pub fn with_snapshot(mut self, keys: &[Change]) -> Self {
         self.snapshot_held = true;
         self.keys = keys.len() as u64;
-        self.shot = trimmed(words(keys));
+        self.snapshot = trimmed(words(keys));
         self
     }
 
@@ -221,7 +221,7 @@ impl State {
     }
 
     /// A record with the areas of log and snapshot, and how many words of each area are lent.
-    pub fn of(record: &IndexRecord, log: &[u64], shot: &[u64], lent: [usize; 5]) -> Self {
+    pub fn of(record: &IndexRecord, log: &[u64], snapshot: &[u64], lent: [usize; 5]) -> Self {
         State {
             size: record.batch_size,
             retained: record.retained as u64,
@@ -235,7 +235,7 @@ impl State {
             stop_held: record.stop_held,
             stop: Sign::of_plain(&record.stop),
             log: used(log).to_vec(),
-            shot: used(shot).to_vec(),
+            snapshot: used(snapshot).to_vec(),
             lent: [lent[0], lent[1]],
         }
     }
@@ -265,7 +265,7 @@ impl State {
             .map(|(f, (due, _))| vec![4, f, due])
             .collect();
         lines.extend(words_from(0, &self.log, &now.log));
-        lines.extend(words_from(1, &self.shot, &now.shot));
+        lines.extend(words_from(1, &self.snapshot, &now.snapshot));
         for area in [0, 1] {
             if self.lent[area] != now.lent[area] {
                 lines.push(vec![3, area as u64, self.lent[area] as u64]);
@@ -299,17 +299,17 @@ impl State {
         all[self.retained as usize..].to_vec()
     }
 
-    pub fn held_shot(&self) -> Shot {
-        let mut words = self.shot.clone();
+    pub fn held_snapshot(&self) -> LentSnapshot {
+        let mut words = self.snapshot.clone();
         words.resize(self.lent[1], 0);
-        Shot {
+        LentSnapshot {
             keys: self.keys,
             words,
         }
     }
 
     pub fn snapshot(&self) -> Option<Keys> {
-        self.snapshot_held.then(|| self.held_shot().held())
+        self.snapshot_held.then(|| self.held_snapshot().held())
     }
 
     pub fn stop_sign(&self) -> Option<StopSign> {
@@ -335,14 +335,14 @@ impl State {
     }
 
     pub fn well_formed(&self) -> bool {
-        let shot = match self.snapshot_held {
-            true => self.held_shot().formed(),
-            false => self.lent[1] == SHOT_WORDS && self.keys == 0 && self.shot.is_empty(),
+        let snapshot = match self.snapshot_held {
+            true => self.held_snapshot().formed(),
+            false => self.lent[1] == SNAPSHOT_WORDS && self.keys == 0 && self.snapshot.is_empty(),
         };
         let stop = match self.stop_held {
             true => self.stop.formed(),
             false => self.stop == Sign::default(),
         };
-        self.log_formed() && self.numbers_formed() && shot && stop
+        self.log_formed() && self.numbers_formed() && snapshot && stop
     }
 }

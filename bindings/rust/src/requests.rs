@@ -105,19 +105,19 @@ pub struct LogSync<'a> {
 impl<'a> LogSync<'a> {
     /// The part, and the snapshot's words: those of an empty one where there is none.
     pub(crate) fn plain(&self, none: &'a Snapshot) -> (plain::LogSync, &'a [u64]) {
-        let (kind, shot) = match self.decided_snapshot {
+        let (kind, snapshot) = match self.decided_snapshot {
             SnapshotType::None => (0, none),
-            SnapshotType::Complete(shot) => (1, shot),
-            SnapshotType::Delta(shot) => (2, shot),
+            SnapshotType::Complete(snapshot) => (1, snapshot),
+            SnapshotType::Delta(snapshot) => (2, snapshot),
         };
         let part = plain::LogSync {
             sync_idx: self.sync_idx,
             kind,
-            keys: shot.keys(),
+            keys: snapshot.keys(),
             stop_held: self.stopsign.is_some(),
             stopsign: self.stopsign.unwrap_or_default(),
         };
-        (part, shot.words())
+        (part, snapshot.words())
     }
 }
 

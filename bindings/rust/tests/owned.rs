@@ -121,8 +121,8 @@ fn turn(index: &mut Index, dice: &mut Dice, met: &mut Met) {
         14 => both!(index, met, load_cache()),
         15 => {
             let (run, ballot) = (dice.entries(), dice.ballot());
-            let shot = Snapshot::fold(&dice.entries()).unwrap();
-            let kinds = [SnapshotType::None, SnapshotType::Complete(&shot), SnapshotType::Delta(&shot)];
+            let snapshot = Snapshot::fold(&dice.entries()).unwrap();
+            let kinds = [SnapshotType::None, SnapshotType::Complete(&snapshot), SnapshotType::Delta(&snapshot)];
             let part = LogSync { sync_idx: i, decided_snapshot: kinds[(j.0 % 3) as usize], suffix: &run, stopsign: None };
             both!(index, met, sync_log(ballot, j, Some(part).filter(|_| j.0 % 5 > 0)))
         }

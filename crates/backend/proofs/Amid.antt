@@ -21,7 +21,7 @@ use Rattle.model.specs.Numbers.{numbersFormed}
 use Rattle.model.specs.Log.{Log, retaining, withRun}
 use Rattle.state_cache.specs.State.{Raw, raw, numbersIn, signHeld, formed, logOf}
 use Rattle.state_cache.specs.Inner.{Ready, withEntries}
-use Rattle.state_cache.proofs.Stands.{shot-tests}
+use Rattle.state_cache.proofs.Stands.{snapshot-tests}
 use Rattle.backend.specs.Inner.{Kept}
 
 -- the words of an entry slice are its entries'
@@ -44,7 +44,7 @@ unfolding formed
 ready-held r g =
     let e₁ = and-right (numbersFormed (numbersIn (r .index))) _ (g .okay) in
     let e₂ = and-right (signHeld (r .index)) _ e₁ in
-    let e₃ = sym (shot-tests (r .index) (r .snapshot)) ∙ and-right (storedIn logWords (r .index .retained + r .index .batched) (r .log)) _ e₂ in
+    let e₃ = sym (snapshot-tests (r .index) (r .snapshot)) ∙ and-right (storedIn logWords (r .index .retained + r .index .batched) (r .log)) _ e₂ in
     record { log = g .log; snapshot = g .snapshot; none-held = and-right (snapshotFormed (r .index .keys) (r .snapshot)) _ e₃; sign = and-left (signHeld (r .index)) _ e₁ }
 
 module _ (r : Raw) (h : Kept r) where

@@ -55,11 +55,11 @@ no-reply : (n k : ℕ) → _≡_ {A = Answer (Unit {0})} (refused n k) (replied 
 no-reply n k e = let z : _≡_ {A = ℕ} 0 1 = cc in omega arith
 
 -- refused, or done with nothing to refuse
-module _ (gs : List Guard) (next : Midst) (start : ℕ) (x : IndexRecord) (log shot : List ℕ) where
-  goes-refused : (f : Refusal) → refuses (numberOf f) (carriedOf f) ≡ first gs → Goes gs next (stepped (Refused f) start x) log shot
+module _ (gs : List Guard) (next : Midst) (start : ℕ) (x : IndexRecord) (log snapshot : List ℕ) where
+  goes-refused : (f : Refusal) → refuses (numberOf f) (carriedOf f) ≡ first gs → Goes gs next (stepped (Refused f) start x) log snapshot
   goes-refused f e = record { verdict = ap (λ (v : Verdict). settle v tt) e; after = λ q. absurd (no-reply _ _ q) }
 
-  goes-done : passes ≡ first gs → midstOf start (raw x log shot) ≡ next → Kept (raw x log shot) → Goes gs next (stepped Done start x) log shot
+  goes-done : passes ≡ first gs → midstOf start (raw x log snapshot) ≡ next → Kept (raw x log snapshot) → Goes gs next (stepped Done start x) log snapshot
   goes-done e p h = record { verdict = ap (λ (v : Verdict). settle v tt) e; after = λ q. (p, h) }
 
 -- two tests of the same order
@@ -72,17 +72,17 @@ ltb-same a b c d f g = go (ltb a b) (ltb c d) refl refl
     go false false p q = p ∙ sym q
 
 -- the same by other names
-goes-as : (gs gs′ : List Guard) (next next′ : Midst) (s : Stepped) (log shot : List ℕ) → first gs ≡ first gs′ → next ≡ next′ → Goes gs next s log shot → Goes gs′ next′ s log shot
-goes-as gs gs′ next next′ s log shot e p g = record {
+goes-as : (gs gs′ : List Guard) (next next′ : Midst) (s : Stepped) (log snapshot : List ℕ) → first gs ≡ first gs′ → next ≡ next′ → Goes gs next s log snapshot → Goes gs′ next′ s log snapshot
+goes-as gs gs′ next next′ s log snapshot e p g = record {
   verdict = g .verdict ∙ ap (λ (v : Verdict). settle v tt) e;
   after = λ q. (g .after q .0 ∙ p, g .after q .1);
 }
 
-pub goes-of : (n : Numbers) (l : Lent) (m : Midst) (o : CodeOp) (k : OpKind) (s : Stepped) (log shot : List ℕ) → o .kind ≡ k
-    → Goes (stepGuards n l (ofKind k o) m) (step l (ofKind k o) m) s log shot → Goes (stepGuards n l (opOf o) m) (step l (opOf o) m) s log shot
-goes-of n l m o k s log shot e g =
+pub goes-of : (n : Numbers) (l : Lent) (m : Midst) (o : CodeOp) (k : OpKind) (s : Stepped) (log snapshot : List ℕ) → o .kind ≡ k
+    → Goes (stepGuards n l (ofKind k o) m) (step l (ofKind k o) m) s log snapshot → Goes (stepGuards n l (opOf o) m) (step l (opOf o) m) s log snapshot
+goes-of n l m o k s log snapshot e g =
     let p : ofKind k o ≡ opOf o = ap (λ (j : OpKind). ofKind j o) (sym e) in
-    goes-as _ _ _ _ s log shot (ap (λ (q : Op). first (stepGuards n l q m)) p) (ap (λ (q : Op). step l q m) p) g
+    goes-as _ _ _ _ s log snapshot (ap (λ (q : Op). first (stepGuards n l q m)) p) (ap (λ (q : Op). step l q m) p) g
 
 abbrev withRound : Ballot → IndexRecord → IndexRecord
 withRound b x = record {
@@ -267,10 +267,10 @@ module _ (start : ℕ) (r : Raw) (h : Kept r) where
         fine true false e q = absurd (true≢false (sym e))
         fine false u e q = blank-none
 
-    shot-goes : (t : Bool) → supplied lent (setSnapshot t) ≡ true
+    snapshot-goes : (t : Bool) → supplied lent (setSnapshot t) ≡ true
         → Goes (stepGuards n lent (setSnapshot t) m) (step lent (setSnapshot t) m) (stepped Done start (withRun (r .index .compacted) (r .index .retained) t (askedKeys t (b .keys)) (r .index))) (r .log) (askedWords t incoming)
     unfolding stepGuards step first
-    shot-goes t e =
+    snapshot-goes t e =
         goes-done [] (step lent (setSnapshot t) m) start (withRun (r .index .compacted) (r .index .retained) t (askedKeys t (b .keys)) (r .index)) (r .log) (askedWords t incoming) refl
         (unfold logOf in ap (λ (g : Option (List Change)). record { start = start; log = record { run = record { compacted = logOf r .run .compacted; retained = logOf r .run .retained; held = g }; tail = logOf r .tail; marks = logOf r .marks } })
         (set t (b .«snapshot_lent») e))
@@ -303,8 +303,8 @@ module _ (start : ℕ) (r : Raw) (h : Kept r) where
           goes-of n lent m o SetStopsign (stepped Done start (withStop (o .given) g (r .index))) (r .log) (r .snapshot) e
           (rw p (sign-goes (o .given) (is-supplied SetStopsign e q)))
 
-      pub shot-done : o .kind ≡ SetSnapshot → supplied lent (opOf o) ≡ true → (k : ℕ) (words : List ℕ) → k ≡ askedKeys (o .given) (b .keys) → words ≡ askedWords (o .given) incoming
+      pub snapshot-done : o .kind ≡ SetSnapshot → supplied lent (opOf o) ≡ true → (k : ℕ) (words : List ℕ) → k ≡ askedKeys (o .given) (b .keys) → words ≡ askedWords (o .given) incoming
           → Goes (stepGuards n lent (opOf o) m) (step lent (opOf o) m) (stepped Done start (withRun (r .index .compacted) (r .index .retained) (o .given) k (r .index))) (r .log) words
-      shot-done e q k words p w =
+      snapshot-done e q k words p w =
           goes-of n lent m o SetSnapshot (stepped Done start (withRun (r .index .compacted) (r .index .retained) (o .given) k (r .index))) (r .log) words e
-          (rw (p, w) (shot-goes (o .given) (is-supplied SetSnapshot e q)))
+          (rw (p, w) (snapshot-goes (o .given) (is-supplied SetSnapshot e q)))

@@ -23,7 +23,7 @@ use Rattle.model.specs.Backend.{lastGuards}
 use Rattle.state_cache.specs.State.{Raw, numbersIn, oneIf, signHeld, snapshotHeld, formed, logOf}
 use Rattle.state_cache.specs.Inner.{Small}
 use Rattle.state_cache.specs.declared.IndexRecord.{IndexRecord}
-use Rattle.state_cache.proofs.Stands.{shot-tests, log-formed, given-by}
+use Rattle.state_cache.proofs.Stands.{snapshot-tests, log-formed, given-by}
 use Rattle.backend.specs.Inner.{midstOf, Kept}
 
 -- the numbers of the log that a record and words stand for are the record's
@@ -58,7 +58,7 @@ formed-numbers r h = sym (and-true (numbersFormed (numbersIn (r .index)))) ∙ a
     rest =
         both-true (signHeld (r .index)) _ (h .sign)
         (both-true (storedIn logWords (r .index .retained + r .index .batched) (r .log)) _ (stored-of logWords _ (r .log) (h .log))
-        (shot-tests (r .index) (r .snapshot)
+        (snapshot-tests (r .index) (r .snapshot)
         ∙ both-true (storedIn snapshotWords (r .index .keys) (r .snapshot) && rising (entriesOf (r .index .keys) (r .snapshot))) _
         (both-true (storedIn snapshotWords (r .index .keys) (r .snapshot)) _ (stored-of snapshotWords _ (r .snapshot) (h .snapshot .laid)) (h .snapshot .rises))
         (h .none-held)))

@@ -24,7 +24,7 @@ use Rattle.snapshot.proofs.Calling.{snapshot-holds}
 use Rattle.model.specs.Log.{given, ifGiven, keysFormed}
 use Rattle.model.specs.Backend.{Op, appendEntries, appendOnPrefix, setDecided, setCompacted, trim, setPromise, setRound, setSign, setSnapshot, Lent, supplied, opsFormed}
 use Rattle.model.specs.Calls.{write, malformed}
-use Rattle.model.proofs.Forms.{of-shot}
+use Rattle.model.proofs.Forms.{of-snapshot}
 use Rattle.state_cache.specs.State.{Raw, formed}
 use Rattle.state_cache.specs.Run.{outcome, run}
 use Rattle.state_cache.proofs.Stands.{ready-of, given-by}
@@ -44,8 +44,8 @@ module _ (b : CodeLent) (o : CodeOp) where
   pub sign-supplied : o .kind ≡ SetStopsign → (not (o .given) || b .«stop_lent») ≡ supplied (lentOf b [] []) (opOf o)
   sign-supplied e = ap (λ (t : Bool). not (o .given) || t) (sym (given-by (b .«stop_lent») (b .stop))) ∙ by-kind SetStopsign e
 
-  pub shot-supplied : o .kind ≡ SetSnapshot → (not (o .given) || b .«snapshot_lent») ≡ supplied (lentOf b [] []) (opOf o)
-  shot-supplied e = ap (λ (t : Bool). not (o .given) || t) (sym (given-by (b .«snapshot_lent») _)) ∙ by-kind SetSnapshot e
+  pub snapshot-supplied : o .kind ≡ SetSnapshot → (not (o .given) || b .«snapshot_lent») ≡ supplied (lentOf b [] []) (opOf o)
+  snapshot-supplied e = ap (λ (t : Bool). not (o .given) || t) (sym (given-by (b .«snapshot_lent») _)) ∙ by-kind SetSnapshot e
 
 -- what a request in form lends
 module _ (b : CodeLent) (entries incoming : List ℕ) (f : Lends b entries incoming) where
@@ -91,14 +91,14 @@ supplied-any b entries incoming (setSnapshot t) =
     ap (λ (u : Bool). not t || u) (given-by (b .«snapshot_lent») (entriesOf (b .keys) []) ∙ sym (given-by (b .«snapshot_lent») (entriesOf (b .keys) incoming)))
 
 -- a snapshot that is lent in form
-shot-lent : (b : CodeLent) (entries incoming : List ℕ) → incomingFormed b incoming ≡ true → ifGiven keysFormed (lentOf b entries incoming .snapshot) ≡ true
+snapshot-lent : (b : CodeLent) (entries incoming : List ℕ) → incomingFormed b incoming ≡ true → ifGiven keysFormed (lentOf b entries incoming .snapshot) ≡ true
 unfolding incomingFormed
-shot-lent b entries incoming e = go (b .«snapshot_lent») (and-right (eqb (length incoming) snapshotWords) (not (b .«snapshot_lent») || snapshotFormed (b .keys) incoming) e)
+snapshot-lent b entries incoming e = go (b .«snapshot_lent») (and-right (eqb (length incoming) snapshotWords) (not (b .«snapshot_lent») || snapshotFormed (b .keys) incoming) e)
   where
     go : (t : Bool) → (not t || snapshotFormed (b .keys) incoming) ≡ true → ifGiven keysFormed (if t then some (entriesOf (b .keys) incoming) else none) ≡ true
     go true q =
         let h = snapshot-holds (b .keys) incoming q in
-        of-shot (entriesOf (b .keys) incoming) (record { rises = h .rises; fine = h .laid .fine }) (omega (arith, entries-length changeCode (b .keys) incoming, h .laid .fits))
+        of-snapshot (entriesOf (b .keys) incoming) (record { rises = h .rises; fine = h .laid .fine }) (omega (arith, entries-length changeCode (b .keys) incoming, h .laid .fits))
     go false q = refl
 
 sign-lent : (t : Bool) (g : StopSign) → (not t || signFormed g) ≡ ifGiven signFormed (if t then some g else none)
@@ -146,7 +146,7 @@ module _ (b : CodeLent) (entries incoming : List ℕ) (list : OpList) where
           sign-lent (b .«stop_lent») (b .stop),
         )
         (shuffle (wholeIn entries) (entriesFormed (entriesIn entries)) (incomingFormed b incoming) (ifGiven signFormed (lent .sign)) (leb 1 (list .count)) (allOf (supplied lent) (opsIn list))
-        (ifGiven keysFormed (lent .snapshot)) (shot-lent b entries incoming))
+        (ifGiven keysFormed (lent .snapshot)) (snapshot-lent b entries incoming))
 
   -- what a request in form is known to be, and one that is not is refused
   lends-of : wholeLent b entries incoming ≡ true → opsFormed lent (opsIn list) ≡ true → Lends b entries incoming

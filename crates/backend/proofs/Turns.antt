@@ -66,7 +66,7 @@ module _ (n : Numbers) (l : Lent) (codes : List CodeOp) (count : ℕ) (few : cou
       pub is-supplied : allOf (supplied l) ops ≡ true → supplied l o ≡ true
       is-supplied e = all-head (supplied l) o (drop (suc i) ops) (rw (← cons) (all-drop (supplied l) i ops e))
 
-      module _ (s : Stepped) (log shot : List ℕ) (g : Goes (stepGuards n l o m) (step l o m) s log shot) where
+      module _ (s : Stepped) (log snapshot : List ℕ) (g : Goes (stepGuards n l o m) (step l o m) s log snapshot) where
         pub turn-refused : (f : Refusal) → s .answer ≡ Refused f → asked ≡ refuses (numberOf f) (carriedOf f)
         unfolding opGuards
         turn-refused f e =
@@ -74,10 +74,10 @@ module _ (n : Numbers) (l : Lent) (codes : List CodeOp) (count : ℕ) (few : cou
             ∙ sym (first-left (stepGuards n l o m) (opGuards n l (drop (suc i) ops) (step l o m)) (numberOf f) (carriedOf f)
             (settle-refused (first (stepGuards n l o m)) (numberOf f) (carriedOf f) (ap settled (sym e) ∙ g .verdict)))
 
-        pub turn-held : s .answer ≡ Done → Kept (raw (s .index) log shot)
+        pub turn-held : s .answer ≡ Done → Kept (raw (s .index) log snapshot)
         turn-held e = g .after (ap settled e) .1
 
-        pub turn-left : s .answer ≡ Done → Left n l (drop (i + 1) ops) (midstOf (s .start) (raw (s .index) log shot)) asked end
+        pub turn-left : s .answer ≡ Done → Left n l (drop (i + 1) ops) (midstOf (s .start) (raw (s .index) log snapshot)) asked end
         unfolding opGuards steps
         turn-left e =
             rw (add-one i, g .after (ap settled e) .0)
@@ -138,9 +138,9 @@ ops-supplied l ops e =
     and-right (ifGiven signFormed (l .sign)) _ e₃
 
 -- on copies of the words
-module _ (i : IndexRecord) (log log′ shot shot′ : List ℕ) (p : log′ ≡ log) (q : shot′ ≡ shot) where
-  pub listed-copy : (b : CodeLent) (entries incoming : List ℕ) (list : OpList) → Listed (raw i log shot) b entries incoming list → Listed (raw i log′ shot′) b entries incoming list
+module _ (i : IndexRecord) (log log′ snapshot snapshot′ : List ℕ) (p : log′ ≡ log) (q : snapshot′ ≡ snapshot) where
+  pub listed-copy : (b : CodeLent) (entries incoming : List ℕ) (list : OpList) → Listed (raw i log snapshot) b entries incoming list → Listed (raw i log′ snapshot′) b entries incoming list
   listed-copy b entries incoming list g = rw (p, q) g
 
-  pub wrote-copy : (l : Lent) (ops : List Op) (a : Settled) (x : Raw) → Wrote (raw i log′ shot′) l ops a x → Wrote (raw i log shot) l ops a x
+  pub wrote-copy : (l : Lent) (ops : List Op) (a : Settled) (x : Raw) → Wrote (raw i log′ snapshot′) l ops a x → Wrote (raw i log snapshot) l ops a x
   wrote-copy l ops a x w = rw (p, q) at w

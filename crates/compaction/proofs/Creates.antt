@@ -1,4 +1,4 @@
--- A snapshot created from a lent state: refusals 12, 11, 3, 2 and 8, or the fold writtenBy out.
+-- A snapshot created from a lent state: refusals 12, 11, 3, 2 and 8, or the fold written out.
 use Prim.Native.Nat.{ℕ, _+_, _-_, _≤_, _<_}
 use mathlib.Core.Path.{_≡_, refl, sym, ap, _∙_}
 use mathlib.Core.Bool.{Bool, true, false}

@@ -14,7 +14,7 @@ use Rattle.snapshot.specs.Folds.{foldOnto, merge}
 use Rattle.snapshot.specs.Inner.{Aside}
 use Rattle.model.specs.Numbers.{Numbers, endOf, logDecided}
 use Rattle.model.specs.Log.{Log, orEmpty, foldedTo}
-use Rattle.model.proofs.Forms.{ranges, formed-of, shot-held}
+use Rattle.model.proofs.Forms.{ranges, formed-of, snapshot-held}
 use Rattle.model.specs.Inner.{Sound}
 use Rattle.state_cache.specs.State.{Raw, formed, logOf}
 use Rattle.state_cache.specs.Inner.{Ready}
@@ -31,11 +31,11 @@ module _ (r : Raw) (ok : formed r ≡ true) where
   abbrev s : Log
   s = logOf r
 
-  pub shot-is : entriesOf (r .index .keys) (r .snapshot) ≡ orEmpty (s .run .held)
-  shot-is =
+  pub snapshot-is : entriesOf (r .index .keys) (r .snapshot) ≡ orEmpty (s .run .held)
+  snapshot-is =
       let st = stands-of r ok in
-      ap₂ entriesOf (sym (st .run .shot-keys)) (sym (st .snapshot))
-      ∙ stored-entries snapshotWords (orEmpty (s .run .held)) (shot-held (s .run .held) (formed-of s (log-formed r ok) .shot) .fine)
+      ap₂ entriesOf (sym (st .run .snapshot-keys)) (sym (st .snapshot))
+      ∙ stored-entries snapshotWords (orEmpty (s .run .held)) (snapshot-held (s .run .held) (formed-of s (log-formed r ok) .snapshot) .fine)
 
   module _ (to : ℕ) (in-run : to ≤ r .index .compacted .0 + r .index .retained) where
     below : take (to - s .run .compacted) (s .run .retained) ≡ entriesOf (to - r .index .compacted .0) (r .log)
@@ -44,7 +44,7 @@ module _ (r : Raw) (ok : formed r ≡ true) where
 
     pub fold-is : foldOnto (entriesOf (r .index .keys) (r .snapshot)) (entriesOf (to - r .index .compacted .0) (r .log)) ≡ foldedTo to (s .run)
     unfolding foldedTo merge
-    fold-is = ap₂ foldOnto shot-is (sym below)
+    fold-is = ap₂ foldOnto snapshot-is (sym below)
 
     pub fold-needs : (out : List ℕ) → length out ≡ snapshotWords → Aside (r .index .keys) (r .snapshot) (to - r .index .compacted .0) (r .log) out
     fold-needs out roomy =

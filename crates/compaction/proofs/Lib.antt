@@ -1,5 +1,5 @@
 pub mod Moving
 pub mod Folding
-pub mod Shots
+pub mod Snapshots
 pub mod Creates
 pub mod Refused

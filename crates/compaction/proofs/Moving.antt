@@ -94,8 +94,8 @@ module _ (r : Raw) (ok : formed r ≡ true) (upto : Option ℕ) where
       run = record {
         start = refl;
         count = omega (arith, length-drop (to - s .run .compacted) (s .run .retained), st .run .count, st .run .start);
-        shot = g;
-        shot-keys = k;
+        snapshot = g;
+        snapshot-keys = k;
       };
       tail = st .tail;
       marks = st .marks;
@@ -131,4 +131,4 @@ module _ (r : Raw) (ok : formed r ≡ true) (i : ℕ) where
   trim-moves to u y words m =
       let st = stands-of r ok in
       trim-stands (u .verdict) (raw y words (r .snapshot))
-      (moved-stands r ok (some i) to u (r .index .«snapshot_held») (r .index .keys) y words m (t .run .held) (r .snapshot) (st .run .shot) (st .run .shot-keys) (st .snapshot))
+      (moved-stands r ok (some i) to u (r .index .«snapshot_held») (r .index .keys) y words m (t .run .held) (r .snapshot) (st .run .snapshot) (st .run .snapshot-keys) (st .snapshot))

@@ -25,7 +25,7 @@ use Rattle.model.specs.Numbers.{logDecided}
 use Rattle.model.specs.Log.{Run, Log, given, orEmpty, foldedTo}
 use Rattle.model.specs.Read.{between}
 use Rattle.model.specs.Diff.{Given, plain, complete, delta, diffOf}
-use Rattle.model.proofs.Forms.{formed-of, shot-folded}
+use Rattle.model.proofs.Forms.{formed-of, snapshot-folded}
 use Rattle.state_cache.specs.State.{Raw, numbersIn, formed, logOf}
 use Rattle.state_cache.specs.Inner.{Ready}
 use Rattle.state_cache.proofs.Stands.{Stands, stands-of, log-formed, ready-of}
@@ -115,13 +115,13 @@ module _ (r : Raw) (ok : formed r ≡ true) (i last : ℕ) (l : last ≡ logDeci
   pub diff-plain : i ≤ r .index .compacted .0 → (r .index .«snapshot_held» || ltb (r .index .compacted .0) last) ≡ false → diffOf i s ≡ plain
   diff-plain h e =
       diff-is
-      ∙ to-plain last i (s .run) (omega (arith, st .run .start, h)) (omega (arith, st .run .start, ltb-false (r .index .compacted .0) last (or-right (r .index .«snapshot_held») _ e))) (st .run .shot ∙ or-left _ _ e)
+      ∙ to-plain last i (s .run) (omega (arith, st .run .start, h)) (omega (arith, st .run .start, ltb-false (r .index .compacted .0) last (or-right (r .index .«snapshot_held») _ e))) (st .run .snapshot ∙ or-left _ _ e)
 
   pub diff-complete : i ≤ r .index .compacted .0 → (r .index .«snapshot_held» || ltb (r .index .compacted .0) last) ≡ true → diffOf i s ≡ complete (foldedTo last (s .run))
-  diff-complete h e = diff-is ∙ to-complete last i (s .run) (omega (arith, st .run .start, h)) (rw (st .run .shot, st .run .start) e)
+  diff-complete h e = diff-is ∙ to-complete last i (s .run) (omega (arith, st .run .start, h)) (rw (st .run .snapshot, st .run .start) e)
 
   pub complete-formed : entriesFormed (foldedTo last (s .run)) ≡ true
-  complete-formed = shot-folded last s (formed-of s (log-formed r ok)) .fine
+  complete-formed = snapshot-folded last s (formed-of s (log-formed r ok)) .fine
 
   -- a delta is folded from its start, or from log-decided where it would start past that
   module _ (h : r .index .compacted .0 < i) (start : ℕ) (e : start ≡ min i last) where

@@ -9,6 +9,7 @@ ghost use Rattle.model.specs.Calls.{decide, trim};
 ghost use Rattle.state_cache.specs.State.{raw};
 ghost use Rattle.state_cache.specs.Run.{outcome, run, settled};
 
+// `internal_storage::set_decided_idx` on the record where it stands.
 pub fn set_decided_idx(
     held: &mut IndexRecord,
     log: &[u64],
@@ -23,6 +24,7 @@ pub fn set_decided_idx(
     decided.answer
 }
 
+// `compaction::try_trim` on the record where it stands.
 pub fn try_trim(held: &mut IndexRecord, log: &mut [u64], snapshot: &[u64], idx: LogIndex) -> Settled
     ensures { λ r. ⌜ outcome (settled r) (raw (now (held .exit)) (now (log .exit)) (now (snapshot .entry)))
         ≡ run (trim (idx .0)) true (raw (now (held .entry)) (now (log .entry)) (now (snapshot .entry))) ⌝ }

@@ -100,8 +100,8 @@ module _ (r : Raw) (ok : formed r ≡ true) where
     run = record {
       start = st .run .start;
       count = omega (arith, length-append (s .run .retained) (s .tail .batched), st .run .count, st .tail .count);
-      shot = st .run .shot;
-      shot-keys = st .run .shot-keys;
+      snapshot = st .run .snapshot;
+      snapshot-keys = st .run .snapshot-keys;
     };
     tail = record { count = refl; sized = st .tail .sized; stopped = st .tail .stopped; sign = st .tail .sign };
     marks = st .marks;
@@ -209,8 +209,8 @@ module _ (r : Raw) (ok : formed r ≡ true) where
         run = record {
           start = st .run .start;
           count = omega (arith, length-append (s .run .retained) (batchWith es s), st .run .count, batch-count);
-          shot = st .run .shot;
-          shot-keys = st .run .shot-keys;
+          snapshot = st .run .snapshot;
+          snapshot-keys = st .run .snapshot-keys;
         };
         tail = record { count = refl; sized = st .tail .sized; stopped = st .tail .stopped; sign = st .tail .sign };
         marks = st .marks;
@@ -280,8 +280,8 @@ module _ (r : Raw) (ok : formed r ≡ true) where
         run = record {
           start = st .run .start;
           count = omega (arith, length-append (s .run .retained) es, st .run .count, many);
-          shot = st .run .shot;
-          shot-keys = st .run .shot-keys;
+          snapshot = st .run .snapshot;
+          snapshot-keys = st .run .snapshot-keys;
         };
         tail = st .tail;
         marks = st .marks;

@@ -17,6 +17,7 @@ ghost use Rattle.state_cache.specs.State.{raw};
 ghost use Rattle.state_cache.specs.Run.{outcome, run, indexSaid};
 ghost use Rattle.internal_storage.specs.Replies.{appendSaid, maybeIndexSaid, withIndexOnly};
 
+// One entry into the batch. A batch that is full with it is flushed, and the reply then says what was.
 pub fn append_entry_with_batching(
     index: IndexRecord,
     log: &mut [u64],
@@ -39,6 +40,7 @@ pub fn append_entry_with_batching(
     super::inner::append::append_entry_with_batching(index, log, snapshot, key, said)
 }
 
+// The entries that the words lend, into the batch, as one.
 pub fn append_entries_with_batching(
     index: IndexRecord,
     log: &mut [u64],
@@ -58,6 +60,7 @@ pub fn append_entries_with_batching(
     super::inner::append::append_entries_with_batching(index, log, snapshot, entries)
 }
 
+// The batch is flushed, then the entries that the words lend stand after it. The reply is the accepted index.
 pub fn append_entries_without_batching(
     index: IndexRecord,
     log: &mut [u64],
@@ -77,6 +80,7 @@ pub fn append_entries_without_batching(
     super::inner::append::append_entries_without_batching(index, log, snapshot, entries)
 }
 
+// As `append_entries_with_batching`, with the accepted index alone for a reply, and nothing where none was flushed.
 pub fn append_entries_and_get_accepted_idx(
     index: IndexRecord,
     log: &mut [u64],

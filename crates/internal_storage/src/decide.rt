@@ -11,6 +11,7 @@ ghost use Rattle.model.specs.Calls.{decide, setPromise};
 ghost use Rattle.state_cache.specs.State.{raw};
 ghost use Rattle.state_cache.specs.Run.{outcome, run, settled};
 
+// Moves the decided index up: refused with 5 where it would go back, and with 6 past the accepted index.
 pub fn set_decided_idx(
     index: IndexRecord,
     log: &[u64],
@@ -29,6 +30,7 @@ pub fn set_decided_idx(
     super::inner::decide::set_decided_idx(index, log, snapshot, idx)
 }
 
+// Keeps the ballot that was promised, whatever it was before.
 pub fn set_promise(index: IndexRecord, log: &[u64], snapshot: &[u64], n_prom: Ballot) -> SettledAt
     ensures { λ r. ⌜ outcome (settled (r .answer)) (raw (r .index) (now (log .entry)) (now (snapshot .entry)))
         ≡ run (setPromise «n_prom») true (raw index (now (log .entry)) (now (snapshot .entry))) ⌝ }

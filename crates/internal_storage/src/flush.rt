@@ -12,6 +12,7 @@ ghost use Rattle.state_cache.specs.State.{raw};
 ghost use Rattle.state_cache.specs.Run.{outcome, run, indexSaid};
 ghost use Rattle.internal_storage.specs.Replies.{appendSaid};
 
+// Flushes the batch; the reply is the accepted index after it.
 pub fn flush_batch(index: IndexRecord, log: &[u64], snapshot: &[u64]) -> IndexAnswerAt
     ensures { λ r. ⌜ outcome (indexSaid (r .answer)) (raw (r .index) (now (log .entry)) (now (snapshot .entry)))
         ≡ run flush true (raw index (now (log .entry)) (now (snapshot .entry))) ⌝ }
@@ -25,6 +26,7 @@ pub fn flush_batch(index: IndexRecord, log: &[u64], snapshot: &[u64]) -> IndexAn
     super::inner::flush::flush_batch(index, log, snapshot)
 }
 
+// Flushes the batch; the reply says how many entries that were, or that there was none.
 pub fn flush_batch_and_get_entries(index: IndexRecord, log: &[u64], snapshot: &[u64]) -> AppendedAt
     ensures { λ r. ⌜ outcome (appendSaid (r .answer)) (raw (r .index) (now (log .entry)) (now (snapshot .entry)))
         ≡ run flushEntries true (raw index (now (log .entry)) (now (snapshot .entry))) ⌝ }

@@ -13,6 +13,7 @@ ghost use Rattle.state_cache.specs.State.{raw};
 ghost use Rattle.state_cache.specs.Run.{outcome, run, indexSaid};
 ghost use Rattle.internal_storage.specs.Replies.{appendSaid, asked};
 
+// Flushes the batch and holds the stop-sign after it; the reply says what was flushed, as that of an append.
 pub fn append_stopsign(
     index: IndexRecord,
     log: &[u64],

@@ -109,7 +109,7 @@ pub record Formed (s : Log) : Type 0 where
   pub numbers : Sound (numbersOf s)
   pub entries : entriesFormed (s .run .retained) ≡ true
   pub batch : entriesFormed (s .tail .batched) ≡ true
-  pub shot : ifGiven keysFormed (s .run .held) ≡ true
+  pub snapshot : ifGiven keysFormed (s .run .held) ≡ true
   pub stop : ifGiven signFormed (s .tail .sign) ≡ true
 
 pub formed-of : (s : Log) → wellFormed s ≡ true → Formed s
@@ -122,7 +122,7 @@ formed-of s e =
       numbers = sound-of (numbersOf s) (and-left _ _ e);
       entries = and-left _ _ e₁;
       batch = and-left _ _ e₂;
-      shot = and-left _ _ e₃;
+      snapshot = and-left _ _ e₃;
       stop = and-right (ifGiven keysFormed (s .run .held)) _ e₃;
     }
 
@@ -131,30 +131,30 @@ unfolding wellFormed
 of-formed s f =
     both-true (numbersFormed (numbersOf s)) _ (of-sound (numbersOf s) (f .numbers))
     (both-true (entriesFormed (s .run .retained)) _ (f .entries)
-    (both-true (entriesFormed (s .tail .batched)) _ (f .batch) (both-true (ifGiven keysFormed (s .run .held)) _ (f .shot) (f .stop))))
+    (both-true (entriesFormed (s .tail .batched)) _ (f .batch) (both-true (ifGiven keysFormed (s .run .held)) _ (f .snapshot) (f .stop))))
 
 -- ---- snapshots: the one held, and those made from it
 
-pub record Shot (t : List Change) : Type 0 where
+pub record Snapshot (t : List Change) : Type 0 where
   pub rises : rising t ≡ true
   pub fine : entriesFormed t ≡ true
 
-pub shot-held : (h : Option (List Change)) → ifGiven keysFormed h ≡ true → Shot (orEmpty h)
+pub snapshot-held : (h : Option (List Change)) → ifGiven keysFormed h ≡ true → Snapshot (orEmpty h)
 unfolding keysFormed rising allOf
-shot-held none e = record { rises = refl; fine = refl }
-shot-held (some t) e =
+snapshot-held none e = record { rises = refl; fine = refl }
+snapshot-held (some t) e =
     let q = and-right (rising t) (leb (length t) keyRoom && entriesFormed t) e in
     record { rises = and-left (rising t) (leb (length t) keyRoom && entriesFormed t) e; fine = and-right (leb (length t) keyRoom) (entriesFormed t) q }
 
-pub shot-merge : (t r : List Change) → Shot t → entriesFormed r ≡ true → Shot (merge t r)
-shot-merge t r a b = record { rises = merge-rises t r (a .rises); fine = formed-merge t r (a .fine) b }
+pub snapshot-merge : (t r : List Change) → Snapshot t → entriesFormed r ≡ true → Snapshot (merge t r)
+snapshot-merge t r a b = record { rises = merge-rises t r (a .rises); fine = formed-merge t r (a .fine) b }
 
-pub of-shot : (t : List Change) → Shot t → length t ≤ keyRoom → keysFormed t ≡ true
+pub of-snapshot : (t : List Change) → Snapshot t → length t ≤ keyRoom → keysFormed t ≡ true
 unfolding keysFormed
-of-shot t a h = both-true (rising t) _ (a .rises) (both-true (leb (length t) keyRoom) (entriesFormed t) (le-leb (length t) keyRoom h) (a .fine))
+of-snapshot t a h = both-true (rising t) _ (a .rises) (both-true (leb (length t) keyRoom) (entriesFormed t) (le-leb (length t) keyRoom h) (a .fine))
 
-pub shot-folded : (i : ℕ) (s : Log) → Formed s → Shot (foldedTo i (s .run))
+pub snapshot-folded : (i : ℕ) (s : Log) → Formed s → Snapshot (foldedTo i (s .run))
 unfolding foldedTo
-shot-folded i s f =
-    shot-merge (orEmpty (s .run .held)) (take (i - s .run .compacted) (s .run .retained)) (shot-held (s .run .held) (f .shot))
+snapshot-folded i s f =
+    snapshot-merge (orEmpty (s .run .held)) (take (i - s .run .compacted) (s .run .retained)) (snapshot-held (s .run .held) (f .snapshot))
     (all-take changeFormed (i - s .run .compacted) (s .run .retained) (f .entries))

@@ -1,4 +1,4 @@
--- Every call leaves a well-formed state well entriesFormed: so refusal 12 is given to no state that a fresh log comes to.
+-- Every call leaves a well-formed state well formed: so refusal 12 is given to no state that a fresh log comes to.
 use Prim.Native.Nat.{ℕ, _+_, _-_, _≤_, min, max}
 use mathlib.Core.Path.{_≡_, refl}
 use mathlib.Core.Bool.{Bool, true, false, _&&_}
@@ -27,7 +27,7 @@ use Rattle.model.specs.Compact.{target, passesStart, foldedUpto, snapsho
 use Rattle.model.specs.Diff.{Given, plain, complete, delta}
 use Rattle.model.specs.Sync.{Part, partFormed, deltaOnto, runThen, partNumberGuards, partGuards, roundGuards, partSynced}
 use Rattle.model.specs.Calls.{Call, query, append, appendNow, flush, flushEntries, appendStop, setStop, setPromise, decide, trim, snapshot, sync, reload, write, malformed, decideGuards, syncGuards, further, guards, synced, effect, after, stateAfter}
-use Rattle.model.proofs.Forms.{log-min, Formed, formed-of, of-formed, shot-held, shot-merge, of-shot, shot-folded}
+use Rattle.model.proofs.Forms.{log-min, Formed, formed-of, of-formed, snapshot-held, snapshot-merge, of-snapshot, snapshot-folded}
 
 -- log-decided is decided, or one less
 pub log-near : (n : Numbers) → (n .decided ≤ logDecided n + 1) × (logDecided n ≤ n .decided)
@@ -91,7 +91,7 @@ module _ (s : Log) (f : Formed s) where
         };
         entries = all-join changeFormed (s .run .retained) new (f .entries) a;
         batch = b;
-        shot = f .shot;
+        snapshot = f .snapshot;
         stop = f .stop;
       }
 
@@ -112,7 +112,7 @@ module _ (s : Log) (f : Formed s) where
         };
         entries = f .entries;
         batch = all;
-        shot = f .shot;
+        snapshot = f .snapshot;
         stop = f .stop;
       })
     where
@@ -156,7 +156,7 @@ module _ (s : Log) (f : Formed s) where
     };
     entries = f .entries;
     batch = nothing-formed;
-    shot = f .shot;
+    snapshot = f .snapshot;
     stop = f .stop;
   }
 
@@ -176,7 +176,7 @@ module _ (s : Log) (f : Formed s) where
         };
         entries = f .entries;
         batch = f .batch;
-        shot = f .shot;
+        snapshot = f .snapshot;
         stop = w;
       }
 
@@ -196,7 +196,7 @@ module _ (s : Log) (f : Formed s) where
     };
     entries = f .entries;
     batch = f .batch;
-    shot = f .shot;
+    snapshot = f .snapshot;
     stop = f .stop;
   }
 
@@ -223,20 +223,20 @@ module _ (s : Log) (f : Formed s) where
         };
         entries = all-drop changeFormed (to - s .run .compacted) (s .run .retained) (f .entries);
         batch = f .batch;
-        shot = w e;
+        snapshot = w e;
         stop = f .stop;
       })
       (λ e. f)
 
   trim-keeps : (upto : Option ℕ) → Formed (trimmedTo upto s)
   unfolding trimmedTo
-  trim-keeps upto = moved-keeps upto (s .run .held) (λ e. f .shot)
+  trim-keeps upto = moved-keeps upto (s .run .held) (λ e. f .snapshot)
 
   snapshot-keeps : (upto : Option ℕ) → Clear (snapshotGuards upto s) → Formed (snapshotTo upto s)
   unfolding snapshotTo snapshotGuards foldedUpto
   snapshot-keeps upto clr =
       let all : List Change = foldedTo (target upto (numbersOf s)) (s .run) in
-      moved-keeps upto (some all) (λ e. of-shot all (shot-folded _ s f) (ltb-false keyRoom (length all) (rw e at (clr 8))))
+      moved-keeps upto (some all) (λ e. of-snapshot all (snapshot-folded _ s f) (ltb-false keyRoom (length all) (rw e at (clr 8))))
 
   -- the whole record of a sync with a log part: where the run starts, how long it is, and what is held before it
   part-formed : (b : Ballot) (d : ℕ) (p : Part) → entriesFormed (runThen p s .retained) ≡ true → ifGiven keysFormed (runThen p s .held) ≡ true → ifGiven signFormed (p .stop) ≡ true
@@ -257,7 +257,7 @@ module _ (s : Log) (f : Formed s) where
     };
     entries = fr;
     batch = f .batch;
-    shot = fh;
+    snapshot = fh;
     stop = fz;
   }
 
@@ -272,7 +272,7 @@ module _ (s : Log) (f : Formed s) where
       let long : length (take (i - s .run .compacted) (s .run .retained) ++ es) ≡ i - s .run .compacted + length es = simp (length-append, length-take) (omega arith) in
       part-formed b d (part i plain es z)
       (all-join changeFormed (take (i - s .run .compacted) (s .run .retained)) es (all-take changeFormed (i - s .run .compacted) (s .run .retained) (f .entries)) v)
-      (f .shot)
+      (f .snapshot)
       (and-right (entriesFormed es) (ifGiven signFormed z) w)
       (omega arith)
       (omega (arith, f .numbers .low))
@@ -293,8 +293,8 @@ module _ (s : Log) (f : Formed s) where
       let base = foldedTo (logDecided (numbersOf s)) (s .run) in
       part-formed b d (part i (delta c) es z)
       (and-left (entriesFormed es) (ifGiven signFormed z) v)
-      (of-shot (deltaOnto c s)
-      (unfold deltaOnto in shot-merge base c (shot-folded (logDecided (numbersOf s)) s f) (shot-held (some c) (and-left (keysFormed c) _ w) .fine))
+      (of-snapshot (deltaOnto c s)
+      (unfold deltaOnto in snapshot-merge base c (snapshot-folded (logDecided (numbersOf s)) s f) (snapshot-held (some c) (and-left (keysFormed c) _ w) .fine))
       (ltb-false keyRoom (length (deltaOnto c s)) (clr 8)))
       (and-right (entriesFormed es) (ifGiven signFormed z) v)
       refl
@@ -329,7 +329,7 @@ stop-keeps g s f w clr =
       };
       entries = (unfold flushed in h .entries);
       batch = nothing-formed;
-      shot = f .shot;
+      snapshot = f .snapshot;
       stop = w;
     }
 
@@ -403,6 +403,6 @@ fresh-formed n h = of-formed (freshLog n) (facts n h)
           };
           entries = refl;
           batch = refl;
-          shot = refl;
+          snapshot = refl;
           stop = refl;
         }

@@ -34,7 +34,7 @@ use Rattle.model.proofs.Keeps.{part, unstopped, target-range, cleared, 
 pub record Agrees (r : Run) (h : List Change) : Type 0 where
   pub ends : length h ≡ r .compacted + length (r .retained)
   pub kept : r .retained ≡ drop (r .compacted) h
-  pub shot : orEmpty (r .held) ≡ fold (take (r .compacted) h)
+  pub snapshot : orEmpty (r .held) ≡ fold (take (r .compacted) h)
 
 -- a fold goes on from a fold
 fold-on : (r q : List Change) → fold (r ++ q) ≡ merge (fold r) q
@@ -46,7 +46,7 @@ module _ (r : Run) (h : List Change) (a : Agrees r h) where
   unfolding foldedTo
   folded-is i le =
       let e : r .compacted + (i - r .compacted) ≡ i = omega arith in
-      rw (a .shot, a .kept, ← fold-on (take (r .compacted) h) (take (i - r .compacted) (drop (r .compacted) h)), ← take-add (r .compacted) (i - r .compacted) h)
+      rw (a .snapshot, a .kept, ← fold-on (take (r .compacted) h) (take (i - r .compacted) (drop (r .compacted) h)), ← take-add (r .compacted) (i - r .compacted) h)
       (rw e)
 
   -- entries joined at the end
@@ -56,7 +56,7 @@ module _ (r : Run) (h : List Change) (a : Agrees r h) where
       record {
         ends = simp length-append (omega (arith, a .ends));
         kept = rw (drop-append-le (r .compacted) h es le, a .kept);
-        shot = rw (take-append-le (r .compacted) h es le) (a .shot);
+        snapshot = rw (take-append-le (r .compacted) h es le) (a .snapshot);
       }
 
   -- the start moved up, with what lies below it folded
@@ -67,7 +67,7 @@ module _ (r : Run) (h : List Change) (a : Agrees r h) where
       record {
         ends = simp length-drop (omega (arith, a .ends));
         kept = rw (a .kept, drop-drop (i - r .compacted) (r .compacted) h, e);
-        shot = folded-is i le;
+        snapshot = folded-is i le;
       }
 
   -- a plain sync
@@ -78,13 +78,13 @@ module _ (r : Run) (h : List Change) (a : Agrees r h) where
       record {
         ends = simp (length-append, length-take) (omega (arith, a .ends));
         kept = rw (drop-append-le (r .compacted) (take i h) es c, drop-take (r .compacted) i h, a .kept);
-        shot = rw (take-append-le (r .compacted) (take i h) es c, take-take (r .compacted) i h le) (a .shot);
+        snapshot = rw (take-append-le (r .compacted) (take i h) es c, take-take (r .compacted) i h le) (a .snapshot);
       }
 
 -- a snapshot that stands for a whole list
 replaced-agrees : (x es c : List Change) (i : ℕ) → length x ≡ i → c ≡ fold x → Agrees (record { compacted = i; retained = es; held = some c }) (x ++ es)
 replaced-agrees x es c i n e =
-    record { ends = simp length-append (omega arith); kept = rw (drop-at x es i n); shot = rw (take-at x es i n) e }
+    record { ends = simp length-append (omega arith); kept = rw (drop-at x es i n); snapshot = rw (take-at x es i n) e }
 
 -- a sync with a log part, by its snapshot
 part-agrees : (d i : ℕ) (g : Given) (es : List Change) (z : Option StopSign) (x : List Change) (s : Log) (h : List Change)
@@ -168,7 +168,7 @@ pub fresh-faithful : (n : ℕ) → n ≤ largestBatch → Faithful (fresh n)
 fresh-faithful n h = record { formed = (unfold fresh in fresh-formed n h); agrees = empty n }
   where
     empty : (n : ℕ) → Agrees (fresh n .log .run) (fresh n .history)
-    empty n = unfold fresh freshLog fold foldOnto in record { ends = refl; kept = refl; shot = refl }
+    empty n = unfold fresh freshLog fold foldOnto in record { ends = refl; kept = refl; snapshot = refl }
 
 -- Demand 3, last sentence: for every i from compacted to end, the held snapshot (empty if none) merged with the retained entries
 -- below i is the fold of the history's first i entries, both without room limit.

@@ -102,7 +102,7 @@ stepGuards n l (setRound b) m = []
 stepGuards n l (setSign t) m = []
 stepGuards n l (setSnapshot t) m = []
 
--- "after the last: 9; then 12 if the run's start isn't compacted or the state isn't well entriesFormed"
+-- "after the last: 9; then 12 if the run's start isn't compacted or the state isn't well formed"
 unfoldable pub lastGuards : Numbers → Midst → List Guard
 lastGuards n m =
     guard 9 (acceptedOf n) (ltb lastIndex (acceptedOf (numbersOf (m .log)) + length (m .log .tail .batched)))

@@ -95,18 +95,18 @@ unfolding endOf
 decided-few r g = omega (arith, log-min (numbersIn (r .index)) (g .numbers .high))
 
 -- the snapshot that is held, empty where none is
-shot-by : (b : Bool) (n : ℕ) (ws : List ℕ) → length (orEmpty (if b then some (entriesOf n ws) else none)) ≡ n → orEmpty (if b then some (entriesOf n ws) else none) ≡ entriesOf n ws
+snapshot-by : (b : Bool) (n : ℕ) (ws : List ℕ) → length (orEmpty (if b then some (entriesOf n ws) else none)) ≡ n → orEmpty (if b then some (entriesOf n ws) else none) ≡ entriesOf n ws
 unfolding entriesAt
-shot-by true n ws e = refl
-shot-by false n ws e = ap (λ (j : ℕ). entriesOf j ws) e
+snapshot-by true n ws e = refl
+snapshot-by false n ws e = ap (λ (j : ℕ). entriesOf j ws) e
 
 module _ (r : Raw) (g : Ready r) (k : ℕ) where
   abbrev below : ℕ
   below = logDecided (numbersIn (r .index)) - r .index .compacted .0
 
-  shot : orEmpty (logOf r .run .held) ≡ entriesOf (r .index .keys) (r .snapshot)
+  snapshot : orEmpty (logOf r .run .held) ≡ entriesOf (r .index .keys) (r .snapshot)
   unfolding logOf
-  shot = shot-by (r .index .«snapshot_held») (r .index .keys) (r .snapshot) (stands-of r (g .okay) .run .shot-keys)
+  snapshot = snapshot-by (r .index .«snapshot_held») (r .index .keys) (r .snapshot) (stands-of r (g .okay) .run .snapshot-keys)
 
   retained-is : take (logDecided (numbersOf (logOf r)) - logOf r .run .compacted) (logOf r .run .retained) ≡ entriesOf below (r .log)
   unfolding logOf
@@ -119,7 +119,7 @@ module _ (r : Raw) (g : Ready r) (k : ℕ) where
   look-answer y e =
       answer-is (lookup k) r (g .okay) refl refl y
       (e ∙ ap (λ (l : List Change). placeOf (orElse (lastOf k l) (find k (entriesOf (r .index .keys) (r .snapshot))))) (sym retained-is)
-      ∙ ap (λ (l : List Change). placeOf (orElse (lastOf k (take (logDecided (numbersOf (logOf r)) - logOf r .run .compacted) (logOf r .run .retained))) (find k l))) (sym shot))
+      ∙ ap (λ (l : List Change). placeOf (orElse (lastOf k (take (logDecided (numbersOf (logOf r)) - logOf r .run .compacted) (logOf r .run .retained))) (find k l))) (sym snapshot))
 
   -- d is log-decided, as the code has it
   module _ (d : ℕ) (q : d ≡ logDecided (numbersIn (r .index))) where
@@ -133,6 +133,6 @@ module _ (r : Raw) (g : Ready r) (k : ℕ) where
     unfolding orElse
     look-said x e = look-answer (placeOf (some x)) (ap (λ (o : Option Said). placeOf (orElse o (find k (entriesOf (r .index .keys) (r .snapshot))))) (last-is (some x) e))
 
-    pub look-shot : none ≡ lastOf k (entriesOf (d - r .index .compacted .0) (r .log)) → replied (placeOf (find k (entriesOf (r .index .keys) (r .snapshot)))) ≡ run (query (lookup k)) true r .answer
+    pub look-snapshot : none ≡ lastOf k (entriesOf (d - r .index .compacted .0) (r .log)) → replied (placeOf (find k (entriesOf (r .index .keys) (r .snapshot)))) ≡ run (query (lookup k)) true r .answer
     unfolding orElse
-    look-shot e = look-answer (placeOf (find k (entriesOf (r .index .keys) (r .snapshot)))) (ap (λ (o : Option Said). placeOf (orElse o (find k (entriesOf (r .index .keys) (r .snapshot))))) (last-is none e))
+    look-snapshot e = look-answer (placeOf (find k (entriesOf (r .index .keys) (r .snapshot)))) (ap (λ (o : Option Said). placeOf (orElse o (find k (entriesOf (r .index .keys) (r .snapshot))))) (last-is none e))

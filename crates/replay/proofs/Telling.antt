@@ -42,8 +42,8 @@ one-few true = omega arith
 one-few false = omega arith
 
 -- a snapshot's line counts the keys that its marker names
-pub shot-line : (i keys : ℕ) (snapshot : List ℕ) → lineOf (Snapshot i keys) ≡ lineOf (Snapshot i (length (entriesOf keys snapshot)))
-shot-line i keys snapshot = ap (λ (n : ℕ). lineOf (Snapshot i n)) (sym (entries-length changeCode keys snapshot))
+pub snapshot-line : (i keys : ℕ) (snapshot : List ℕ) → lineOf (Snapshot i keys) ≡ lineOf (Snapshot i (length (entriesOf keys snapshot)))
+snapshot-line i keys snapshot = ap (λ (n : ℕ). lineOf (Snapshot i n)) (sym (entries-length changeCode keys snapshot))
 
 -- a part of a log is no longer than the log
 pub part-few : (first count : ℕ) (ws : List ℕ) → length ws ≡ 2048 → length (part first count ws) ≤ 2048

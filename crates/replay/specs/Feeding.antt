@@ -29,7 +29,7 @@ outRoom = 2 * answerRoom
 abbrev pub lastStart : ℕ
 lastStart = outRoom - answerRoom
 
--- some bytes before what is printout
+-- some bytes before what is printed
 abbrev pub after : List ℕ → Printout → Printout
 after bs t = printout (bs ++ t .text) (t .after)
 

@@ -32,7 +32,7 @@ use Rattle.snapshot.proofs.Searching.{spot-at, spot-before, spot-inside
 use Rattle.snapshot.proofs.Finds.{find-absent, find-found}
 use Rattle.snapshot.proofs.Putting.{folded-keys, folded-refused, folded-over}
 
--- refusal 8, or the snapshot writtenBy out
+-- refusal 8, or the snapshot written out
 module _ (es : List Change) (out : List ℕ) where
   pub over-refused : keyRoom < length es → outcome (refusedBy TooManyKeys) out ≡ writtenBy (first (foldGuards es)) es out
   over-refused h = rw (first-refuses 8 0 (ltb keyRoom (length es)) [] (lt-ltb keyRoom (length es) h))

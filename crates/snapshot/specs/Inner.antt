@@ -53,13 +53,13 @@ pub record FoldIs (words : ℕ) (es : List Change) (r : Folded) (exit : List ℕ
   pub reply : r ≡ foldedIn words es
   pub words-are : length es * width ≤ words → exit ≡ stored words es
 
--- what a fold onto a snapshot, to be writtenBy to an output slice, needs of the three
+-- what a fold onto a snapshot, to be written to an output slice, needs of the three
 pub record Aside (kept : ℕ) (base : List ℕ) (n : ℕ) (entries out : List ℕ) : Type 0 where
   pub base-holds : Holds snapshotWords kept base
   pub entries-show : Shows n entries
   pub room : length out ≡ snapshotWords
 
--- what comes of it: refusal 8, or the fold writtenBy out
+-- what comes of it: refusal 8, or the fold written out
 abbrev pub foldWritten : List Change → List ℕ → Outcome
 foldWritten s out = writtenBy (first (foldGuards s)) s out
 

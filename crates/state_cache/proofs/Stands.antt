@@ -37,8 +37,8 @@ use Rattle.state_cache.specs.declared.IndexRecord.{IndexRecord}
 pub record SameRun (t : Run) (compacted retained : ℕ) (held : Bool) (keys : ℕ) : Type 0 where
   pub start : t .compacted ≡ compacted
   pub count : length (t .retained) ≡ retained
-  pub shot : given (t .held) ≡ held
-  pub shot-keys : length (orEmpty (t .held)) ≡ keys
+  pub snapshot : given (t .held) ≡ held
+  pub snapshot-keys : length (orEmpty (t .held)) ≡ keys
 
 pub record SameTail (t : Tail) (batched size : ℕ) (held : Bool) (stop : StopSign) : Type 0 where
   pub count : length (t .batched) ≡ batched
@@ -62,7 +62,7 @@ pub stands-raw : (t : Log) (x : Raw) → Stands t x → rawOf t ≡ x
 unfolding rawOf indexOf
 stands-raw t x s =
     fields _ _ _ _ _ _ _ _ _ _ _ _ _ (s .tail .sized) (s .run .count) (s .tail .count) (s .run .start) (s .marks .index) (s .marks .promised) (s .marks .rounded)
-    (s .run .shot) (s .run .shot-keys) (s .tail .stopped) (s .tail .sign) (s .log) (s .snapshot)
+    (s .run .snapshot) (s .run .snapshot-keys) (s .tail .stopped) (s .tail .sign) (s .log) (s .snapshot)
   where
     fields : (a b c d e : ℕ) (f g : Ballot) (h : Bool) (i : ℕ) (j : Bool) (k : StopSign) (l m : List ℕ)
         → a ≡ x .index .«batch_size» → b ≡ x .index .retained → c ≡ x .index .batched → d ≡ x .index .compacted .0 → e ≡ x .index .decided .0
@@ -99,9 +99,9 @@ none-formed : (ws : List ℕ) → blank snapshotWords ws ≡ snapshotFormed 0 ws
 unfolding blank snapshotFormed storedIn entriesAt rising allOf
 none-formed ws = sym (and-true (eqb (length ws) snapshotWords && allZero ws))
 
-pub shot-tests : (x : IndexRecord) (ws : List ℕ) → snapshotHeld x ws ≡ (snapshotFormed (x .keys) ws && (x .«snapshot_held» || eqb (x .keys) 0))
+pub snapshot-tests : (x : IndexRecord) (ws : List ℕ) → snapshotHeld x ws ≡ (snapshotFormed (x .keys) ws && (x .«snapshot_held» || eqb (x .keys) 0))
 unfolding snapshotHeld
-shot-tests x ws = go (x .«snapshot_held») (eqb (x .keys) 0) refl
+snapshot-tests x ws = go (x .«snapshot_held») (eqb (x .keys) 0) refl
   where
     kept : (a : Bool) → (a || false) ≡ (a && true)
     kept true = refl
@@ -123,7 +123,7 @@ unfolding formed
 facts-of r e =
     let e₁ = and-right (numbersFormed (numbersIn (r .index))) _ e in
     let e₂ = and-right (signHeld (r .index)) _ e₁ in
-    let e₃ = sym (shot-tests (r .index) (r .snapshot)) ∙ and-right (storedIn logWords (r .index .retained + r .index .batched) (r .log)) _ e₂ in
+    let e₃ = sym (snapshot-tests (r .index) (r .snapshot)) ∙ and-right (storedIn logWords (r .index .retained + r .index .batched) (r .log)) _ e₂ in
     record {
       ready = record {
         okay = e;
@@ -177,18 +177,18 @@ stop-by : (b : Bool) (g : StopSign) → ((b && signFormed g) || (not b && signBl
 stop-by true g e = refl
 stop-by false g e = sym (sign-blank g e)
 
-shot-by : (b : Bool) (n : ℕ) (ws : List ℕ) → (b || eqb n 0) ≡ true → orEmpty (if b then some (entriesOf n ws) else none) ≡ entriesOf n ws
-shot-by true n ws e = refl
-shot-by false n ws e = let z : n ≡ 0 = eqb-true n 0 e in rw z (unfold entriesAt in refl)
+snapshot-by : (b : Bool) (n : ℕ) (ws : List ℕ) → (b || eqb n 0) ≡ true → orEmpty (if b then some (entriesOf n ws) else none) ≡ entriesOf n ws
+snapshot-by true n ws e = refl
+snapshot-by false n ws e = let z : n ≡ 0 = eqb-true n 0 e in rw z (unfold entriesAt in refl)
 
 -- a well-formed state stands for its log
 module _ (r : Raw) (ok : formed r ≡ true) where
   f : Facts r
   f = facts-of r ok
 
-  shot-is : orEmpty (logOf r .run .held) ≡ entriesOf (r .index .keys) (r .snapshot)
+  snapshot-is : orEmpty (logOf r .run .held) ≡ entriesOf (r .index .keys) (r .snapshot)
   unfolding logOf
-  shot-is = shot-by (r .index .«snapshot_held») (r .index .keys) (r .snapshot) (f .none-held)
+  snapshot-is = snapshot-by (r .index .«snapshot_held») (r .index .keys) (r .snapshot) (f .none-held)
 
   entries-are : logOf r .run .retained ++ logOf r .tail .batched ≡ entriesOf (r .index .retained + r .index .batched) (r .log)
   unfolding logOf
@@ -199,8 +199,8 @@ module _ (r : Raw) (ok : formed r ≡ true) where
     run = record {
       start = unfold logOf in refl;
       count = unfold logOf in entries-length changeCode (r .index .retained) (r .log);
-      shot = unfold logOf in given-by (r .index .«snapshot_held») (entriesOf (r .index .keys) (r .snapshot));
-      shot-keys = ap length shot-is ∙ entries-length changeCode (r .index .keys) (r .snapshot);
+      snapshot = unfold logOf in given-by (r .index .«snapshot_held») (entriesOf (r .index .keys) (r .snapshot));
+      snapshot-keys = ap length snapshot-is ∙ entries-length changeCode (r .index .keys) (r .snapshot);
     };
     tail = record {
       count = unfold logOf in entries-length changeCode (r .index .batched) (drop (r .index .retained * width) (r .log));
@@ -210,7 +210,7 @@ module _ (r : Raw) (ok : formed r ≡ true) where
     };
     marks = record { index = unfold logOf in refl; promised = unfold logOf in refl; rounded = unfold logOf in refl };
     log = rw entries-are (sym (laid-stored logWords (r .index .retained + r .index .batched) (r .log) (f .ready .log)));
-    snapshot = rw shot-is (sym (laid-stored snapshotWords (r .index .keys) (r .snapshot) (f .ready .snapshot .laid)));
+    snapshot = rw snapshot-is (sym (laid-stored snapshotWords (r .index .keys) (r .snapshot) (f .ready .snapshot .laid)));
   }
 
   pub raw-is : rawOf (logOf r) ≡ r
@@ -228,9 +228,9 @@ numbers-are t x s =
 
 -- ---- the log of a well-formed state is well formed
 
-shot-formed-by : (b : Bool) (t : List Change) → keysFormed t ≡ true → ifGiven keysFormed (if b then some t else none) ≡ true
-shot-formed-by true t e = e
-shot-formed-by false t e = refl
+snapshot-formed-by : (b : Bool) (t : List Change) → keysFormed t ≡ true → ifGiven keysFormed (if b then some t else none) ≡ true
+snapshot-formed-by true t e = e
+snapshot-formed-by false t e = refl
 
 sign-formed-by : (b : Bool) (g : StopSign) → ((b && signFormed g) || (not b && signBlank g)) ≡ true → ifGiven signFormed (if b then some g else none) ≡ true
 sign-formed-by true g e = go (signFormed g) e
@@ -240,9 +240,9 @@ sign-formed-by true g e = go (signFormed g) e
     go false e = e
 sign-formed-by false g e = refl
 
-shot-of : (r : Raw) → Ready r → keysFormed (entriesOf (r .index .keys) (r .snapshot)) ≡ true
+snapshot-of : (r : Raw) → Ready r → keysFormed (entriesOf (r .index .keys) (r .snapshot)) ≡ true
 unfolding keysFormed
-shot-of r g =
+snapshot-of r g =
     let t : List Change = entriesOf (r .index .keys) (r .snapshot) in
     let few : length t ≤ keyRoom = omega (arith, entries-length changeCode (r .index .keys) (r .snapshot), g .snapshot .laid .fits) in
     both-true (rising t) _ (g .snapshot .rises) (both-true (leb (length t) keyRoom) (entriesFormed t) (le-leb (length t) keyRoom few) (g .snapshot .laid .fine))
@@ -252,7 +252,7 @@ log-formed r ok = of-formed (logOf r) (record {
   numbers = rw (numbers-are (logOf r) r (stands-of r ok)) (g .ready .numbers);
   entries = all-left changeFormed (logOf r .run .retained) (logOf r .tail .batched) all;
   batch = all-right changeFormed (logOf r .run .retained) (logOf r .tail .batched) all;
-  shot = unfold logOf in shot-formed-by (r .index .«snapshot_held») (entriesOf (r .index .keys) (r .snapshot)) (shot-of r (g .ready));
+  snapshot = unfold logOf in snapshot-formed-by (r .index .«snapshot_held») (entriesOf (r .index .keys) (r .snapshot)) (snapshot-of r (g .ready));
   stop = unfold logOf in sign-formed-by (r .index .«stop_held») (r .index .stop) (unfold signHeld in g .sign);
 })
   where
@@ -276,15 +276,15 @@ keys-held : (o : Option (List Change)) → (given o || eqb (length (orEmpty o)) 
 keys-held none = refl
 keys-held (some t) = refl
 
-record ShotFacts (t : List Change) : Type 0 where
+record SnapshotFacts (t : List Change) : Type 0 where
   rises : rising t ≡ true
   few : length t ≤ keyRoom
   fine : entriesFormed t ≡ true
 
-shot-facts : (o : Option (List Change)) → ifGiven keysFormed o ≡ true → ShotFacts (orEmpty o)
+snapshot-facts : (o : Option (List Change)) → ifGiven keysFormed o ≡ true → SnapshotFacts (orEmpty o)
 unfolding keysFormed rising allOf
-shot-facts none e = record { rises = refl; few = omega arith; fine = refl }
-shot-facts (some t) e =
+snapshot-facts none e = record { rises = refl; few = omega arith; fine = refl }
+snapshot-facts (some t) e =
     let q = and-right (rising t) (leb (length t) keyRoom && entriesFormed t) e in
     record {
       rises = and-left (rising t) (leb (length t) keyRoom && entriesFormed t) e;
@@ -304,8 +304,8 @@ module _ (s : Log) (w : wellFormed s ≡ true) where
   h : Formed s
   h = formed-of s w
 
-  shot : ShotFacts (orEmpty (s .run .held))
-  shot = shot-facts (s .run .held) (h .shot)
+  snapshot : SnapshotFacts (orEmpty (s .run .held))
+  snapshot = snapshot-facts (s .run .held) (h .snapshot)
 
   log-stored : storedIn logWords (length (s .run .retained) + length (s .tail .batched)) (stored logWords (s .run .retained ++ s .tail .batched)) ≡ true
   log-stored =
@@ -320,9 +320,9 @@ module _ (s : Log) (w : wellFormed s ≡ true) where
       (both-true ((given (s .tail .sign) && signFormed (signOr (s .tail .sign))) || (not (given (s .tail .sign)) && signBlank (signOr (s .tail .sign)))) _
       (sign-held (s .tail .sign) (h .stop))
       (both-true (storedIn logWords (length (s .run .retained) + length (s .tail .batched)) (stored logWords (s .run .retained ++ s .tail .batched))) _ log-stored
-      (shot-tests (indexOf s) (stored snapshotWords (orEmpty (s .run .held)))
+      (snapshot-tests (indexOf s) (stored snapshotWords (orEmpty (s .run .held)))
       ∙ both-true (snapshotFormed (length (orEmpty (s .run .held))) (stored snapshotWords (orEmpty (s .run .held)))) _
-      (snapshot-stored (orEmpty (s .run .held)) (shot .few) (shot .fine) (shot .rises))
+      (snapshot-stored (orEmpty (s .run .held)) (snapshot .few) (snapshot .fine) (snapshot .rises))
       (keys-held (s .run .held)))))
 
   pub log-of-raw : logOf (rawOf s) ≡ s
@@ -335,7 +335,7 @@ module _ (s : Log) (w : wellFormed s ≡ true) where
       batched = entries-second changeCode changeOk logWords (s .run .retained) (s .tail .batched) (h .batch)
 
       held : (if given (s .run .held) then some (entriesOf (length (orEmpty (s .run .held))) (stored snapshotWords (orEmpty (s .run .held)))) else none) ≡ s .run .held
-      held = held-again (s .run .held) _ (stored-entries snapshotWords (orEmpty (s .run .held)) (shot .fine))
+      held = held-again (s .run .held) _ (stored-entries snapshotWords (orEmpty (s .run .held)) (snapshot .fine))
 
       fields : (a b : List Change) (k : Option (List Change)) (g : Option StopSign) → a ≡ s .run .retained → b ≡ s .tail .batched → k ≡ s .run .held → g ≡ s .tail .sign
           → _≡_ {A = Log} (record {

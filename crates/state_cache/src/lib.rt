@@ -108,6 +108,7 @@ pub fn load_cache(index: IndexRecord, log: &mut [u64], snapshot: &[u64]) -> Inde
     inner::reload(index, log, snapshot)
 }
 
+// The index after the last that is accepted: compacted, the retained entries, and the stop-sign where one is held.
 pub fn get_accepted_idx(index: IndexRecord, log: &[u64], snapshot: &[u64]) -> IndexAnswer
     ensures { λ r. ⌜ indexSaid r ≡ ofNumbers acceptedOf (raw index (now (log .entry)) (now (snapshot .entry))) ⌝ }
 {
@@ -133,6 +134,7 @@ pub fn get_decided_idx_without_stopsign(
     IndexAnswer::At(LogIndex(decided))
 }
 
+// Whether a stop-sign is held and the decided index counts it.
 pub fn stopsign_is_decided(index: IndexRecord, log: &[u64], snapshot: &[u64]) -> Flag
     ensures { λ r. ⌜ flag r ≡ ofNumbers stopDecided (raw index (now (log .entry)) (now (snapshot .entry))) ⌝ }
 {

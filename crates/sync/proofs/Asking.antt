@@ -48,8 +48,8 @@ and-none true = refl
 and-none false = refl
 
 -- a snapshot in its words is one of the model's in form, of either kind
-shot-formed : (k : SnapshotType) (n : ℕ) (ws : List ℕ) → (plainBy k ≡ false → Holds snapshotWords n ws) → ifGiven keysFormed (snapshotIn (givenBy k (entriesOf n ws))) ≡ true
-shot-formed k n ws h = go k h
+snapshot-formed : (k : SnapshotType) (n : ℕ) (ws : List ℕ) → (plainBy k ≡ false → Holds snapshotWords n ws) → ifGiven keysFormed (snapshotIn (givenBy k (entriesOf n ws))) ≡ true
+snapshot-formed k n ws h = go k h
   where
     fine : Holds snapshotWords n ws → keysFormed (entriesOf n ws) ≡ true
     fine l =
@@ -138,7 +138,7 @@ module _ (r : Raw) (ok : formed r ≡ true) (x : LogSync) (incoming suffix : Lis
         lent = lent;
         fine =
             both-true (ifGiven keysFormed (snapshotIn (givenBy (x .«decided_snapshot») (entriesOf (x .keys) incoming)))) _
-            (shot-formed (x .«decided_snapshot») (x .keys) incoming lent)
+            (snapshot-formed (x .«decided_snapshot») (x .keys) incoming lent)
             (rw (sign-is (x .«stop_held») (x .stopsign)) (rest-is true e));
       }
 

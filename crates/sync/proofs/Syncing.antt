@@ -39,7 +39,7 @@ use Rattle.state_cache.proofs.Runs.{call-refused, call-stands}
 use Rattle.state_cache.proofs.Changes.{log-spliced}
 use Rattle.internal_storage.specs.Replies.{asked}
 use Rattle.internal_storage.proofs.Effects.{numbers}
-use Rattle.compaction.proofs.Folding.{decided-high, shot-is, fold-is}
+use Rattle.compaction.proofs.Folding.{decided-high, snapshot-is, fold-is}
 use Rattle.sync.specs.Requests.{givenBy, plainBy, partBy, numbersBy}
 use Rattle.sync.specs.Inner.{snapshotThen, marked, keptBy, syncedIndex, Fits, Taken, Syncs}
 use Rattle.sync.specs.declared.LogSync.{LogSync}
@@ -167,23 +167,23 @@ module _ (r : Raw) (x : LogSync) (incoming suffix : List ℕ) (w : Syncs r x inc
     tested Delta h = ap (λ (u : List Change). first (foldGuards u)) (sym delta-is)
 
     module _ (a : Folded) (exit : List ℕ) (f : snapshotOutcome (folded a) exit ≡ foldWritten (snapshotThen kind held decided lent) (r .snapshot)) where
-      abbrev shot : List Change
-      shot = snapshotThen kind held decided lent
+      abbrev snapshot : List Change
+      snapshot = snapshotThen kind held decided lent
 
-      verdict : first (foldGuards shot) ≡ first (further c s)
+      verdict : first (foldGuards snapshot) ≡ first (further c s)
       verdict = tested kind (w .lent) ∙ sym (first-right gs last-guard pass) ∙ sym guards-are
 
       pub sync-over : (y : Refusal) → a ≡ Refused y → outcome (refusedBy y) (raw (r .index) (r .log) exit) ≡ run c true r
       sync-over y e =
-          let q = wrote-nothing (first (foldGuards shot)) shot (r .snapshot) exit a f y e in
+          let q = wrote-nothing (first (foldGuards snapshot)) snapshot (r .snapshot) exit a f y e in
           ap (λ (ws : List ℕ). outcome (refusedBy y) (raw (r .index) (r .log) ws)) (q .1)
           ∙ call-refused c r ok fine (numberOf y) (carriedOf y) (sym (q .0) ∙ verdict)
 
       -- ---- the state after it
 
       module _ (keys : ℕ) (e : a ≡ Keys keys) (z : IndexRecord) (words : List ℕ) (m : Taken x n keys (marked b d (r .index)) (r .log) suffix z words) where
-        wrote : (first (foldGuards shot) ≡ passes) × (keys ≡ length shot) × (exit ≡ stored snapshotWords shot)
-        wrote = wrote-keys (first (foldGuards shot)) shot (r .snapshot) exit a f keys e
+        wrote : (first (foldGuards snapshot) ≡ passes) × (keys ≡ length snapshot) × (exit ≡ stored snapshotWords snapshot)
+        wrote = wrote-keys (first (foldGuards snapshot)) snapshot (r .snapshot) exit a f keys e
 
         abbrev new : List Change
         new = entriesIn suffix
@@ -212,13 +212,13 @@ module _ (r : Raw) (x : LogSync) (incoming suffix : List ℕ) (w : Syncs r x inc
 
         holds : (k : SnapshotType) → given (runThen (partAs k) s .held) ≡ (r .index .«snapshot_held» || not (plainBy k))
         unfolding runThen
-        holds Plain = st .run .shot ∙ sym (or-not (r .index .«snapshot_held»))
+        holds Plain = st .run .snapshot ∙ sym (or-not (r .index .«snapshot_held»))
         holds Complete = sym (or-true (r .index .«snapshot_held»))
         holds Delta = sym (or-true (r .index .«snapshot_held»))
 
         shows : (k : SnapshotType) → orEmpty (runThen (partAs k) s .held) ≡ snapshotThen k held decided lent
         unfolding runThen
-        shows Plain = sym (shot-is r ok)
+        shows Plain = sym (snapshot-is r ok)
         shows Complete = refl
         shows Delta = delta-is
 
@@ -233,8 +233,8 @@ module _ (r : Raw) (x : LogSync) (incoming suffix : List ℕ) (w : Syncs r x inc
             count =
                 ap length (keeps kind) ∙ length-append (take (keptAs kind) (s .run .retained)) new
                 ∙ ap₂ (λ (i j : ℕ). i + j) (length-take-le (keptAs kind) (s .run .retained) few) (entries-length changeCode n suffix);
-            shot = holds kind;
-            shot-keys = ap length (shows kind) ∙ sym (wrote .1);
+            snapshot = holds kind;
+            snapshot-keys = ap length (shows kind) ∙ sym (wrote .1);
           };
           tail = record { count = st .tail .count; sized = st .tail .sized; stopped = given-by (x .«stop_held») (x .stopsign); sign = sign-by (x .«stop_held») (x .stopsign) };
           marks = record { index = ap (max d) (st .marks .index); promised = st .marks .promised; rounded = refl };

@@ -278,12 +278,12 @@ impl Calls {
                 let reply = plain::sync_log(*record, log, snapshot, round, LogIndex(decided), flag(held)?, part, second, entries);
                 Some(replies::number(replies::kept(record, reply)))
             }
-            [46, shot, keys, stop] => {
-                let reply = plain::write_list(*record, log, snapshot, entries, second, lent(shot, keys, stop)?, ops);
+            [46, held, keys, stop] => {
+                let reply = plain::write_list(*record, log, snapshot, entries, second, lent(held, keys, stop)?, ops);
                 Some(replies::settled(replies::kept(record, reply)))
             }
-            [47, shot, keys, stop] => {
-                let reply = plain::write_atomically(*record, log, snapshot, entries, second, lent(shot, keys, stop)?, ops);
+            [47, held, keys, stop] => {
+                let reply = plain::write_atomically(*record, log, snapshot, entries, second, lent(held, keys, stop)?, ops);
                 Some(replies::settled(replies::kept(record, reply)))
             }
             [48, index] => Some(replies::settled(plain::in_place_set_decided_idx(record, log, snapshot, LogIndex(index)))),

@@ -56,7 +56,7 @@ fn numbers_formed(record: &IndexRecord) -> bool {
 
 pub fn well_formed(state: &State) -> bool {
     let record = &state.record;
-    let shot = match record.snapshot_held {
+    let snapshot = match record.snapshot_held {
         true => snapshot_formed(&state.snapshot, record.keys),
         false => state.snapshot.len() == SNAPSHOT_WORDS && record.keys == 0 && zero(&state.snapshot),
     };
@@ -65,5 +65,5 @@ pub fn well_formed(state: &State) -> bool {
         false => record.stop == StopSign::default(),
     };
     let entries = record.retained as u128 + record.batched as u128;
-    numbers_formed(record) && stop && shot && state.log.len() == LOG_WORDS && held_formed(&state.log, entries)
+    numbers_formed(record) && stop && snapshot && state.log.len() == LOG_WORDS && held_formed(&state.log, entries)
 }

@@ -90,15 +90,15 @@ module _ {M : Type 1} (𝓤 : URA M) (H : Heap 𝓤) (A : Atoms 𝓤) (mem : Mem
   abbrev Run : Contract 𝓤
   Run = tripleOf 𝓤 H A write-list.signature (write-list.spec 𝓤 H A mem run)
 
-module _ {M : Type 1} (𝓤 : URA M) (H : Heap 𝓤) (A : Atoms 𝓤) (W : Given 𝓤 H A) (mem : Memory → SProp 𝓤) (run : Routine → Fun 𝓤) (κ κ₁ κ₂ κ₃ κ₄ : Lft) (q q₁ q₂ q₃ q₄ : Share) (r : IndexRecord) (log shot entries incoming : RefT (List ℕ)) (b : Lent) (ops : RefT (List Op)) where
+module _ {M : Type 1} (𝓤 : URA M) (H : Heap 𝓤) (A : Atoms 𝓤) (W : Given 𝓤 H A) (mem : Memory → SProp 𝓤) (run : Routine → Fun 𝓤) (κ κ₁ κ₂ κ₃ κ₄ : Lft) (q q₁ q₂ q₃ q₄ : Share) (r : IndexRecord) (log snapshot entries incoming : RefT (List ℕ)) (b : Lent) (ops : RefT (List Op)) where
   abbrev sv : {X : Type 0} → RefT (List X) → Val
   sv x = sliceVal (x .ptr) (length (x .now))
 
   abbrev x : IndexRecord × (RefT (List ℕ) × (RefT (List ℕ) × (RefT (List ℕ) × (RefT (List ℕ) × (Lent × (RefT (List Op) × Unit {0}))))))
-  x = (r, (log, (shot, (entries, (incoming, (b, (ops, tt)))))))
+  x = (r, (log, (snapshot, (entries, (incoming, (b, (ops, tt)))))))
 
   abbrev at : List Val × (List Val × (List Val × (List Val × (List Val × (List Val × (List Val × Unit {0}))))))
-  at = (vals r, (sv log ∷ [], (sv shot ∷ [], (sv entries ∷ [], (sv incoming ∷ [], (nvals b, (sv ops ∷ [], tt)))))))
+  at = (vals r, (sv log ∷ [], (sv snapshot ∷ [], (sv entries ∷ [], (sv incoming ∷ [], (nvals b, (sv ops ∷ [], tt)))))))
 
   abbrev Post : Val → SProp 𝓤
   Post = walkOf 𝓤 H A f.ended stayed (f.clauses 𝓤 H A mem run) .post (((κ, (κ₁, (κ₂, (κ₃, (κ₄, tt))))), (q, (q₁, (q₂, (q₃, (q₄, tt))))), tt, x, at), tt)
@@ -109,8 +109,8 @@ module _ {M : Type 1} (𝓤 : URA M) (H : Heap 𝓤) (A : Atoms 𝓤) (W : Given
   abbrev OwnLog : Fml
   OwnLog = MutSlice (named 0) κ u64 .own log (sv log ∷ [])
 
-  abbrev OwnShot : Fml
-  OwnShot = MutSlice (named 1) κ₁ u64 .own shot (sv shot ∷ [])
+  abbrev OwnSnapshot : Fml
+  OwnSnapshot = MutSlice (named 1) κ₁ u64 .own snapshot (sv snapshot ∷ [])
 
   abbrev OwnE : Fml
   OwnE = ShrSlice (named 2) κ₂ u64 .own entries (sv entries ∷ [])
@@ -141,10 +141,10 @@ module _ {M : Type 1} (𝓤 : URA M) (H : Heap 𝓤) (A : Atoms 𝓤) (W : Given
 
   -- ---- `write_list`
   abbrev args : OpList → IndexRecord × (RefT (List ℕ) × (RefT (List ℕ) × (RefT (List ℕ) × (RefT (List ℕ) × (Lent × (OpList × Unit {0}))))))
-  args l = (r, (log, (shot, (entries, (incoming, (b, (l, tt)))))))
+  args l = (r, (log, (snapshot, (entries, (incoming, (b, (l, tt)))))))
 
   abbrev argVals : OpList → List Val × (List Val × (List Val × (List Val × (List Val × (List Val × (List Val × Unit {0}))))))
-  argVals l = (vals r, (sv log ∷ [], (sv shot ∷ [], (sv entries ∷ [], (sv incoming ∷ [], (nvals b, (lvals l, tt)))))))
+  argVals l = (vals r, (sv log ∷ [], (sv snapshot ∷ [], (sv entries ∷ [], (sv incoming ∷ [], (nvals b, (lvals l, tt)))))))
 
   abbrev to-run : OpList → Run 𝓤 H A mem run .Ghost
   to-run l = (((κ, (κ₁, (κ₂, (κ₃, tt)))), (q, (q₁, (q₂, (q₃, tt)))), tt, args l, argVals l), tt)
@@ -155,10 +155,10 @@ module _ {M : Type 1} (𝓤 : URA M) (H : Heap 𝓤) (A : Atoms 𝓤) (W : Given
       join ! $ frame ! $ done !
 
   to-the-other : (l : OpList) → Is T.the-row r (vals r) → Is N.the-row b (nvals b) → Is L.the-row l (lvals l)
-      → ent 𝓤 (⋆ 𝓤 H A ((((((((‵ OwnI ⊛ ‵ OwnE) ⊛ ‵ OwnShot) ⊛ ‵ OwnLog) ⊛ ‵ (flft κ₃ q₃)) ⊛ ‵ (flft κ₂ q₂)) ⊛ ‵ (flft κ₁ q₁)) ⊛ ‵ (flft κ q)) ∷ []))
+      → ent 𝓤 (⋆ 𝓤 H A ((((((((‵ OwnI ⊛ ‵ OwnE) ⊛ ‵ OwnSnapshot) ⊛ ‵ OwnLog) ⊛ ‵ (flft κ₃ q₃)) ⊛ ‵ (flft κ₂ q₂)) ⊛ ‵ (flft κ₁ q₁)) ⊛ ‵ (flft κ q)) ∷ []))
       (sep 𝓤 (Run 𝓤 H A mem run .pre (to-run l)) (sep 𝓤 (sem 𝓤 H A OwnE) (sem 𝓤 H A OwnI)))
   to-the-other l isr isb isl =
-      qed W ((((((((‵ OwnI ⊛ ‵ OwnE) ⊛ ‵ OwnShot) ⊛ ‵ OwnLog) ⊛ ‵ (flft κ₃ q₃)) ⊛ ‵ (flft κ₂ q₂)) ⊛ ‵ (flft κ₁ q₁)) ⊛ ‵ (flft κ q)) ∷ []) ∵
+      qed W ((((((((‵ OwnI ⊛ ‵ OwnE) ⊛ ‵ OwnSnapshot) ⊛ ‵ OwnLog) ⊛ ‵ (flft κ₃ q₃)) ⊛ ‵ (flft κ₂ q₂)) ⊛ ‵ (flft κ₁ q₁)) ⊛ ‵ (flft κ q)) ∷ []) ∵
       split ! $ split ! $ split ! $ split ! $ split ! $ split ! $ split ! $
       -- [the incoming words; the entries; the snapshot; the log; the tokens of κ₃, κ₂, κ₁, κ]
       use1 W (‵ OwnI ⊛ ‵ OwnI) (shr-slice-copy 𝓤 H A W (named 3) κ₃ u64 .twice incoming (sv incoming ∷ [])) $ split ! $
@@ -175,17 +175,17 @@ module _ {M : Type 1} (𝓤 : URA M) (H : Heap 𝓤) (A : Atoms 𝓤) (W : Given
   abbrev Says : OpList → SettledAt → List ℕ → List ℕ → Type 0
   Says l d zs ws =
       outcome (settled (d .answer)) (rawIs (d .index) zs ws)
-      ≡ runIs (write (lentOf b (entries .now) (incoming .now)) (opsIn l)) (wholeList b (entries .now) (incoming .now) l) (rawIs r (log .now) (shot .now))
+      ≡ runIs (write (lentOf b (entries .now) (incoming .now)) (opsIn l)) (wholeList b (entries .now) (incoming .now) l) (rawIs r (log .now) (snapshot .now))
 
   asked : (d : SettledAt) (l : OpList) (zs ws : List ℕ) → l ≡ putAll noOps (ops .now) → Says l d zs ws
       → outcome (settled (d .answer)) (rawIs (d .index) zs ws)
-      ≡ runIs (write (lentOf b (entries .now) (incoming .now)) (map opOf (ops .now))) (wholeLent b (entries .now) (incoming .now)) (rawIs r (log .now) (shot .now))
-  asked d l zs ws el e = subst (λ (k : OpList). Says k d zs ws) el e ∙ gathered-run b (entries .now) (incoming .now) (ops .now) (rawIs r (log .now) (shot .now))
+      ≡ runIs (write (lentOf b (entries .now) (incoming .now)) (map opOf (ops .now))) (wholeLent b (entries .now) (incoming .now)) (rawIs r (log .now) (snapshot .now))
+  asked d l zs ws el e = subst (λ (k : OpList). Says k d zs ws) el e ∙ gathered-run b (entries .now) (incoming .now) (ops .now) (rawIs r (log .now) (snapshot .now))
 
-  exits : (d : SettledAt) (w : Val) (l : OpList) (zs ws : List ℕ) → l ≡ putAll noOps (ops .now) → Says l d zs ws → length zs ≡ length (log .now) → length ws ≡ length (shot .now)
-      → ent 𝓤 (⋆ 𝓤 H A (‵ (D.the-row .own d (w ∷ [])) ∷ (‵ (flft κ q) ⊛ ‵ (flft κ₁ q₁) ⊛ ‵ (flft κ₂ q₂) ⊛ ‵ (flft κ₃ q₃) ⊛ ‵ ftrue) ∷ ‵ (finally u64 (shot .name) ws) ∷ ‵ (finally u64 (log .name) zs) ∷ (‵ OwnE ⊛ ‵ OwnI) ∷ (‵ (flft κ₄ q₄) ⊛ ‵ ftrue) ∷ ‵ OwnOps ∷ ‵ OwnN ∷ ‵ OwnR ∷ [])) (Post w)
+  exits : (d : SettledAt) (w : Val) (l : OpList) (zs ws : List ℕ) → l ≡ putAll noOps (ops .now) → Says l d zs ws → length zs ≡ length (log .now) → length ws ≡ length (snapshot .now)
+      → ent 𝓤 (⋆ 𝓤 H A (‵ (D.the-row .own d (w ∷ [])) ∷ (‵ (flft κ q) ⊛ ‵ (flft κ₁ q₁) ⊛ ‵ (flft κ₂ q₂) ⊛ ‵ (flft κ₃ q₃) ⊛ ‵ ftrue) ∷ ‵ (finally u64 (snapshot .name) ws) ∷ ‵ (finally u64 (log .name) zs) ∷ (‵ OwnE ⊛ ‵ OwnI) ∷ (‵ (flft κ₄ q₄) ⊛ ‵ ftrue) ∷ ‵ OwnOps ∷ ‵ OwnN ∷ ‵ OwnR ∷ [])) (Post w)
   exits d w l zs ws el e len len₁ =
-      qed W (‵ (D.the-row .own d (w ∷ [])) ∷ (‵ (flft κ q) ⊛ ‵ (flft κ₁ q₁) ⊛ ‵ (flft κ₂ q₂) ⊛ ‵ (flft κ₃ q₃) ⊛ ‵ ftrue) ∷ ‵ (finally u64 (shot .name) ws) ∷ ‵ (finally u64 (log .name) zs) ∷ (‵ OwnE ⊛ ‵ OwnI) ∷ (‵ (flft κ₄ q₄) ⊛ ‵ ftrue) ∷ ‵ OwnOps ∷ ‵ OwnN ∷ ‵ OwnR ∷ []) ∵
+      qed W (‵ (D.the-row .own d (w ∷ [])) ∷ (‵ (flft κ q) ⊛ ‵ (flft κ₁ q₁) ⊛ ‵ (flft κ₂ q₂) ⊛ ‵ (flft κ₃ q₃) ⊛ ‵ ftrue) ∷ ‵ (finally u64 (snapshot .name) ws) ∷ ‵ (finally u64 (log .name) zs) ∷ (‵ OwnE ⊛ ‵ OwnI) ∷ (‵ (flft κ₄ q₄) ⊛ ‵ ftrue) ∷ ‵ OwnOps ∷ ‵ OwnN ∷ ‵ OwnR ∷ []) ∵
       suffices ! _ (ends-at 𝓤 H A f.ended stayed (f.clauses 𝓤 H A mem run) W (((κ, (κ₁, (κ₂, (κ₃, (κ₄, tt))))), (q, (q₁, (q₂, (q₃, (q₄, tt))))), tt, x, at), tt) w d (tt, (zs, (ws, (tt, (tt, (tt, (tt, tt))))))) (tt, (len, (len₁, (tt, (tt, (tt, (tt, tt)))))))) $
       says ! (asked d l zs ws el e) $
       -- the tokens
@@ -197,11 +197,11 @@ module _ {M : Type 1} (𝓤 : URA M) (H : Heap 𝓤) (A : Atoms 𝓤) (W : Given
       move ! (2 ∷ 0 ∷ []) $ fjoin ! $ move ! (2 ∷ 0 ∷ []) $ fjoin ! $ move ! (2 ∷ 0 ∷ []) $ fjoin ! $ done !
 
   module _ (C : Calls 𝓤 H) (Λ : Loops 𝓤 H) (fm : FmC 𝓤 H (W .laws) C) (known-gather : Triple 𝓤 (C #backend·inner·gather) (Gather 𝓤 H A mem run)) (known-run : Triple 𝓤 (C #backend·write-list) (Run 𝓤 H A mem run)) where
-    walk : Is T.the-row r (vals r) → Room u64 (length (log .now)) → Room u64 (length (shot .now)) → Room u64 (length (entries .now)) → Room u64 (length (incoming .now)) → Is N.the-row b (nvals b) → Room O.the-row (length (ops .now))
-        → ent 𝓤 (onEntry 𝓤 H A f.signature (κ, (κ₁, (κ₂, (κ₃, (κ₄, tt))))) (q, (q₁, (q₂, (q₃, (q₄, tt))))) x at) (WpFn 𝓤 H C Λ code.function (only (vals r) ∷ sv log ∷ sv shot ∷ sv entries ∷ sv incoming ∷ only (nvals b) ∷ sv ops ∷ []) Post)
+    walk : Is T.the-row r (vals r) → Room u64 (length (log .now)) → Room u64 (length (snapshot .now)) → Room u64 (length (entries .now)) → Room u64 (length (incoming .now)) → Is N.the-row b (nvals b) → Room O.the-row (length (ops .now))
+        → ent 𝓤 (onEntry 𝓤 H A f.signature (κ, (κ₁, (κ₂, (κ₃, (κ₄, tt))))) (q, (q₁, (q₂, (q₃, (q₄, tt))))) x at) (WpFn 𝓤 H C Λ code.function (only (vals r) ∷ sv log ∷ sv snapshot ∷ sv entries ∷ sv incoming ∷ only (nvals b) ∷ sv ops ∷ []) Post)
     walk isr g g₁ g₂ g₃ isb g₄ =
         qed W ((‵ (flft κ q) ⊛ ‵ (flft κ₁ q₁) ⊛ ‵ (flft κ₂ q₂) ⊛ ‵ (flft κ₃ q₃) ⊛ ‵ (flft κ₄ q₄) ⊛ ‵ ftrue) ∷ ‵ (owns (T.the-row ∷ MutSlice (named 0) κ u64 ∷ MutSlice (named 1) κ₁ u64 ∷ ShrSlice (named 2) κ₂ u64 ∷ ShrSlice (named 3) κ₃ u64 ∷ N.the-row ∷ ShrSlice (named 4) κ₄ O.the-row ∷ []) x at) ∷ []) ∵
-        enter ! C Λ code.function (only (vals r) ∷ sv log ∷ sv shot ∷ sv entries ∷ sv incoming ∷ only (nvals b) ∷ sv ops ∷ []) _ $
+        enter ! C Λ code.function (only (vals r) ∷ sv log ∷ sv snapshot ∷ sv entries ∷ sv incoming ∷ only (nvals b) ∷ sv ops ∷ []) _ $
         alloc1 ! (λ l₀. alloc1 ! (λ l₁. alloc1 ! (λ l₂. alloc1 ! (λ l₃. alloc1 ! (λ l₄. alloc1 ! (λ l₅. alloc1 ! (λ l₆. alloc1 ! (λ l₇. alloc1 ! (λ l₈. alloc1 ! (λ l₉. alloc1 ! (λ l₁₀. alloc1 ! (λ l₁₁. alloc1 ! (λ l₁₂. alloc0 ! $ params1 ! $
         pass1 ! (init ! 22 refl (LL.lawful T.the-type T′.the-laws 𝓤 H A W .typed r _ isr .0)) $ pass1 ! (init ! 20 refl (tt, (tt, (record { fits = g .0 }, tt)))) $ pass1 ! (init ! 18 refl (tt, (tt, (record { fits = g₁ .0 }, tt)))) $
         pass1 ! (init ! 16 refl (tt, (tt, (record { fits = g₂ .0 }, tt)))) $ pass1 ! (init ! 14 refl (tt, (tt, (record { fits = g₃ .0 }, tt)))) $ pass1 ! (init ! 12 refl (LL.lawful N.the-type N′.the-laws 𝓤 H A W .typed b _ isb .0)) $

@@ -7,6 +7,7 @@ use entry::LogIndex;
 ghost use mathlib.Core.Path.{_≡_};
 ghost use Rattle.backend.specs.Inner.{noOps, putOf, putAll};
 
+// A list of no operations.
 pub fn empty() -> OpList
     ensures { λ r. ⌜ r ≡ noOps ⌝ }
 {

@@ -99,7 +99,7 @@ fn run_ops(
     SettledAt { answer, index }
 }
 
-// All operations or none: they run on copies of the words, which are listWritten back where the whole list stands.
+// All operations or none: they run on copies of the words, which are written back where the whole list stands.
 pub fn write_at(
     before: IndexRecord,
     log: &mut [u64],

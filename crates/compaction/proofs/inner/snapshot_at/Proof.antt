@@ -10,7 +10,7 @@ use Rattle.entry.specs.Upto.{uptoOf}
 use Rattle.compaction.specs.Inner.{Up}
 use Rattle.compaction.proofs.Moving.{in-run, movable}
 use Rattle.compaction.proofs.Folding.{fold-needs}
-use Rattle.compaction.proofs.Shots.{shot-stays, shot-over, shot-moves}
+use Rattle.compaction.proofs.Snapshots.{snapshot-stays, snapshot-over, snapshot-moves}
 use borrow.Author.Needs.{needs}
 use Rattle.compaction.proofs.inner.snapshot_at.Statement.{statement}
 use Rattle.compaction.proofs.inner.snapshot_at.Tie as tie
@@ -52,14 +52,14 @@ returns : tie.Need-returns
 returns c =
     let w = c .before .before .before in
     let st = w .before .before .before in
-    shot-stays (stateAt st) (st .pre .okay) (uptoOf (st .args .upto)) _ (rw (c .before .way .given .1) at (w .reach-of .ensures))
+    snapshot-stays (stateAt st) (st .pre .okay) (uptoOf (st .args .upto)) _ (rw (c .before .way .given .1) at (w .reach-of .ensures))
 
 returns-2 : tie.Need-returns-2
 returns-2 c =
     let f = c .before .before .before .before .before in
     let k = told f in
     let st = startOf k in
-    shot-over (stateAt st) (st .pre .okay) (uptoOf (st .args .upto)) _ (up k) (f .fold-over .result) (f .fold-over .last .0) (f .fold-over .ensures) _ (c .before .folded .given .1)
+    snapshot-over (stateAt st) (st .pre .okay) (uptoOf (st .args .upto)) _ (up k) (f .fold-over .result) (f .fold-over .last .0) (f .fold-over .ensures) _ (c .before .folded .given .1)
 
 returns-3 : tie.Need-returns-3
 returns-3 c =
@@ -68,7 +68,7 @@ returns-3 c =
     let f = g .before .before .before .before in
     let k = told f in
     let st = startOf k in
-    shot-moves (stateAt st) (st .pre .okay) (uptoOf (st .args .upto)) _ (up k) (f .fold-over .result) (f .fold-over .last .0) (f .fold-over .ensures) _ (g .folded2 .given .1) (m .move-to .result) (m .move-to .last .1 .0) (m .move-to .ensures)
+    snapshot-moves (stateAt st) (st .pre .okay) (uptoOf (st .args .upto)) _ (up k) (f .fold-over .result) (f .fold-over .last .0) (f .fold-over .ensures) _ (g .folded2 .given .1) (m .move-to .result) (m .move-to .last .1 .0) (m .move-to .ensures)
 
 pub snapshot-at-spec : {M : Type 1} → statement M
 snapshot-at-spec =

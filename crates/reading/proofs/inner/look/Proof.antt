@@ -11,7 +11,7 @@ use Rattle.state_cache.specs.State.{raw}
 use Rattle.state_cache.proofs.Small.{sound-small}
 use Rattle.reading.specs.Newest.{NewestIs}
 use Rattle.reading.specs.declared.inner.Newest.the-variants.{At, Nowhere}
-use Rattle.reading.proofs.Looking.{decided-low, look-inside, look-said, look-shot}
+use Rattle.reading.proofs.Looking.{decided-low, look-inside, look-said, look-snapshot}
 use borrow.Author.Needs.{needs}
 use Rattle.reading.proofs.inner.look.Statement.{statement}
 use Rattle.reading.proofs.inner.look.Tie as tie
@@ -52,7 +52,7 @@ returns c =
     let n : NewestIs (st .args .key) (d .log-decided .result - st .args .index .compacted .0) (now (st .args .log)) Nowhere =
     rw (c .before .enum-told .given .1) at (e .newest-at .ensures) in
     c .look-up .ensures
-    ∙ look-shot (raw (st .args .index) (now (st .args .log)) (now (st .args .snapshot))) (st .pre) (st .args .key) (d .log-decided .result) (d .log-decided .ensures) (n .says)
+    ∙ look-snapshot (raw (st .args .index) (now (st .args .log)) (now (st .args .snapshot))) (st .pre) (st .args .key) (d .log-decided .result) (d .log-decided .ensures) (n .says)
 
 said-at-requires : tie.Need-said-at-requires
 said-at-requires c κs =

@@ -1,4 +1,4 @@
--- `replay::answer::append` meets its contract: the call's outcome is what is printout.
+-- `replay::answer::append` meets its contract: the call's outcome is what is printed.
 use denote.Ref.{now}
 use Rattle.state_cache.specs.State.{raw}
 use Rattle.internal_storage.specs.Replies.{appendSaid}

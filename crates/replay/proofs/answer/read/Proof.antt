@@ -1,4 +1,4 @@
--- `replay::answer::read` meets its contract: what the reply says is printout.
+-- `replay::answer::read` meets its contract: what the reply says is printed.
 use denote.Ref.{now}
 use Rattle.model.specs.Read.{included, excluded}
 use Rattle.state_cache.specs.State.{raw}

@@ -1,4 +1,4 @@
--- `replay::answer::snap` meets its contract: the call's outcome is what is printout.
+-- `replay::answer::snap` meets its contract: the call's outcome is what is printed.
 use Rattle.state_cache.specs.State.{raw}
 use Rattle.state_cache.specs.Run.{settled}
 use Rattle.replay.specs.Answering.{settledText, answering}

@@ -1,4 +1,4 @@
--- `replay::answer::step` meets its contract: what is printout is put.
+-- `replay::answer::step` meets its contract: what is printed is put.
 use Prim.Native.Nat.{ℕ}
 use mathlib.Core.Path.{ap, _∙_}
 use mathlib.Core.List.{List}

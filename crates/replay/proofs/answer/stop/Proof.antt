@@ -1,4 +1,4 @@
--- `replay::answer::stop` meets its contract: the call's outcome, and the accepted index after it, are what is printout.
+-- `replay::answer::stop` meets its contract: the call's outcome, and the accepted index after it, are what is printed.
 use mathlib.Core.Path.{ap, _∙_}
 use mathlib.Core.Bool.{true}
 use denote.Ref.{now}

@@ -1,4 +1,4 @@
--- `replay::answer::trim` meets its contract: the call's outcome is what is printout.
+-- `replay::answer::trim` meets its contract: the call's outcome is what is printed.
 use denote.Ref.{now}
 use Rattle.state_cache.specs.State.{raw}
 use Rattle.state_cache.specs.Run.{settled}

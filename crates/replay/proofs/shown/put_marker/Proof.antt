@@ -8,7 +8,7 @@ use native.Mathlib.Omega.{arith}
 use Rattle.reading.specs.Replies.{markerSaid}
 use Rattle.reading.specs.declared.Marker.{Marker}
 use Rattle.replay.specs.Answering.{markerText}
-use Rattle.replay.proofs.Telling.{shot-line}
+use Rattle.replay.proofs.Telling.{snapshot-line}
 use borrow.Author.Needs.{needs}
 use Rattle.replay.proofs.shown.put_marker.Statement.{statement}
 use Rattle.replay.proofs.shown.put_marker.Tie as tie
@@ -32,7 +32,7 @@ returns-3 c =
     let a = b .before .before .before .before .before .before .args in
     let front = take (a .at) (now (a .out)) in
     let k = b .before .before .before .marker2 .given .0 in
-    (b .put-line2 .ensures .0, λ (snapshot : List ℕ). b .put-line2 .ensures .1 ∙ ap (λ (l : List ℕ). front ++ l) (shot-line (k .0 .0) (k .1 .0) snapshot) ∙ sym (ap (λ (m : Marker). front ++ markerText (markerSaid snapshot m)) (b .before .before .before .marker2 .given .1)))
+    (b .put-line2 .ensures .0, λ (snapshot : List ℕ). b .put-line2 .ensures .1 ∙ ap (λ (l : List ℕ). front ++ l) (snapshot-line (k .0 .0) (k .1 .0) snapshot) ∙ sym (ap (λ (m : Marker). front ++ markerText (markerSaid snapshot m)) (b .before .before .before .marker2 .given .1)))
 
 pub put-marker-spec : {M : Type 1} → statement M
 put-marker-spec =

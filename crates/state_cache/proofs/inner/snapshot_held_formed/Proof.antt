@@ -3,7 +3,7 @@ use mathlib.Core.Path.{sym, ap, _∙_}
 use mathlib.Core.Bool.{Bool, _&&_, _||_}
 use denote.Ref.{now}
 use lib.Dec.{eqb}
-use Rattle.state_cache.proofs.Stands.{shot-tests}
+use Rattle.state_cache.proofs.Stands.{snapshot-tests}
 use borrow.Author.Needs.{needs}
 use Rattle.state_cache.proofs.inner.snapshot_held_formed.Statement.{statement}
 use Rattle.state_cache.proofs.inner.snapshot_held_formed.Tie as tie
@@ -12,7 +12,7 @@ returns : tie.Need-returns
 returns c =
     let k = c .before .before in
     let a = k .before .before .args in
-    ap (λ (t : Bool). t && (a .index .«snapshot_held» || eqb (a .index .keys) 0)) (k .snapshot-formed .ensures) ∙ sym (shot-tests (a .index) (now (a .snapshot)))
+    ap (λ (t : Bool). t && (a .index .«snapshot_held» || eqb (a .index .keys) 0)) (k .snapshot-formed .ensures) ∙ sym (snapshot-tests (a .index) (now (a .snapshot)))
 
 pub snapshot-held-formed-spec : {M : Type 1} → statement M
 snapshot-held-formed-spec = tie.close (tie.spec (λ c κs. search needs) returns)

@@ -130,15 +130,15 @@ module _ {M : Type 1} (𝓤 : URA M) (H : Heap 𝓤) (A : Atoms 𝓤) (W : Given
 roomy : (ops : List Op) (n : ℕ) → length ops ≡ 9 → Room O.the-row (length (take n ops))
 roomy ops n len = room-take O.the-row 9 n ops len (lit< tt, lit< tt)
 
-module _ {M : Type 1} (𝓤 : URA M) (H : Heap 𝓤) (A : Atoms 𝓤) (W : Given 𝓤 H A) (at-mem : Memory → SProp 𝓤) (run : Routine → Fun 𝓤) (κ κ₁ κ₂ κ₃ : Lft) (q q₁ q₂ q₃ : Share) (r : IndexRecord) (log shot entries incoming : RefT (List ℕ)) (b : Lent) (ops : List Op) (n : ℕ) where
+module _ {M : Type 1} (𝓤 : URA M) (H : Heap 𝓤) (A : Atoms 𝓤) (W : Given 𝓤 H A) (at-mem : Memory → SProp 𝓤) (run : Routine → Fun 𝓤) (κ κ₁ κ₂ κ₃ : Lft) (q q₁ q₂ q₃ : Share) (r : IndexRecord) (log snapshot entries incoming : RefT (List ℕ)) (b : Lent) (ops : List Op) (n : ℕ) where
   abbrev sv : RefT (List ℕ) → Val
   sv x = sliceVal (x .ptr) (length (x .now))
 
   abbrev x : IndexRecord × (RefT (List ℕ) × (RefT (List ℕ) × (RefT (List ℕ) × (RefT (List ℕ) × (Lent × (List Op × (ℕ × Unit {0})))))))
-  x = (r, (log, (shot, (entries, (incoming, (b, (ops, (n, tt))))))))
+  x = (r, (log, (snapshot, (entries, (incoming, (b, (ops, (n, tt))))))))
 
   abbrev at : List Val × (List Val × (List Val × (List Val × (List Val × (List Val × (List Val × (List Val × Unit {0})))))))
-  at = (vals r, (sv log ∷ [], (sv shot ∷ [], (sv entries ∷ [], (sv incoming ∷ [], (nvals b, (ovals ops, (vint w64 n ∷ [], tt))))))))
+  at = (vals r, (sv log ∷ [], (sv snapshot ∷ [], (sv entries ∷ [], (sv incoming ∷ [], (nvals b, (ovals ops, (vint w64 n ∷ [], tt))))))))
 
   abbrev Post : Val → SProp 𝓤
   Post = walkOf 𝓤 H A f.ended stayed (f.clauses 𝓤 H A at-mem run) .post (((κ, (κ₁, (κ₂, (κ₃, tt)))), (q, (q₁, (q₂, (q₃, tt)))), tt, x, at), tt)
@@ -149,8 +149,8 @@ module _ {M : Type 1} (𝓤 : URA M) (H : Heap 𝓤) (A : Atoms 𝓤) (W : Given
   abbrev OwnLog : Fml
   OwnLog = MutSlice (named 0) κ u64 .own log (sv log ∷ [])
 
-  abbrev OwnShot : Fml
-  OwnShot = MutSlice (named 1) κ₁ u64 .own shot (sv shot ∷ [])
+  abbrev OwnSnapshot : Fml
+  OwnSnapshot = MutSlice (named 1) κ₁ u64 .own snapshot (sv snapshot ∷ [])
 
   abbrev OwnE : Fml
   OwnE = ShrSlice (named 2) κ₂ u64 .own entries (sv entries ∷ [])
@@ -175,10 +175,10 @@ module _ {M : Type 1} (𝓤 : URA M) (H : Heap 𝓤) (A : Atoms 𝓤) (W : Given
   Slice α l γ k = ShrSlice (named 4) (α ∷ []) O.the-row .own (Ref l γ) (sliceVal (l, 0) k ∷ [])
 
   abbrev args : ℕ → GName → IndexRecord × (RefT (List ℕ) × (RefT (List ℕ) × (RefT (List ℕ) × (RefT (List ℕ) × (Lent × (RefT (List Op) × Unit {0}))))))
-  args l γ = (r, (log, (shot, (entries, (incoming, (b, (Ref l γ, tt)))))))
+  args l γ = (r, (log, (snapshot, (entries, (incoming, (b, (Ref l γ, tt)))))))
 
   abbrev argVals : ℕ → List Val × (List Val × (List Val × (List Val × (List Val × (List Val × (List Val × Unit {0}))))))
-  argVals l = (vals r, (sv log ∷ [], (sv shot ∷ [], (sv entries ∷ [], (sv incoming ∷ [], (nvals b, (sliceVal (l, 0) n ∷ [], tt)))))))
+  argVals l = (vals r, (sv log ∷ [], (sv snapshot ∷ [], (sv entries ∷ [], (sv incoming ∷ [], (nvals b, (sliceVal (l, 0) n ∷ [], tt)))))))
 
   abbrev to : ℕ → ℕ → GName → Callee 𝓤 H A at-mem run .Ghost
   to α l γ = (((κ, (κ₁, (κ₂, (κ₃, (α ∷ [], tt))))), (q, (q₁, (q₂, (q₃, (fullShare, tt))))), tt, args l γ, argVals l), tt)
@@ -190,10 +190,10 @@ module _ {M : Type 1} (𝓤 : URA M) (H : Heap 𝓤) (A : Atoms 𝓤) (W : Given
 
   -- the callee is passed the log, the snapshot and the operations, and copies of the rest
   apart : (α l : ℕ) (γ : GName) → Is T.the-row r (vals r) → Is N.the-row b (nvals b)
-      → ent 𝓤 (⋆ 𝓤 H A (((((((‵ (Slice α l γ n) ⊛ ‵ (flft (α ∷ []) fullShare)) ⊛ (‵ (flft κ q) ⊛ ‵ (flft κ₁ q₁) ⊛ ‵ (flft κ₂ q₂) ⊛ ‵ (flft κ₃ q₃) ⊛ ‵ ftrue)) ⊛ ‵ OwnI) ⊛ ‵ OwnE) ⊛ ‵ OwnShot) ⊛ ‵ OwnLog) ∷ []))
+      → ent 𝓤 (⋆ 𝓤 H A (((((((‵ (Slice α l γ n) ⊛ ‵ (flft (α ∷ []) fullShare)) ⊛ (‵ (flft κ q) ⊛ ‵ (flft κ₁ q₁) ⊛ ‵ (flft κ₂ q₂) ⊛ ‵ (flft κ₃ q₃) ⊛ ‵ ftrue)) ⊛ ‵ OwnI) ⊛ ‵ OwnE) ⊛ ‵ OwnSnapshot) ⊛ ‵ OwnLog) ∷ []))
       (sep 𝓤 (Callee 𝓤 H A at-mem run .pre (to α l γ)) (sep 𝓤 (sem 𝓤 H A OwnE) (sem 𝓤 H A OwnI)))
   apart α l γ isr isb =
-      qed W (((((((‵ (Slice α l γ n) ⊛ ‵ (flft (α ∷ []) fullShare)) ⊛ (‵ (flft κ q) ⊛ ‵ (flft κ₁ q₁) ⊛ ‵ (flft κ₂ q₂) ⊛ ‵ (flft κ₃ q₃) ⊛ ‵ ftrue)) ⊛ ‵ OwnI) ⊛ ‵ OwnE) ⊛ ‵ OwnShot) ⊛ ‵ OwnLog) ∷ []) ∵
+      qed W (((((((‵ (Slice α l γ n) ⊛ ‵ (flft (α ∷ []) fullShare)) ⊛ (‵ (flft κ q) ⊛ ‵ (flft κ₁ q₁) ⊛ ‵ (flft κ₂ q₂) ⊛ ‵ (flft κ₃ q₃) ⊛ ‵ ftrue)) ⊛ ‵ OwnI) ⊛ ‵ OwnE) ⊛ ‵ OwnSnapshot) ⊛ ‵ OwnLog) ∷ []) ∵
       split ! $ split ! $ split ! $ split ! $ split ! $ split ! $
       -- [the operations; α's token; the other tokens; the incoming words; the entries; the snapshot; the log]: the tokens in order
       move ! (2 ∷ []) $ split ! $ move ! (1 ∷ []) $ split ! $ move ! (1 ∷ []) $ split ! $ move ! (1 ∷ []) $ split ! $
@@ -211,12 +211,12 @@ module _ {M : Type 1} (𝓤 : URA M) (H : Heap 𝓤) (A : Atoms 𝓤) (W : Given
   abbrev Says : SettledAt → List ℕ → List ℕ → Type 0
   Says d zs ws =
       outcome (settled (d .answer)) (rawIs (d .index) zs ws)
-      ≡ runIs (write (lentOf b (entries .now) (incoming .now)) (map opOf (take n ops))) (wholeLent b (entries .now) (incoming .now)) (rawIs r (log .now) (shot .now))
+      ≡ runIs (write (lentOf b (entries .now) (incoming .now)) (map opOf (take n ops))) (wholeLent b (entries .now) (incoming .now)) (rawIs r (log .now) (snapshot .now))
 
-  exits : (d : SettledAt) (w : Val) (zs ws : List ℕ) → Says d zs ws → length zs ≡ length (log .now) → length ws ≡ length (shot .now)
-      → ent 𝓤 (⋆ 𝓤 H A (‵ (D.the-row .own d (w ∷ [])) ∷ (‵ (flft κ q) ⊛ ‵ (flft κ₁ q₁) ⊛ ‵ (flft κ₂ q₂) ⊛ ‵ (flft κ₃ q₃) ⊛ ‵ ftrue) ∷ ‵ (finally u64 (shot .name) ws) ∷ ‵ (finally u64 (log .name) zs) ∷ (‵ OwnE ⊛ ‵ OwnI) ∷ ‵ OwnCount ∷ ‵ OwnOps ∷ ‵ OwnN ∷ ‵ OwnR ∷ [])) (Post w)
+  exits : (d : SettledAt) (w : Val) (zs ws : List ℕ) → Says d zs ws → length zs ≡ length (log .now) → length ws ≡ length (snapshot .now)
+      → ent 𝓤 (⋆ 𝓤 H A (‵ (D.the-row .own d (w ∷ [])) ∷ (‵ (flft κ q) ⊛ ‵ (flft κ₁ q₁) ⊛ ‵ (flft κ₂ q₂) ⊛ ‵ (flft κ₃ q₃) ⊛ ‵ ftrue) ∷ ‵ (finally u64 (snapshot .name) ws) ∷ ‵ (finally u64 (log .name) zs) ∷ (‵ OwnE ⊛ ‵ OwnI) ∷ ‵ OwnCount ∷ ‵ OwnOps ∷ ‵ OwnN ∷ ‵ OwnR ∷ [])) (Post w)
   exits d w zs ws e len len₁ =
-      qed W (‵ (D.the-row .own d (w ∷ [])) ∷ (‵ (flft κ q) ⊛ ‵ (flft κ₁ q₁) ⊛ ‵ (flft κ₂ q₂) ⊛ ‵ (flft κ₃ q₃) ⊛ ‵ ftrue) ∷ ‵ (finally u64 (shot .name) ws) ∷ ‵ (finally u64 (log .name) zs) ∷ (‵ OwnE ⊛ ‵ OwnI) ∷ ‵ OwnCount ∷ ‵ OwnOps ∷ ‵ OwnN ∷ ‵ OwnR ∷ []) ∵
+      qed W (‵ (D.the-row .own d (w ∷ [])) ∷ (‵ (flft κ q) ⊛ ‵ (flft κ₁ q₁) ⊛ ‵ (flft κ₂ q₂) ⊛ ‵ (flft κ₃ q₃) ⊛ ‵ ftrue) ∷ ‵ (finally u64 (snapshot .name) ws) ∷ ‵ (finally u64 (log .name) zs) ∷ (‵ OwnE ⊛ ‵ OwnI) ∷ ‵ OwnCount ∷ ‵ OwnOps ∷ ‵ OwnN ∷ ‵ OwnR ∷ []) ∵
       suffices ! _ (ends-at 𝓤 H A f.ended stayed (f.clauses 𝓤 H A at-mem run) W (((κ, (κ₁, (κ₂, (κ₃, tt)))), (q, (q₁, (q₂, (q₃, tt)))), tt, x, at), tt) w d (tt, (zs, (ws, (tt, (tt, (tt, (tt, (tt, tt)))))))) (tt, (len, (len₁, (tt, (tt, (tt, (tt, (tt, tt))))))))) $
       says ! e $ move ! (1 ∷ []) $ frame ! $
       -- [the result; the last words of the snapshot and of the log; the entries and the incoming words; the count; the operations; what is lent; the record]
@@ -225,11 +225,11 @@ module _ {M : Type 1} (𝓤 : URA M) (H : Heap 𝓤) (A : Atoms 𝓤) (W : Given
       move ! (2 ∷ 0 ∷ []) $ fjoin ! $ move ! (2 ∷ 0 ∷ []) $ fjoin ! $ move ! (2 ∷ 0 ∷ []) $ fjoin ! $ done !
 
   module _ (C : Calls 𝓤 H) (Λ : Loops 𝓤 H) (fm : FmC 𝓤 H (W .laws) C) (known : Triple 𝓤 (C #callee) (Callee 𝓤 H A at-mem run)) where
-    walk : Is T.the-row r (vals r) → Room u64 (length (log .now)) → Room u64 (length (shot .now)) → Room u64 (length (entries .now)) → Room u64 (length (incoming .now)) → Is N.the-row b (nvals b) → Is Ops ops (ovals ops) → n < 2 ^ 64 → n ≤ 9
-        → ent 𝓤 (onEntry 𝓤 H A f.signature (κ, (κ₁, (κ₂, (κ₃, tt)))) (q, (q₁, (q₂, (q₃, tt)))) x at) (WpFn 𝓤 H C Λ code.function (only (vals r) ∷ sv log ∷ sv shot ∷ sv entries ∷ sv incoming ∷ only (nvals b) ∷ only (ovals ops) ∷ vint w64 n ∷ []) Post)
+    walk : Is T.the-row r (vals r) → Room u64 (length (log .now)) → Room u64 (length (snapshot .now)) → Room u64 (length (entries .now)) → Room u64 (length (incoming .now)) → Is N.the-row b (nvals b) → Is Ops ops (ovals ops) → n < 2 ^ 64 → n ≤ 9
+        → ent 𝓤 (onEntry 𝓤 H A f.signature (κ, (κ₁, (κ₂, (κ₃, tt)))) (q, (q₁, (q₂, (q₃, tt)))) x at) (WpFn 𝓤 H C Λ code.function (only (vals r) ∷ sv log ∷ sv snapshot ∷ sv entries ∷ sv incoming ∷ only (nvals b) ∷ only (ovals ops) ∷ vint w64 n ∷ []) Post)
     walk isr g g₁ g₂ g₃ isb iso gn small =
         qed W ((‵ (flft κ q) ⊛ ‵ (flft κ₁ q₁) ⊛ ‵ (flft κ₂ q₂) ⊛ ‵ (flft κ₃ q₃) ⊛ ‵ ftrue) ∷ ‵ (owns (T.the-row ∷ MutSlice (named 0) κ u64 ∷ MutSlice (named 1) κ₁ u64 ∷ ShrSlice (named 2) κ₂ u64 ∷ ShrSlice (named 3) κ₃ u64 ∷ N.the-row ∷ Ops ∷ usize ∷ []) x at) ∷ []) ∵
-        enter ! C Λ code.function (only (vals r) ∷ sv log ∷ sv shot ∷ sv entries ∷ sv incoming ∷ only (nvals b) ∷ only (ovals ops) ∷ vint w64 n ∷ []) _ $
+        enter ! C Λ code.function (only (vals r) ∷ sv log ∷ sv snapshot ∷ sv entries ∷ sv incoming ∷ only (nvals b) ∷ only (ovals ops) ∷ vint w64 n ∷ []) _ $
         alloc1 ! (λ l₀. alloc1 ! (λ l₁. alloc1 ! (λ l₂. alloc1 ! (λ l₃. alloc1 ! (λ l₄. alloc1 ! (λ l₅. alloc1 ! (λ l₆. alloc1 ! (λ l₇. alloc1 ! (λ l₈. alloc1 ! (λ l₉. alloc1 ! (λ l₁₀. alloc1 ! (λ l₁₁. alloc1 ! (λ l₁₂. alloc1 ! (λ l₁₃. alloc1 ! (λ l₁₄. alloc1 ! (λ l₁₅. alloc0 ! $ params1 ! $
         pass1 ! (init ! 28 refl (LL.lawful T.the-type T′.the-laws 𝓤 H A W .typed r _ isr .0)) $ pass1 ! (init ! 26 refl (tt, (tt, (record { fits = g .0 }, tt)))) $ pass1 ! (init ! 24 refl (tt, (tt, (record { fits = g₁ .0 }, tt)))) $
         pass1 ! (init ! 22 refl (tt, (tt, (record { fits = g₂ .0 }, tt)))) $ pass1 ! (init ! 20 refl (tt, (tt, (record { fits = g₃ .0 }, tt)))) $ pass1 ! (init ! 18 refl (LL.lawful N.the-type N′.the-laws 𝓤 H A W .typed b _ isb .0)) $

@@ -18,13 +18,13 @@ use Rattle.backend.proofs.inner.list.run_ops.Statement.{statement}
 use Rattle.backend.proofs.inner.list.run_ops.Tie as tie
 
 abbrev Inv-loop : tie.InvT-loop
-Inv-loop before log₀ shot₀ entries incoming lent n ops start₀ index₀ i₀ log shot start index i =
-    (i ≤ n) × (Kept (raw index log shot)
-    × Left (numbersIn before) (lentOf lent entries incoming) (drop i (map opOf (take n ops))) (midstOf start (raw index log shot))
-    (asked (raw before log₀ shot₀) (lentOf lent entries incoming) (map opOf (take n ops))) (end (raw before log₀ shot₀) (lentOf lent entries incoming) (map opOf (take n ops))))
+Inv-loop before log₀ snapshot₀ entries incoming lent n ops start₀ index₀ i₀ log snapshot start index i =
+    (i ≤ n) × (Kept (raw index log snapshot)
+    × Left (numbersIn before) (lentOf lent entries incoming) (drop i (map opOf (take n ops))) (midstOf start (raw index log snapshot))
+    (asked (raw before log₀ snapshot₀) (lentOf lent entries incoming) (map opOf (take n ops))) (end (raw before log₀ snapshot₀) (lentOf lent entries incoming) (map opOf (take n ops))))
 
 abbrev μ-loop : tie.MeasureT-loop
-μ-loop before log₀ shot₀ entries incoming lent n ops start₀ index₀ i₀ log shot start index i = n - i
+μ-loop before log₀ snapshot₀ entries incoming lent n ops start₀ index₀ i₀ log snapshot start index i = n - i
 
 abbrev S : Type 0
 S = tie.Start Inv-loop μ-loop

@@ -1,4 +1,4 @@
--- `backend::inner::list::write_at` meets its contract: the list runs on copies, which are listWritten back where it stands.
+-- `backend::inner::list::write_at` meets its contract: the list runs on copies, which are written back where it stands.
 use mathlib.Core.Path.{sym, ap, ap₂, _∙_}
 use mathlib.Core.List.{List}
 use Prim.Native.Nat.{ℕ}

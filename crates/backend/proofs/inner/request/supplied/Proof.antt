@@ -1,5 +1,5 @@
 -- `backend::inner::request::supplied` meets its contract: by the operation's kind.
-use Rattle.backend.proofs.Requests.{sign-supplied, shot-supplied}
+use Rattle.backend.proofs.Requests.{sign-supplied, snapshot-supplied}
 use borrow.Author.Needs.{needs}
 use Rattle.backend.proofs.inner.request.supplied.Statement.{statement}
 use Rattle.backend.proofs.inner.request.supplied.Tie as tie
@@ -33,7 +33,7 @@ returns-8 c =
 returns-9 : tie.Need-returns-9
 returns-9 c =
     let st = c .before .before .before .before in
-    shot-supplied (st .args .lent) (st .args .o) (c .before .before .enum-told9 .given .1)
+    snapshot-supplied (st .args .lent) (st .args .o) (c .before .before .enum-told9 .given .1)
 
 pub supplied-spec : {M : Type 1} → statement M
 supplied-spec =

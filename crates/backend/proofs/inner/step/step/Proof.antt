@@ -7,7 +7,7 @@ use Rattle.backend.specs.Ops.{lentOf}
 use Rattle.backend.specs.Inner.{midstOf}
 use Rattle.backend.specs.declared.OpKind.the-variants.{AppendEntries, AppendOnPrefix, SetPromise, SetDecidedIndex, SetAcceptedRound, SetCompactedIdx, Trim}
 use Rattle.backend.proofs.Requests.{long-incoming}
-use Rattle.backend.proofs.Goings.{goes-of, append-goes, on-prefix-goes, promise-goes, decided-goes, round-goes, compacted-goes, trimmed-goes, sign-done, shot-done}
+use Rattle.backend.proofs.Goings.{goes-of, append-goes, on-prefix-goes, promise-goes, decided-goes, round-goes, compacted-goes, trimmed-goes, sign-done, snapshot-done}
 use borrow.Author.Needs.{needs}
 use Rattle.backend.proofs.inner.step.step.Statement.{statement}
 use Rattle.backend.proofs.inner.step.step.Tie as tie
@@ -102,7 +102,7 @@ returns-9 c =
     let st = e .before .before .before .before .before .before .before .before in
     let a = st .args in
     rw (c .done6 .ensures)
-    (shot-done (a .start) (stateAt st) (st .pre .0) (numbersAt st) (a .lent) (now (a .entries)) (now (a .incoming)) (st .pre .1 .1 .0) (a .o) (e .enum-told9 .given .1) (st .pre .1 .1 .1) (c .before .keys-if .result) (p .write-snapshot .last .0) (c .before .keys-if .ensures) (p .write-snapshot .ensures))
+    (snapshot-done (a .start) (stateAt st) (st .pre .0) (numbersAt st) (a .lent) (now (a .entries)) (now (a .incoming)) (st .pre .1 .1 .0) (a .o) (e .enum-told9 .given .1) (st .pre .1 .1 .1) (c .before .keys-if .result) (p .write-snapshot .last .0) (c .before .keys-if .ensures) (p .write-snapshot .ensures))
 
 pub step-spec : {M : Type 1} → statement M
 step-spec =

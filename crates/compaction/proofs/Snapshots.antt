@@ -42,16 +42,16 @@ module _ (r : Raw) (ok : formed r ≡ true) (upto : Option ℕ) where
   unfolding further snapshotGuards
   both = refl
 
-  shot-stands : passes ≡ first (further (snapshot upto) s) → (x : Raw) → Stands (movedTo upto (some (foldedUpto upto s)) s) x → outcome (replied tt) x ≡ run (snapshot upto) true r
+  snapshot-stands : passes ≡ first (further (snapshot upto) s) → (x : Raw) → Stands (movedTo upto (some (foldedUpto upto s)) s) x → outcome (replied tt) x ≡ run (snapshot upto) true r
   unfolding malformed effect snapshotTo replyOf
-  shot-stands v x p = call-stands (snapshot upto) r ok refl v tt x refl p
+  snapshot-stands v x p = call-stands (snapshot upto) r ok refl v tt x refl p
 
-  pub shot-stays : (a : Settled) → Stay upto (r .index) a → outcome (settled a) r ≡ run (snapshot upto) true r
+  pub snapshot-stays : (a : Settled) → Stay upto (r .index) a → outcome (settled a) r ≡ run (snapshot upto) true r
   unfolding malformed first
-  shot-stays Done p =
-      shot-stands (sym (past-goes-on r ok upto (snapshot upto) (foldGuards due) both (p .verdict) ∙ rw (not-past r ok upto (p .low refl)))) r
+  snapshot-stays Done p =
+      snapshot-stands (sym (past-goes-on r ok upto (snapshot upto) (foldGuards due) both (p .verdict) ∙ rw (not-past r ok upto (p .low refl)))) r
       (unmoved-stands r ok upto (p .low refl) (some (foldedUpto upto s)))
-  shot-stays (SettledRefused x) p =
+  snapshot-stays (SettledRefused x) p =
       call-refused (snapshot upto) r ok refl (numberOf x) (carriedOf x) (past-stops r ok upto (snapshot upto) (foldGuards due) both (numberOf x) (carriedOf x) (p .verdict))
 
   -- a fold of the entries below the target, with nothing folded after it
@@ -69,16 +69,16 @@ module _ (r : Raw) (ok : formed r ≡ true) (upto : Option ℕ) where
         past-goes-on r ok upto (snapshot upto) (foldGuards due) both (u .verdict)
         ∙ ap (λ (b : Bool). first (foldGuards (if b then foldedUpto upto s else []))) (is-past r ok upto to u)
 
-    pub shot-over : (x : Refusal) → a ≡ Refused x → outcome (refusedBy x) (raw (r .index) (r .log) exit) ≡ run (snapshot upto) true r
+    pub snapshot-over : (x : Refusal) → a ≡ Refused x → outcome (refusedBy x) (raw (r .index) (r .log) exit) ≡ run (snapshot upto) true r
     unfolding malformed
-    shot-over x p =
+    snapshot-over x p =
         let q = wrote-nothing (first (foldGuards (foldedUpto upto s))) (foldedUpto upto s) (r .snapshot) exit a wrote x p in
         ap (λ (ws : List ℕ). outcome (refusedBy x) (raw (r .index) (r .log) ws)) (q .1)
         ∙ call-refused (snapshot upto) r ok refl (numberOf x) (carriedOf x) (sym (verdict ∙ q .0))
 
-    pub shot-moves : (k : ℕ) → a ≡ Keys k → (y : IndexRecord) (words : List ℕ) → Moved to true k (r .index) (r .log) y words
+    pub snapshot-moves : (k : ℕ) → a ≡ Keys k → (y : IndexRecord) (words : List ℕ) → Moved to true k (r .index) (r .log) y words
         → outcome (replied tt) (raw y words exit) ≡ run (snapshot upto) true r
-    shot-moves k p y words m =
+    snapshot-moves k p y words m =
         let q = wrote-keys (first (foldGuards (foldedUpto upto s))) (foldedUpto upto s) (r .snapshot) exit a wrote k p in
-        shot-stands (sym (verdict ∙ q .0)) (raw y words exit)
+        snapshot-stands (sym (verdict ∙ q .0)) (raw y words exit)
         (moved-stands r ok upto to u true k y words m (some (foldedUpto upto s)) exit refl (sym (q .1)) (sym (q .2)))

@@ -44,7 +44,8 @@ unfolding formed
 ready-held r g =
     let e₁ = and-right (numbersFormed (numbersIn (r .index))) _ (g .okay) in
     let e₂ = and-right (signHeld (r .index)) _ e₁ in
-    let e₃ = sym (snapshot-tests (r .index) (r .snapshot)) ∙ and-right (storedIn logWords (r .index .retained + r .index .batched) (r .log)) _ e₂ in
+    let e₃ = sym (snapshot-tests (r .index) (r .snapshot))
+    ∙ and-right (storedIn logWords (r .index .retained + r .index .batched) (r .log)) _ e₂ in
     record { log = g .log; snapshot = g .snapshot; none-held = and-right (snapshotFormed (r .index .keys) (r .snapshot)) _ e₃; sign = and-left (signHeld (r .index)) _ e₁ }
 
 module _ (r : Raw) (h : Kept r) where
@@ -81,7 +82,8 @@ module _ (r : Raw) (h : Kept r) where
       ∙ ap (λ (n : ℕ). stored n (spliced at cut ns (entriesOf (r .index .retained + r .index .batched) (r .log)))) (h .log .long)
       ∙ ap (λ (es : List Change). stored logWords (spliced at cut ns es)) held-are
 
-  module _ (run : List Change) (words : List ℕ) (k : ℕ) (e : words ≡ stored logWords (run ++ batch)) (many : k ≡ length run) (fine : entriesFormed run ≡ true)
+  module _ (run : List Change) (words : List ℕ) (k : ℕ) (e : words ≡ stored logWords (run ++ batch))
+      (many : k ≡ length run) (fine : entriesFormed run ≡ true)
       (room : k + r .index .batched ≤ entryRoom) where
     abbrev x : Raw
     x = raw (withEntries k (r .index .batched) (r .index)) words (r .snapshot)
@@ -135,7 +137,8 @@ module _ (r : Raw) (h : Kept r) where
       counted : k ≡ length (take at kept ++ es)
       counted = omega (arith, length-append (take at kept) es, length-take at kept, kept-count)
 
-      pub put-log : logOf (raw (withEntries k (r .index .batched) (r .index)) words (r .snapshot)) ≡ withRun (retaining (take at (logOf r .run .retained) ++ es) (logOf r .run)) (logOf r)
+      pub put-log : logOf (raw (withEntries k (r .index .batched) (r .index)) words (r .snapshot))
+          ≡ withRun (retaining (take at (logOf r .run .retained) ++ es) (logOf r .run)) (logOf r)
       unfolding logOf
       put-log = rerun-log (take at kept ++ es) words k put-words counted put-fine room
 
@@ -159,13 +162,17 @@ module _ (r : Raw) (h : Kept r) where
 
     pub trim-log : logOf (raw (withEntries (r .index .retained - gone) (r .index .batched) (r .index)) words (r .snapshot)) ≡ withRun (retaining (drop below (logOf r .run .retained)) (logOf r .run)) (logOf r)
     unfolding logOf
-    trim-log = rerun-log (drop below kept) words (r .index .retained - gone) trim-words trim-count (all-drop changeFormed below kept kept-fine) trim-room
+    trim-log = rerun-log (drop below kept) words (r .index .retained - gone) trim-words trim-count
+        (all-drop changeFormed below kept kept-fine) trim-room
 
     pub trim-held : Kept (raw (withEntries (r .index .retained - gone) (r .index .batched) (r .index)) words (r .snapshot))
-    trim-held = rerun-held (drop below kept) words (r .index .retained - gone) trim-words trim-count (all-drop changeFormed below kept kept-fine) trim-room
+    trim-held = rerun-held (drop below kept) words (r .index .retained - gone) trim-words trim-count
+        (all-drop changeFormed below kept kept-fine) trim-room
 
 -- a slice cleared whole
-pub cleared : (ws : List ℕ) → length ws ≡ snapshotWords → paste ws 0 (replicate (snapshotWords - 0) 0) (snapshotWords - 0) ≡ replicate snapshotWords 0
+pub cleared : (ws : List ℕ) → length ws ≡ snapshotWords
+    → paste ws 0 (replicate (snapshotWords - 0) 0) (snapshotWords - 0) ≡ replicate snapshotWords 0
 cleared ws e =
     let k : length (replicate {A = ℕ} snapshotWords 0) ≡ snapshotWords = length-replicate {A = ℕ} snapshotWords 0 in
-    ap (λ (j : ℕ). paste ws 0 (replicate snapshotWords 0) j) (sym k) ∙ paste-all ws (replicate snapshotWords 0) (k ∙ sym e)
+    ap (λ (j : ℕ). paste ws 0 (replicate snapshotWords 0) j) (sym k)
+    ∙ paste-all ws (replicate snapshotWords 0) (k ∙ sym e)

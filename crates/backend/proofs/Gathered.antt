@@ -1,4 +1,5 @@
--- A lent slice of operations gathered into a list by value: up to eight are the list's, and a ninth makes it no request.
+-- A lent slice of operations gathered into a list by value: up to eight are the list's, and a ninth makes it no
+-- request.
 use Prim.Native.Nat.{ℕ, suc, _+_, _≤_, _<_}
 use mathlib.Core.Path.{_≡_, refl, sym, ap, ap₂, _∙_}
 use mathlib.Core.Bool.{Bool, true, false, _&&_}
@@ -27,7 +28,8 @@ record Holding (l : OpList) (os : List CodeOp) : Type 0 where
   count : l .count ≡ length os
   ops : take (l .count) (l .ops) ≡ os
 
-put-room : (l : OpList) (o : CodeOp) → l .count < mostOps → putOf l o ≡ record { count = l .count + 1; ops = set (l .ops) (l .count) o }
+put-room : (l : OpList) (o : CodeOp) → l .count < mostOps
+    → putOf l o ≡ record { count = l .count + 1; ops = set (l .ops) (l .count) o }
 unfolding putOf
 put-room l o h = rw (lt-ltb (l .count) mostOps h)
 
@@ -35,7 +37,8 @@ put-full : (l : OpList) (o : CodeOp) → mostOps ≤ l .count → putOf l o ≡ 
 unfolding putOf
 put-full l o h = rw (le-ltb (l .count) mostOps h)
 
-put-few : (l : OpList) (held os : List CodeOp) → length (l .ops) ≡ mostOps → Holding l held → length held + length os ≤ mostOps → Holding (putAll l os) (held ++ os)
+put-few : (l : OpList) (held os : List CodeOp) → length (l .ops) ≡ mostOps → Holding l held
+    → length held + length os ≤ mostOps → Holding (putAll l os) (held ++ os)
 unfolding putAll
 put-few l held [] long h few = rw (append-nil held) h
 put-few l held (o ∷ os) long h few =
@@ -51,12 +54,15 @@ put-few l held (o ∷ os) long h few =
       ops = rw (add-one (l .count)) (take-suc-set (l .ops) (l .count) o (omega (arith, h .count, long)) ∙ ap (λ (t : List CodeOp). t ++ (o ∷ [])) (h .ops));
     }
 
-put-many : (l : OpList) (os : List CodeOp) → l .count ≤ mostOps + 1 → mostOps < l .count + length os → putAll l os .count ≡ mostOps + 1
+put-many : (l : OpList) (os : List CodeOp) → l .count ≤ mostOps + 1 → mostOps < l .count + length os
+    → putAll l os .count ≡ mostOps + 1
 unfolding putAll
 put-many l [] h over = omega arith
 put-many l (o ∷ os) h over = elim (reach (suc (l .count)) mostOps) [
-  | reached few ↦ ap (λ (m : OpList). putAll m os .count) (put-room l o few) ∙ put-many (record { count = l .count + 1; ops = set (l .ops) (l .count) o }) os (omega arith) (omega arith)
-  | short full ↦ ap (λ (m : OpList). putAll m os .count) (put-full l o (omega arith)) ∙ put-many (record { count = mostOps + 1; ops = l .ops }) os (omega arith) (omega arith)
+  | reached few ↦ ap (λ (m : OpList). putAll m os .count) (put-room l o few)
+      ∙ put-many (record { count = l .count + 1; ops = set (l .ops) (l .count) o }) os (omega arith) (omega arith)
+  | short full ↦ ap (λ (m : OpList). putAll m os .count) (put-full l o (omega arith))
+      ∙ put-many (record { count = mostOps + 1; ops = l .ops }) os (omega arith) (omega arith)
 ]
 
 -- what the list by value comes to is what the slice does
@@ -75,28 +81,35 @@ module _ (b : CodeLent) (entries incoming : List ℕ) (os : List CodeOp) (r : Ra
   and-false true = refl
   and-false false = refl
 
-  few-run : length os ≤ mostOps → run (write lent (opsIn (putAll noOps os))) (wholeList b entries incoming (putAll noOps os)) r ≡ run (write lent (map opOf os)) whole r
+  few-run : length os ≤ mostOps → run (write lent (opsIn (putAll noOps os)))
+      (wholeList b entries incoming (putAll noOps os)) r ≡ run (write lent (map opOf os)) whole r
   few-run h =
       let g = put-few noOps [] os (length-replicate mostOps noOp) (record { count = refl; ops = refl }) (omega arith) in
       ap₂ (λ (ops : List CodeOp) (n : ℕ). run (write lent (map opOf ops)) (whole && leb n mostOps) r) (g .ops) (g .count)
       ∙ ap (λ (t : Bool). run (write lent (map opOf os)) t r) (rw (le-leb (length os) mostOps h) (and-true whole))
 
-  many-run : mostOps < length os → run (write lent (opsIn (putAll noOps os))) (wholeList b entries incoming (putAll noOps os)) r ≡ run (write lent (map opOf os)) whole r
+  many-run : mostOps < length os
+      → run (write lent (opsIn (putAll noOps os))) (wholeList b entries incoming (putAll noOps os)) r
+      ≡ run (write lent (map opOf os)) whole r
   many-run h =
       ap (λ (n : ℕ). run (write lent (opsIn (putAll noOps os))) (whole && leb n mostOps) r) (put-many noOps os (omega arith) (omega arith))
       ∙ ap (λ (t : Bool). run (write lent (opsIn (putAll noOps os))) t r) (and-false whole)
       ∙ go (formed r) refl
     where
       bad : malformed (write lent (map opOf os)) ≡ true
-      bad = unfold malformed opsFormed in rw (length-map os opOf, lt-leb (length os) mostOps h, and-false (leb 1 (length os)))
+      bad = unfold malformed opsFormed in
+          rw (length-map os opOf, lt-leb (length os) mostOps h, and-false (leb 1 (length os)))
 
       asked : (t : Bool) → formed r ≡ true → outcome (refused 11 0) r ≡ run (write lent (map opOf os)) t r
       asked true ok = bad-call (write lent (map opOf os)) r ok bad
       asked false ok = not-whole (write lent (map opOf os)) false r ok refl
 
-      go : (t : Bool) → formed r ≡ t → run (write lent (opsIn (putAll noOps os))) false r ≡ run (write lent (map opOf os)) whole r
+      go : (t : Bool) → formed r ≡ t
+          → run (write lent (opsIn (putAll noOps os))) false r ≡ run (write lent (map opOf os)) whole r
       go true ok = sym (not-whole (write lent (opsIn (putAll noOps os))) false r ok refl) ∙ asked whole ok
-      go false e = sym (ill-formed (write lent (opsIn (putAll noOps os))) false r e) ∙ ill-formed (write lent (map opOf os)) whole r e
+      go false e = sym (ill-formed (write lent (opsIn (putAll noOps os))) false r e)
+          ∙ ill-formed (write lent (map opOf os)) whole r e
 
-  pub gathered-run : run (write lent (opsIn (putAll noOps os))) (wholeList b entries incoming (putAll noOps os)) r ≡ run (write lent (map opOf os)) whole r
+  pub gathered-run : run (write lent (opsIn (putAll noOps os))) (wholeList b entries incoming (putAll noOps os)) r
+      ≡ run (write lent (map opOf os)) whole r
   gathered-run = elim (reach (length os) mostOps) [ reached h ↦ few-run h | short h ↦ many-run h ]

@@ -56,10 +56,12 @@ no-reply n k e = let z : _≡_ {A = ℕ} 0 1 = cc in omega arith
 
 -- refused, or done with nothing to refuse
 module _ (gs : List Guard) (next : Midst) (start : ℕ) (x : IndexRecord) (log snapshot : List ℕ) where
-  goes-refused : (f : Refusal) → refuses (numberOf f) (carriedOf f) ≡ first gs → Goes gs next (stepped (Refused f) start x) log snapshot
+  goes-refused : (f : Refusal) → refuses (numberOf f) (carriedOf f) ≡ first gs
+      → Goes gs next (stepped (Refused f) start x) log snapshot
   goes-refused f e = record { verdict = ap (λ (v : Verdict). settle v tt) e; after = λ q. absurd (no-reply _ _ q) }
 
-  goes-done : passes ≡ first gs → midstOf start (raw x log snapshot) ≡ next → Kept (raw x log snapshot) → Goes gs next (stepped Done start x) log snapshot
+  goes-done : passes ≡ first gs → midstOf start (raw x log snapshot) ≡ next → Kept (raw x log snapshot)
+      → Goes gs next (stepped Done start x) log snapshot
   goes-done e p h = record { verdict = ap (λ (v : Verdict). settle v tt) e; after = λ q. (p, h) }
 
 -- two tests of the same order
@@ -72,14 +74,17 @@ ltb-same a b c d f g = go (ltb a b) (ltb c d) refl refl
     go false false p q = p ∙ sym q
 
 -- the same by other names
-goes-as : (gs gs′ : List Guard) (next next′ : Midst) (s : Stepped) (log snapshot : List ℕ) → first gs ≡ first gs′ → next ≡ next′ → Goes gs next s log snapshot → Goes gs′ next′ s log snapshot
+goes-as : (gs gs′ : List Guard) (next next′ : Midst) (s : Stepped) (log snapshot : List ℕ) → first gs ≡ first gs′
+    → next ≡ next′ → Goes gs next s log snapshot → Goes gs′ next′ s log snapshot
 goes-as gs gs′ next next′ s log snapshot e p g = record {
   verdict = g .verdict ∙ ap (λ (v : Verdict). settle v tt) e;
   after = λ q. (g .after q .0 ∙ p, g .after q .1);
 }
 
-pub goes-of : (n : Numbers) (l : Lent) (m : Midst) (o : CodeOp) (k : OpKind) (s : Stepped) (log snapshot : List ℕ) → o .kind ≡ k
-    → Goes (stepGuards n l (ofKind k o) m) (step l (ofKind k o) m) s log snapshot → Goes (stepGuards n l (opOf o) m) (step l (opOf o) m) s log snapshot
+pub goes-of : (n : Numbers) (l : Lent) (m : Midst) (o : CodeOp) (k : OpKind) (s : Stepped) (log snapshot : List ℕ)
+    → o .kind ≡ k
+    → Goes (stepGuards n l (ofKind k o) m) (step l (ofKind k o) m) s log snapshot
+    → Goes (stepGuards n l (opOf o) m) (step l (opOf o) m) s log snapshot
 goes-of n l m o k s log snapshot e g =
     let p : ofKind k o ≡ opOf o = ap (λ (j : OpKind). ofKind j o) (sym e) in
     goes-as _ _ _ _ s log snapshot (ap (λ (q : Op). first (stepGuards n l q m)) p) (ap (λ (q : Op). step l q m) p) g
@@ -134,12 +139,17 @@ module _ (start : ℕ) (r : Raw) (h : Kept r) where
         goes-refused (roomGuards at (length es) m) (rejoined at es m) start (r .index) words (r .snapshot) NoRoom
         (found {gs = roomGuards at (length es) m} {v = refuses 1 0} (stopping (lt-ltb entryRoom wanted (omega (arith, room-is, over))) refl))
 
-    pub put-goes : (words : List ℕ) → at + r .index .batched + length entries / width ≤ entryRoom → at ≤ r .index .retained → sliceFormed entries ≡ true
-        → words ≡ laid (length (r .log)) (spliced (at * width) ((r .index .retained - at) * width) entries (take ((r .index .retained + r .index .batched) * width) (r .log)))
-        → Goes (roomGuards at (length es) m) (rejoined at es m) (stepped Done start (withEntries (at + length entries / width) (r .index .batched) (r .index))) words (r .snapshot)
+    pub put-goes : (words : List ℕ) → at + r .index .batched + length entries / width ≤ entryRoom
+        → at ≤ r .index .retained → sliceFormed entries ≡ true
+        → words ≡ laid (length (r .log))
+        (spliced (at * width) ((r .index .retained - at) * width) entries (take ((r .index .retained + r .index .batched) * width) (r .log)))
+        → Goes (roomGuards at (length es) m) (rejoined at es m)
+        (stepped Done start (withEntries (at + length entries / width) (r .index .batched) (r .index))) words
+        (r .snapshot)
     put-goes words fits inside whole e =
         let k : at + length entries / width ≡ at + length es = omega (arith, counted) in
-        goes-done (roomGuards at (length es) m) (rejoined at es m) start (withEntries (at + length entries / width) (r .index .batched) (r .index)) words (r .snapshot)
+        goes-done (roomGuards at (length es) m) (rejoined at es m) start
+        (withEntries (at + length entries / width) (r .index .batched) (r .index)) words (r .snapshot)
         (found {gs = roomGuards at (length es) m} {v = passes} (passing (le-ltb entryRoom wanted (omega (arith, room-is, fits))) clear-all))
         (ap (λ (g : _). record { start = start; log = g }) (put-log r h at entries words inside whole e _ k (omega (arith, fits))))
         (put-held r h at entries words inside whole e _ k (omega (arith, fits)))
@@ -159,21 +169,26 @@ module _ (start : ℕ) (r : Raw) (h : Kept r) where
         counted : length (logOf r .run .retained) ≡ r .index .retained
         counted = unfold logOf in kept-count r h
 
-        go : (t : Bool) → ltb i start ≡ t → (t || ltb (r .index .retained) kept) ≡ (t || ltb (start + length (logOf r .run .retained)) i)
+        go : (t : Bool) → ltb i start ≡ t
+            → (t || ltb (r .index .retained) kept) ≡ (t || ltb (start + length (logOf r .run .retained)) i)
         go true e = refl
-        go false e = let low : start ≤ i = ltb-false i start e in ltb-same (r .index .retained) kept (start + length (logOf r .run .retained)) i (λ k. omega (arith, counted)) (λ k. omega (arith, counted))
+        go false e = let low : start ≤ i = ltb-false i start e in
+            ltb-same (r .index .retained) kept (start + length (logOf r .run .retained)) i (λ k. omega (arith, counted)) (λ k. omega (arith, counted))
 
     pub prefix-outside : (end : ℕ) → end ≡ endOf n → beside ≡ true
-        → Goes (stepGuards n l (appendOnPrefix i) m) (step l (appendOnPrefix i) m) (stepped (Refused (OutsideRun (record { 0 = end }))) start (r .index)) words (r .snapshot)
+        → Goes (stepGuards n l (appendOnPrefix i) m) (step l (appendOnPrefix i) m)
+        (stepped (Refused (OutsideRun (record { 0 = end }))) start (r .index)) words (r .snapshot)
     unfolding stepGuards
     prefix-outside end p e =
-        goes-refused (stepGuards n l (appendOnPrefix i) m) (step l (appendOnPrefix i) m) start (r .index) words (r .snapshot) (OutsideRun (record { 0 = end }))
+        goes-refused (stepGuards n l (appendOnPrefix i) m) (step l (appendOnPrefix i) m) start (r .index) words
+        (r .snapshot) (OutsideRun (record { 0 = end }))
         (found {gs = stepGuards n l (appendOnPrefix i) m} {v = refuses 7 end} (stopping (sym beside-is ∙ e) p))
 
     pub prefix-inside : beside ≡ false → kept ≤ r .index .retained
     prefix-inside e = ltb-false (r .index .retained) kept (or-right (ltb i start) (ltb (r .index .retained) kept) e)
 
-    pub prefix-goes : (s : Stepped) → beside ≡ false → Goes (roomGuards kept (length (entriesIn entries)) m) (rejoined kept (entriesIn entries) m) s words (r .snapshot)
+    pub prefix-goes : (s : Stepped) → beside ≡ false
+        → Goes (roomGuards kept (length (entriesIn entries)) m) (rejoined kept (entriesIn entries) m) s words (r .snapshot)
         → Goes (stepGuards n l (appendOnPrefix i) m) (step l (appendOnPrefix i) m) s words (r .snapshot)
     unfolding stepGuards step
     prefix-goes s e g =
@@ -183,12 +198,16 @@ module _ (start : ℕ) (r : Raw) (h : Kept r) where
 
   -- ---- entries dropped
 
-  pub trim-goes : (i below gone next : ℕ) (words : List ℕ) → below ≡ i - start → gone ≡ min below (r .index .retained) → next ≡ max start i
+  pub trim-goes : (i below gone next : ℕ) (words : List ℕ) → below ≡ i - start → gone ≡ min below (r .index .retained)
+      → next ≡ max start i
       → words ≡ laid (length (r .log)) (spliced 0 (gone * width) [] (take ((r .index .retained + r .index .batched) * width) (r .log)))
-      → Goes [] (step (onlyEntries []) (trim i) m) (stepped Done next (withEntries (r .index .retained - gone) (r .index .batched) (r .index))) words (r .snapshot)
+      → Goes [] (step (onlyEntries []) (trim i) m)
+      (stepped Done next (withEntries (r .index .retained - gone) (r .index .batched) (r .index))) words
+      (r .snapshot)
   unfolding step first
   trim-goes i below gone next words p least q e =
-      goes-done [] (step (onlyEntries []) (trim i) m) next (withEntries (r .index .retained - gone) (r .index .batched) (r .index)) words (r .snapshot) refl
+      goes-done [] (step (onlyEntries []) (trim i) m) next
+      (withEntries (r .index .retained - gone) (r .index .batched) (r .index)) words (r .snapshot) refl
       (ap₂ (λ (a : ℕ) (g : _). record { start = a; log = g }) q
       (trim-log r h below gone words least e ∙ ap (λ (k : ℕ). logWithRun (retaining (drop k (logOf r .run .retained)) (logOf r .run)) (logOf r)) p))
       (trim-held r h below gone words least e)
@@ -196,7 +215,8 @@ module _ (start : ℕ) (r : Raw) (h : Kept r) where
   -- ---- the operations
 
   module _ (n : Numbers) (l : Lent) where
-    pub append-goes : (s : Stepped) (words : List ℕ) → Goes (roomGuards (r .index .retained) (length (l .entries)) m) (rejoined (r .index .retained) (l .entries) m) s words (r .snapshot)
+    pub append-goes : (s : Stepped) (words : List ℕ)
+        → Goes (roomGuards (r .index .retained) (length (l .entries)) m) (rejoined (r .index .retained) (l .entries) m) s words (r .snapshot)
         → Goes (stepGuards n l appendEntries m) (step l appendEntries m) s words (r .snapshot)
     unfolding stepGuards step logOf
     append-goes s words g =
@@ -211,32 +231,40 @@ module _ (start : ℕ) (r : Raw) (h : Kept r) where
     unfolding stepGuards step
     on-prefix-goes entries i s words e g = rw e g
 
-    pub promise-goes : (b : Ballot) → Goes (stepGuards n l (setPromise b) m) (step l (setPromise b) m) (stepped Done start (withPromise b (r .index))) (r .log) (r .snapshot)
+    pub promise-goes : (b : Ballot)
+        → Goes (stepGuards n l (setPromise b) m) (step l (setPromise b) m) (stepped Done start (withPromise b (r .index))) (r .log) (r .snapshot)
     unfolding stepGuards step logOf first signHeld
     promise-goes b =
         goes-done [] (step l (setPromise b) m) start (withPromise b (r .index)) (r .log) (r .snapshot) refl refl
         (record { log = h .log; snapshot = h .snapshot; none-held = h .none-held; sign = h .sign })
 
-    pub decided-goes : (i : LogIndex) → Goes (stepGuards n l (setDecided (i .0)) m) (step l (setDecided (i .0)) m) (stepped Done start (withDecided i (r .index))) (r .log) (r .snapshot)
+    pub decided-goes : (i : LogIndex)
+        → Goes (stepGuards n l (setDecided (i .0)) m) (step l (setDecided (i .0)) m)
+        (stepped Done start (withDecided i (r .index))) (r .log) (r .snapshot)
     unfolding stepGuards step logOf first signHeld
     decided-goes i =
         goes-done [] (step l (setDecided (i .0)) m) start (withDecided i (r .index)) (r .log) (r .snapshot) refl refl
         (record { log = h .log; snapshot = h .snapshot; none-held = h .none-held; sign = h .sign })
 
-    pub round-goes : (b : Ballot) → Goes (stepGuards n l (setRound b) m) (step l (setRound b) m) (stepped Done start (withRound b (r .index))) (r .log) (r .snapshot)
+    pub round-goes : (b : Ballot) → Goes (stepGuards n l (setRound b) m) (step l (setRound b) m)
+        (stepped Done start (withRound b (r .index))) (r .log) (r .snapshot)
     unfolding stepGuards step logOf first signHeld
     round-goes b =
         goes-done [] (step l (setRound b) m) start (withRound b (r .index)) (r .log) (r .snapshot) refl refl
         (record { log = h .log; snapshot = h .snapshot; none-held = h .none-held; sign = h .sign })
 
     pub compacted-goes : (i : LogIndex)
-        → Goes (stepGuards n l (setCompacted (i .0)) m) (step l (setCompacted (i .0)) m) (stepped Done start (withRun i (r .index .retained) (r .index .«snapshot_held») (r .index .keys) (r .index))) (r .log) (r .snapshot)
+        → Goes (stepGuards n l (setCompacted (i .0)) m) (step l (setCompacted (i .0)) m)
+        (stepped Done start (withRun i (r .index .retained) (r .index .«snapshot_held») (r .index .keys) (r .index))) (r .log) (r .snapshot)
     unfolding stepGuards step logOf first signHeld
     compacted-goes i =
-        goes-done [] (step l (setCompacted (i .0)) m) start (withRun i (r .index .retained) (r .index .«snapshot_held») (r .index .keys) (r .index)) (r .log) (r .snapshot) refl refl
+        goes-done [] (step l (setCompacted (i .0)) m) start
+        (withRun i (r .index .retained) (r .index .«snapshot_held») (r .index .keys) (r .index)) (r .log)
+        (r .snapshot) refl refl
         (record { log = h .log; snapshot = h .snapshot; none-held = h .none-held; sign = h .sign })
 
-    pub trimmed-goes : (i : ℕ) (s : Stepped) (words : List ℕ) → Goes [] (step (onlyEntries []) (trim i) m) s words (r .snapshot)
+    pub trimmed-goes : (i : ℕ) (s : Stepped) (words : List ℕ)
+        → Goes [] (step (onlyEntries []) (trim i) m) s words (r .snapshot)
         → Goes (stepGuards n l (trim i) m) (step l (trim i) m) s words (r .snapshot)
     unfolding stepGuards step
     trimmed-goes i s words g = g
@@ -247,7 +275,8 @@ module _ (start : ℕ) (r : Raw) (h : Kept r) where
     lent = lentOf b entries incoming
 
     sign-goes : (t : Bool) → supplied lent (setSign t) ≡ true
-        → Goes (stepGuards n lent (setSign t) m) (step lent (setSign t) m) (stepped Done start (withStop t (signIf t (b .stop)) (r .index))) (r .log) (r .snapshot)
+        → Goes (stepGuards n lent (setSign t) m) (step lent (setSign t) m)
+        (stepped Done start (withStop t (signIf t (b .stop)) (r .index))) (r .log) (r .snapshot)
     unfolding stepGuards step first
     sign-goes t e =
         goes-done [] (step lent (setSign t) m) start (withStop t (signIf t (b .stop)) (r .index)) (r .log) (r .snapshot) refl
@@ -256,33 +285,40 @@ module _ (start : ℕ) (r : Raw) (h : Kept r) where
         (record { log = h .log; snapshot = h .snapshot; none-held = h .none-held; sign = unfold signHeld in fine t (b .«stop_lent») e (f .sign) })
       where
         set : (t u : Bool) → (not t || given (if u then some (b .stop) else none)) ≡ true
-            → (if t then some (signIf t (b .stop)) else none) ≡ (if t then (if u then some (b .stop) else none) else none)
+            → (if t then some (signIf t (b .stop)) else none)
+            ≡ (if t then (if u then some (b .stop) else none) else none)
         set true true e = refl
         set true false e = absurd (true≢false (sym e))
         set false u e = refl
 
-        fine : (t u : Bool) → (not t || given (if u then some (b .stop) else none)) ≡ true → ifGiven signFormed (if u then some (b .stop) else none) ≡ true
+        fine : (t u : Bool) → (not t || given (if u then some (b .stop) else none)) ≡ true
+            → ifGiven signFormed (if u then some (b .stop) else none) ≡ true
             → ((t && signFormed (signIf t (b .stop))) || (not t && signBlank (signIf t (b .stop)))) ≡ true
         fine true true e q = rw q
         fine true false e q = absurd (true≢false (sym e))
         fine false u e q = blank-none
 
     snapshot-goes : (t : Bool) → supplied lent (setSnapshot t) ≡ true
-        → Goes (stepGuards n lent (setSnapshot t) m) (step lent (setSnapshot t) m) (stepped Done start (withRun (r .index .compacted) (r .index .retained) t (askedKeys t (b .keys)) (r .index))) (r .log) (askedWords t incoming)
+        → Goes (stepGuards n lent (setSnapshot t) m) (step lent (setSnapshot t) m)
+        (stepped Done start (withRun (r .index .compacted) (r .index .retained) t (askedKeys t (b .keys)) (r .index))) (r .log) (askedWords t incoming)
     unfolding stepGuards step first
     snapshot-goes t e =
-        goes-done [] (step lent (setSnapshot t) m) start (withRun (r .index .compacted) (r .index .retained) t (askedKeys t (b .keys)) (r .index)) (r .log) (askedWords t incoming) refl
+        goes-done [] (step lent (setSnapshot t) m) start
+        (withRun (r .index .compacted) (r .index .retained) t (askedKeys t (b .keys)) (r .index)) (r .log)
+        (askedWords t incoming) refl
         (unfold logOf in ap (λ (g : Option (List Change)). record { start = start; log = record { run = record { compacted = logOf r .run .compacted; retained = logOf r .run .retained; held = g }; tail = logOf r .tail; marks = logOf r .marks } })
         (set t (b .«snapshot_lent») e))
         (record { log = h .log; snapshot = fine t (b .«snapshot_lent») e (unfold incomingFormed in and-right (eqb (length incoming) snapshotWords) (not (b .«snapshot_lent») || snapshotFormed (b .keys) incoming) (f .snapshot)); none-held = kept t; sign = unfold signHeld in h .sign })
       where
         set : (t u : Bool) → (not t || given (if u then some (entriesOf (b .keys) incoming) else none)) ≡ true
-            → (if t then some (entriesOf (askedKeys t (b .keys)) (askedWords t incoming)) else none) ≡ (if t then (if u then some (entriesOf (b .keys) incoming) else none) else none)
+            → (if t then some (entriesOf (askedKeys t (b .keys)) (askedWords t incoming)) else none)
+            ≡ (if t then (if u then some (entriesOf (b .keys) incoming) else none) else none)
         set true true e = refl
         set true false e = absurd (true≢false (sym e))
         set false u e = refl
 
-        fine : (t u : Bool) → (not t || given (if u then some (entriesOf (b .keys) incoming) else none)) ≡ true → (not u || snapshotFormed (b .keys) incoming) ≡ true
+        fine : (t u : Bool) → (not t || given (if u then some (entriesOf (b .keys) incoming) else none)) ≡ true
+            → (not u || snapshotFormed (b .keys) incoming) ≡ true
             → Holds snapshotWords (askedKeys t (b .keys)) (askedWords t incoming)
         fine true true e q = snapshot-holds (b .keys) incoming q
         fine true false e q = absurd (true≢false (sym e))
@@ -297,14 +333,20 @@ module _ (start : ℕ) (r : Raw) (h : Kept r) where
       is-supplied : (k : OpKind) → o .kind ≡ k → supplied lent (opOf o) ≡ true → supplied lent (ofKind k o) ≡ true
       is-supplied k e q = ap (λ (j : OpKind). supplied lent (ofKind j o)) (sym e) ∙ q
 
-      pub sign-done : o .kind ≡ SetStopsign → supplied lent (opOf o) ≡ true → (g : StopSign) → g ≡ signIf (o .given) (b .stop)
+      pub sign-done : o .kind ≡ SetStopsign → supplied lent (opOf o) ≡ true → (g : StopSign)
+          → g ≡ signIf (o .given) (b .stop)
           → Goes (stepGuards n lent (opOf o) m) (step lent (opOf o) m) (stepped Done start (withStop (o .given) g (r .index))) (r .log) (r .snapshot)
       sign-done e q g p =
           goes-of n lent m o SetStopsign (stepped Done start (withStop (o .given) g (r .index))) (r .log) (r .snapshot) e
           (rw p (sign-goes (o .given) (is-supplied SetStopsign e q)))
 
-      pub snapshot-done : o .kind ≡ SetSnapshot → supplied lent (opOf o) ≡ true → (k : ℕ) (words : List ℕ) → k ≡ askedKeys (o .given) (b .keys) → words ≡ askedWords (o .given) incoming
-          → Goes (stepGuards n lent (opOf o) m) (step lent (opOf o) m) (stepped Done start (withRun (r .index .compacted) (r .index .retained) (o .given) k (r .index))) (r .log) words
+      pub snapshot-done : o .kind ≡ SetSnapshot → supplied lent (opOf o) ≡ true → (k : ℕ) (words : List ℕ)
+          → k ≡ askedKeys (o .given) (b .keys) → words ≡ askedWords (o .given) incoming
+          → Goes (stepGuards n lent (opOf o) m) (step lent (opOf o) m)
+          (stepped Done start (withRun (r .index .compacted) (r .index .retained) (o .given) k (r .index)))
+          (r .log) words
       snapshot-done e q k words p w =
-          goes-of n lent m o SetSnapshot (stepped Done start (withRun (r .index .compacted) (r .index .retained) (o .given) k (r .index))) (r .log) words e
+          goes-of n lent m o SetSnapshot
+          (stepped Done start (withRun (r .index .compacted) (r .index .retained) (o .given) k (r .index)))
+          (r .log) words e
           (rw (p, w) (snapshot-goes (o .given) (is-supplied SetSnapshot e q)))

@@ -1,4 +1,5 @@
--- What is judged after the last operation: refusal 9, then 12. In the midst of a list the words are always in form, so the state is
+-- What is judged after the last operation: refusal 9, then 12. In the midst of a list the words are always in form, so
+-- the state is
 -- well formed exactly if its log is.
 use Prim.Native.Nat.{ℕ, _+_}
 use mathlib.Core.Path.{_≡_, refl, sym, ap, _∙_}
@@ -52,7 +53,8 @@ stored-of words n ws l =
 -- the words are in form, so the numbers decide
 pub formed-numbers : (r : Raw) → Kept r → numbersFormed (numbersIn (r .index)) ≡ formed r
 unfolding formed snapshotFormed
-formed-numbers r h = sym (and-true (numbersFormed (numbersIn (r .index)))) ∙ ap (λ (t : Bool). numbersFormed (numbersIn (r .index)) && t) (sym rest)
+formed-numbers r h = sym (and-true (numbersFormed (numbersIn (r .index))))
+    ∙ ap (λ (t : Bool). numbersFormed (numbersIn (r .index)) && t) (sym rest)
   where
     rest : (signHeld (r .index) && (storedIn logWords (r .index .retained + r .index .batched) (r .log) && snapshotHeld (r .index) (r .snapshot))) ≡ true
     rest =
@@ -67,7 +69,8 @@ pub formed-is : (r : Raw) → Kept r → formed r ≡ wellFormed (logOf r)
 formed-is r h = go (formed r) (wellFormed (logOf r)) refl refl
   where
     back : wellFormed (logOf r) ≡ true → formed r ≡ true
-    back e = sym (formed-numbers r h) ∙ (unfold wellFormed in ap numbersFormed (sym (numbers-of r)) ∙ and-left (numbersFormed (numbersOf (logOf r))) _ e)
+    back e = sym (formed-numbers r h)
+        ∙ (unfold wellFormed in ap numbersFormed (sym (numbers-of r)) ∙ and-left (numbersFormed (numbersOf (logOf r))) _ e)
 
     go : (a b : Bool) → formed r ≡ a → wellFormed (logOf r) ≡ b → formed r ≡ wellFormed (logOf r)
     go true b p q = p ∙ sym (log-formed r p)
@@ -75,11 +78,13 @@ formed-is r h = go (formed r) (wellFormed (logOf r)) refl refl
     go false false p q = p ∙ sym q
 
 -- the sum as it is judged: compacted, the retained entries, and the stop-sign and the batch after them
-pub past-sum : (x : IndexRecord) (one : ℕ) → one ≡ oneIf (x .«stop_held») → (t : Bool) → t ≡ ltb lastIndex (x .compacted .0 + x .retained + (one + x .batched))
+pub past-sum : (x : IndexRecord) (one : ℕ) → one ≡ oneIf (x .«stop_held») → (t : Bool)
+    → t ≡ ltb lastIndex (x .compacted .0 + x .retained + (one + x .batched))
     → t ≡ ltb lastIndex (acceptedOf (numbersIn x) + x .batched)
 unfolding acceptedOf endOf
 past-sum x one e t q =
-    let same : x .compacted .0 + x .retained + (one + x .batched) ≡ x .compacted .0 + x .retained + oneIf (x .«stop_held») + x .batched = omega (arith, e) in
+    let same : x .compacted .0 + x .retained + (one + x .batched)
+    ≡ x .compacted .0 + x .retained + oneIf (x .«stop_held») + x .batched = omega (arith, e) in
     q ∙ ap (ltb lastIndex) same
 
 module _ (n : Numbers) (start : ℕ) (r : Raw) (h : Kept r) where
@@ -137,4 +142,5 @@ module _ (n : Numbers) (start : ℕ) (r : Raw) (h : Kept r) where
   unfolding lastGuards
   last-formed e =
       formed-is r h
-      ∙ and-right (eqb start (logOf r .run .compacted)) (wellFormed (logOf r)) (not-false (eqb start (logOf r .run .compacted) && wellFormed (logOf r)) (passed gs e .1 .0))
+      ∙ and-right (eqb start (logOf r .run .compacted)) (wellFormed (logOf r))
+      (not-false (eqb start (logOf r .run .compacted) && wellFormed (logOf r)) (passed gs e .1 .0))

@@ -42,30 +42,37 @@ module _ (b : CodeLent) (o : CodeOp) where
   by-kind k e = ap (λ (j : OpKind). supplied (lentOf b [] []) (ofKind j o)) (sym e)
 
   pub sign-supplied : o .kind ≡ SetStopsign → (not (o .given) || b .«stop_lent») ≡ supplied (lentOf b [] []) (opOf o)
-  sign-supplied e = ap (λ (t : Bool). not (o .given) || t) (sym (given-by (b .«stop_lent») (b .stop))) ∙ by-kind SetStopsign e
+  sign-supplied e = ap (λ (t : Bool). not (o .given) || t) (sym (given-by (b .«stop_lent») (b .stop)))
+      ∙ by-kind SetStopsign e
 
-  pub snapshot-supplied : o .kind ≡ SetSnapshot → (not (o .given) || b .«snapshot_lent») ≡ supplied (lentOf b [] []) (opOf o)
-  snapshot-supplied e = ap (λ (t : Bool). not (o .given) || t) (sym (given-by (b .«snapshot_lent») _)) ∙ by-kind SetSnapshot e
+  pub snapshot-supplied : o .kind ≡ SetSnapshot
+      → (not (o .given) || b .«snapshot_lent») ≡ supplied (lentOf b [] []) (opOf o)
+  snapshot-supplied e = ap (λ (t : Bool). not (o .given) || t) (sym (given-by (b .«snapshot_lent») _))
+      ∙ by-kind SetSnapshot e
 
 -- what a request in form lends
 module _ (b : CodeLent) (entries incoming : List ℕ) (f : Lends b entries incoming) where
   pub long-incoming : length incoming ≡ snapshotWords
   unfolding incomingFormed
-  long-incoming = eqb-true (length incoming) snapshotWords (and-left (eqb (length incoming) snapshotWords) (not (b .«snapshot_lent») || snapshotFormed (b .keys) incoming) (f .snapshot))
+  long-incoming = eqb-true (length incoming) snapshotWords
+      (and-left (eqb (length incoming) snapshotWords) (not (b .«snapshot_lent») || snapshotFormed (b .keys) incoming) (f .snapshot))
 
 -- the operations of a list by value, one after the other
 module _ (ops : List CodeOp) (n : ℕ) (few : n ≤ mostOps) (eight : length ops ≡ mostOps) where
   pub ops-length : length (map opOf (take n ops)) ≡ n
   ops-length = length-map (take n ops) opOf ∙ length-take-le n ops (omega arith)
 
-  pub op-cons : (i : ℕ) (d : CodeOp) → i < n → drop i (map opOf (take n ops)) ≡ opOf (getD ops i d) ∷ drop (suc i) (map opOf (take n ops))
+  pub op-cons : (i : ℕ) (d : CodeOp) → i < n
+      → drop i (map opOf (take n ops)) ≡ opOf (getD ops i d) ∷ drop (suc i) (map opOf (take n ops))
   op-cons i d h =
       drop-cons (map opOf (take n ops)) i (opOf d) (omega (arith, ops-length))
       ∙ ap (λ (o : Op). o ∷ drop (suc i) (map opOf (take n ops))) (List·getD-map opOf (take n ops) i d ∙ ap opOf (getD-take n ops i d h))
 
 -- one turn of the test that each operation is supplied
-pub supplied-turn : (b : CodeLent) (ops : List CodeOp) (n : ℕ) → n ≤ mostOps → length ops ≡ mostOps → (i : ℕ) → i < n → (ok t asked : Bool)
-    → t ≡ supplied (lentOf b [] []) (opOf (getD ops i noOp)) → (ok && allOf (supplied (lentOf b [] [])) (drop i (map opOf (take n ops)))) ≡ asked
+pub supplied-turn : (b : CodeLent) (ops : List CodeOp) (n : ℕ) → n ≤ mostOps → length ops ≡ mostOps → (i : ℕ) → i < n
+    → (ok t asked : Bool)
+    → t ≡ supplied (lentOf b [] []) (opOf (getD ops i noOp))
+    → (ok && allOf (supplied (lentOf b [] [])) (drop i (map opOf (take n ops)))) ≡ asked
     → (ok && t && allOf (supplied (lentOf b [] [])) (drop (i + 1) (map opOf (take n ops)))) ≡ asked
 supplied-turn b ops n few eight i h ok t asked e inv =
     rw e (all-turn (supplied (lentOf b [] [])) (map opOf (take n ops)) i ok asked inv (opOf (getD ops i noOp)) (op-cons ops n few eight i noOp h))
@@ -78,7 +85,8 @@ all-same f g e [] = refl
 all-same f g e (x ∷ l) = ap₂ (λ (s t : Bool). s && t) (e x) (all-same f g e l)
 
 -- whether an operation is supplied is known without the lent words
-supplied-any : (b : CodeLent) (entries incoming : List ℕ) (o : Op) → supplied (lentOf b [] []) o ≡ supplied (lentOf b entries incoming) o
+supplied-any : (b : CodeLent) (entries incoming : List ℕ) (o : Op)
+    → supplied (lentOf b [] []) o ≡ supplied (lentOf b entries incoming) o
 supplied-any b entries incoming appendEntries = refl
 supplied-any b entries incoming (appendOnPrefix i) = refl
 supplied-any b entries incoming (setDecided i) = refl
@@ -91,14 +99,18 @@ supplied-any b entries incoming (setSnapshot t) =
     ap (λ (u : Bool). not t || u) (given-by (b .«snapshot_lent») (entriesOf (b .keys) []) ∙ sym (given-by (b .«snapshot_lent») (entriesOf (b .keys) incoming)))
 
 -- a snapshot that is lent in form
-snapshot-lent : (b : CodeLent) (entries incoming : List ℕ) → incomingFormed b incoming ≡ true → ifGiven keysFormed (lentOf b entries incoming .snapshot) ≡ true
+snapshot-lent : (b : CodeLent) (entries incoming : List ℕ) → incomingFormed b incoming ≡ true
+    → ifGiven keysFormed (lentOf b entries incoming .snapshot) ≡ true
 unfolding incomingFormed
-snapshot-lent b entries incoming e = go (b .«snapshot_lent») (and-right (eqb (length incoming) snapshotWords) (not (b .«snapshot_lent») || snapshotFormed (b .keys) incoming) e)
+snapshot-lent b entries incoming e =
+    go (b .«snapshot_lent») (and-right (eqb (length incoming) snapshotWords) (not (b .«snapshot_lent») || snapshotFormed (b .keys) incoming) e)
   where
-    go : (t : Bool) → (not t || snapshotFormed (b .keys) incoming) ≡ true → ifGiven keysFormed (if t then some (entriesOf (b .keys) incoming) else none) ≡ true
+    go : (t : Bool) → (not t || snapshotFormed (b .keys) incoming) ≡ true
+        → ifGiven keysFormed (if t then some (entriesOf (b .keys) incoming) else none) ≡ true
     go true q =
         let h = snapshot-holds (b .keys) incoming q in
-        of-snapshot (entriesOf (b .keys) incoming) (record { rises = h .rises; fine = h .laid .fine }) (omega (arith, entries-length changeCode (b .keys) incoming, h .laid .fits))
+        of-snapshot (entriesOf (b .keys) incoming) (record { rises = h .rises; fine = h .laid .fine })
+        (omega (arith, entries-length changeCode (b .keys) incoming, h .laid .fits))
     go false q = refl
 
 sign-lent : (t : Bool) (g : StopSign) → (not t || signFormed g) ≡ ifGiven signFormed (if t then some g else none)
@@ -156,7 +168,9 @@ module _ (b : CodeLent) (entries incoming : List ℕ) (list : OpList) where
       let f₂ = and-right (entriesFormed (entriesIn entries)) _ f₁ in
       let f₃ = and-right (ifGiven keysFormed (lent .snapshot)) _ f₂ in
       record {
-        whole = both-true (wholeIn entries) (entriesFormed (entriesIn entries)) (and-left (wholeIn entries) (incomingFormed b incoming) p) (and-left (entriesFormed (entriesIn entries)) _ f₁);
+        whole = both-true (wholeIn entries) (entriesFormed (entriesIn entries))
+            (and-left (wholeIn entries) (incomingFormed b incoming) p)
+            (and-left (entriesFormed (entriesIn entries)) _ f₁);
         snapshot = and-right (wholeIn entries) (incomingFormed b incoming) p;
         sign = and-left (ifGiven signFormed (lent .sign)) _ f₃;
       }
@@ -174,12 +188,15 @@ module _ (b : CodeLent) (entries incoming : List ℕ) (list : OpList) where
           okay = f;
         }
 
-    pub request-refused : (whole && opsFormed lent (opsIn list)) ≡ false → outcome (refused 11 0) r ≡ run (write lent (opsIn list)) whole r
+    pub request-refused : (whole && opsFormed lent (opsIn list)) ≡ false
+        → outcome (refused 11 0) r ≡ run (write lent (opsIn list)) whole r
     request-refused e = go whole refl
       where
         go : (t : Bool) → whole ≡ t → outcome (refused 11 0) r ≡ run (write lent (opsIn list)) t r
-        go true q = bad-call (write lent (opsIn list)) r ok (unfold malformed in ap not (ap (λ (t : Bool). t && opsFormed lent (opsIn list)) (sym q) ∙ e))
+        go true q = bad-call (write lent (opsIn list)) r ok
+            (unfold malformed in ap not (ap (λ (t : Bool). t && opsFormed lent (opsIn list)) (sym q) ∙ e))
         go false q = not-whole (write lent (opsIn list)) false r ok refl
 
-    pub request-run : (whole && opsFormed lent (opsIn list)) ≡ true → run (write lent (opsIn list)) true r ≡ run (write lent (opsIn list)) whole r
+    pub request-run : (whole && opsFormed lent (opsIn list)) ≡ true
+        → run (write lent (opsIn list)) true r ≡ run (write lent (opsIn list)) whole r
     request-run e = ap (λ (t : Bool). run (write lent (opsIn list)) t r) (sym (and-left whole (opsFormed lent (opsIn list)) e))

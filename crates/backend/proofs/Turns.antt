@@ -51,7 +51,8 @@ pub record Left (n : Numbers) (l : Lent) (ops : List Op) (m : Midst) (asked : Ve
   pub verdict : first (opGuards n l ops m) ≡ asked
   pub after : steps l ops m ≡ end
 
-module _ (n : Numbers) (l : Lent) (codes : List CodeOp) (count : ℕ) (few : count ≤ mostOps) (eight : length codes ≡ mostOps) (asked : Verdict) (end : Midst) where
+module _ (n : Numbers) (l : Lent) (codes : List CodeOp) (count : ℕ) (few : count ≤ mostOps)
+    (eight : length codes ≡ mostOps) (asked : Verdict) (end : Midst) where
   abbrev ops : List Op
   ops = map opOf (take count codes)
 
@@ -77,7 +78,8 @@ module _ (n : Numbers) (l : Lent) (codes : List CodeOp) (count : ℕ) (few : cou
         pub turn-held : s .answer ≡ Done → Kept (raw (s .index) log snapshot)
         turn-held e = g .after (ap settled e) .1
 
-        pub turn-left : s .answer ≡ Done → Left n l (drop (i + 1) ops) (midstOf (s .start) (raw (s .index) log snapshot)) asked end
+        pub turn-left : s .answer ≡ Done
+            → Left n l (drop (i + 1) ops) (midstOf (s .start) (raw (s .index) log snapshot)) asked end
         unfolding opGuards steps
         turn-left e =
             rw (add-one i, g .after (ap settled e) .0)
@@ -121,13 +123,15 @@ module _ (r : Raw) (l : Lent) (ops : List Op) where
     pub write-refused : (f : Refusal) → a ≡ Refused f → outcome (refusedBy f) r ≡ run (write l ops) true r
     unfolding malformed further
     write-refused f e =
-        call-refused (write l ops) r ok (ap not fine) (numberOf f) (carriedOf f) (settle-refused asked (numberOf f) (carriedOf f) (ap settled (sym e) ∙ w .verdict))
+        call-refused (write l ops) r ok (ap not fine) (numberOf f) (carriedOf f)
+        (settle-refused asked (numberOf f) (carriedOf f) (ap settled (sym e) ∙ w .verdict))
 
     pub write-stands : a ≡ Done → outcome (replied tt) x ≡ run (write l ops) true r
     unfolding malformed further effect replyOf
     write-stands e =
         let p = w .after (ap settled e) in
-        call-stands (write l ops) r ok (ap not fine) (settle-replied asked (ap settled (sym e) ∙ w .verdict)) tt x refl (rw (p .1) at (stands-of x (p .0)))
+        call-stands (write l ops) r ok (ap not fine) (settle-replied asked (ap settled (sym e) ∙ w .verdict)) tt x refl
+        (rw (p .1) at (stands-of x (p .0)))
 
 pub ops-supplied : (l : Lent) (ops : List Op) → opsFormed l ops ≡ true → allOf (supplied l) ops ≡ true
 unfolding opsFormed
@@ -139,8 +143,10 @@ ops-supplied l ops e =
 
 -- on copies of the words
 module _ (i : IndexRecord) (log log′ snapshot snapshot′ : List ℕ) (p : log′ ≡ log) (q : snapshot′ ≡ snapshot) where
-  pub listed-copy : (b : CodeLent) (entries incoming : List ℕ) (list : OpList) → Listed (raw i log snapshot) b entries incoming list → Listed (raw i log′ snapshot′) b entries incoming list
+  pub listed-copy : (b : CodeLent) (entries incoming : List ℕ) (list : OpList)
+      → Listed (raw i log snapshot) b entries incoming list → Listed (raw i log′ snapshot′) b entries incoming list
   listed-copy b entries incoming list g = rw (p, q) g
 
-  pub wrote-copy : (l : Lent) (ops : List Op) (a : Settled) (x : Raw) → Wrote (raw i log′ snapshot′) l ops a x → Wrote (raw i log snapshot) l ops a x
+  pub wrote-copy : (l : Lent) (ops : List Op) (a : Settled) (x : Raw) → Wrote (raw i log′ snapshot′) l ops a x
+      → Wrote (raw i log snapshot) l ops a x
   wrote-copy l ops a x w = rw (p, q) at w

@@ -37,11 +37,13 @@ module _ (r : Raw) (i : ℕ) (out : List ℕ) where
   abbrev s : Log
   s = logOf r
 
-  pub create-ill-formed : (whole : Bool) → formed r ≡ false → snapshotOutcome (refused 12 0) out ≡ writtenOut (run c whole r .answer) out
+  pub create-ill-formed : (whole : Bool) → formed r ≡ false
+      → snapshotOutcome (refused 12 0) out ≡ writtenOut (run c whole r .answer) out
   create-ill-formed whole e = ap (λ (o : Outcome (List Change)). writtenOut (o .answer) out) (ill-formed c whole r e)
 
   module _ (ok : formed r ≡ true) where
-    pub create-malformed : (whole : Bool) → whole ≡ false → snapshotOutcome (refused 11 0) out ≡ writtenOut (run c whole r .answer) out
+    pub create-malformed : (whole : Bool) → whole ≡ false
+        → snapshotOutcome (refused 11 0) out ≡ writtenOut (run c whole r .answer) out
     create-malformed whole e = ap (λ (o : Outcome (List Change)). writtenOut (o .answer) out) (not-whole c whole r ok e)
 
     st : Stands s r
@@ -52,10 +54,12 @@ module _ (r : Raw) (i : ℕ) (out : List ℕ) where
     answers passes e = ap (λ (o : Outcome (List Change)). o .answer) (call-stands c r ok refl e (created i s) r refl st)
     answers (refuses n k) e = ap (λ (o : Outcome (List Change)). o .answer) (call-refused c r ok refl n k e)
 
-    told : (v : Verdict) → v ≡ first (further c s) → writtenBy v (created i s) out ≡ writtenOut (run c true r .answer) out
+    told : (v : Verdict) → v ≡ first (further c s)
+        → writtenBy v (created i s) out ≡ writtenOut (run c true r .answer) out
     told v e = ap (λ (a : Answer (List Change)). writtenOut a out) (answers v e)
 
-    pub create-below : i < r .index .compacted .0 → snapshotOutcome (refused 3 (r .index .compacted .0)) out ≡ writtenOut (run c true r .answer) out
+    pub create-below : i < r .index .compacted .0
+        → snapshotOutcome (refused 3 (r .index .compacted .0)) out ≡ writtenOut (run c true r .answer) out
     unfolding further queryGuards createGuards
     create-below h =
         told (refuses 3 (r .index .compacted .0))
@@ -65,17 +69,21 @@ module _ (r : Raw) (i : ℕ) (out : List ℕ) where
       from : ltb i (s .run .compacted) ≡ false
       from = le-ltb i (s .run .compacted) (omega (arith, st .run .start, low))
 
-      pub create-above : pastDecided (some i) (numbersIn (r .index)) ≡ true → snapshotOutcome (refused 2 (r .index .decided .0)) out ≡ writtenOut (run c true r .answer) out
+      pub create-above : pastDecided (some i) (numbersIn (r .index)) ≡ true
+          → snapshotOutcome (refused 2 (r .index .decided .0)) out ≡ writtenOut (run c true r .answer) out
       unfolding further queryGuards createGuards
       create-above h =
           told (refuses 2 (r .index .decided .0))
           (found {gs = createGuards i s} {v = refuses 2 (r .index .decided .0)}
           (passing from (stopping (rw (numbers r ok) h) (sym (st .marks .index)))))
 
-      pub create-folds : pastDecided (some i) (numbersIn (r .index)) ≡ false → (to : ℕ) → to ≡ target (some i) (numbersIn (r .index)) → to ≤ r .index .compacted .0 + r .index .retained
-          → foldedOut (r .index .keys) (r .snapshot) (to - r .index .compacted .0) (r .log) out ≡ writtenOut (run c true r .answer) out
+      pub create-folds : pastDecided (some i) (numbersIn (r .index)) ≡ false → (to : ℕ)
+          → to ≡ target (some i) (numbersIn (r .index)) → to ≤ r .index .compacted .0 + r .index .retained
+          → foldedOut (r .index .keys) (r .snapshot) (to - r .index .compacted .0) (r .log) out
+          ≡ writtenOut (run c true r .answer) out
       create-folds h to e in-run =
-          ap (λ (es : List Change). foldWritten es out) (fold-is r ok to in-run ∙ asked) ∙ told (first (foldGuards (created i s))) verdict
+          ap (λ (es : List Change). foldWritten es out) (fold-is r ok to in-run ∙ asked)
+          ∙ told (first (foldGuards (created i s))) verdict
         where
           asked : foldedTo to (s .run) ≡ created i s
           asked = unfold foldedUpto in ap (λ (j : ℕ). foldedTo j (s .run)) (e ∙ ap (target (some i)) (sym (numbers r ok)))

@@ -42,11 +42,13 @@ module _ (r : Raw) (ok : formed r ≡ true) where
     unfolding logOf
     below = entries-take changeCode (to - r .index .compacted .0) (r .index .retained) (r .log) (omega arith)
 
-    pub fold-is : foldOnto (entriesOf (r .index .keys) (r .snapshot)) (entriesOf (to - r .index .compacted .0) (r .log)) ≡ foldedTo to (s .run)
+    pub fold-is : foldOnto (entriesOf (r .index .keys) (r .snapshot)) (entriesOf (to - r .index .compacted .0) (r .log))
+        ≡ foldedTo to (s .run)
     unfolding foldedTo merge
     fold-is = ap₂ foldOnto snapshot-is (sym below)
 
-    pub fold-needs : (out : List ℕ) → length out ≡ snapshotWords → Aside (r .index .keys) (r .snapshot) (to - r .index .compacted .0) (r .log) out
+    pub fold-needs : (out : List ℕ) → length out ≡ snapshotWords
+        → Aside (r .index .keys) (r .snapshot) (to - r .index .compacted .0) (r .log) out
     fold-needs out roomy =
         let g : Ready r = ready-of r ok in
         record {

@@ -1,4 +1,5 @@
--- A trim or a snapshot of a lent state: refusal 2, where it ends, and the run's start moved up there, the model's `movedTo`.
+-- A trim or a snapshot of a lent state: refusal 2, where it ends, and the run's start moved up there, the model's
+-- `movedTo`.
 use Prim.Native.Nat.{ℕ, _+_, _-_, _≤_}
 use mathlib.Core.Path.{_≡_, refl, sym, ap, _∙_}
 use mathlib.Core.Bool.{Bool, true, false}
@@ -86,8 +87,10 @@ module _ (r : Raw) (ok : formed r ≡ true) (upto : Option ℕ) where
     gone-le = omega (arith, st .run .start, st .run .count, in-run)
 
     -- the snapshot then held is given, with its words
-    pub moved-stands : (held : Bool) (keys : ℕ) (y : IndexRecord) (words : List ℕ) → Moved to held keys (r .index) (r .log) y words
-        → (o : Option (List Change)) (snapshot : List ℕ) → given o ≡ held → length (orEmpty o) ≡ keys → stored snapshotWords (orEmpty o) ≡ snapshot
+    pub moved-stands : (held : Bool) (keys : ℕ) (y : IndexRecord) (words : List ℕ)
+        → Moved to held keys (r .index) (r .log) y words
+        → (o : Option (List Change)) (snapshot : List ℕ) → given o ≡ held → length (orEmpty o) ≡ keys
+        → stored snapshotWords (orEmpty o) ≡ snapshot
         → Stands (movedTo upto o s) (raw y words snapshot)
     unfolding movedTo
     moved-stands held keys y words m o snapshot g k e = rw (is-past, ends-at, m .index) (record {
@@ -115,7 +118,8 @@ module _ (r : Raw) (ok : formed r ≡ true) (i : ℕ) where
   unfolding further trimGuards
   only = refl
 
-  trim-stands : passes ≡ pastVerdict (some i) (r .index) → (x : Raw) → Stands (movedTo (some i) (t .run .held) t) x → outcome (replied tt) x ≡ run (trim i) true r
+  trim-stands : passes ≡ pastVerdict (some i) (r .index) → (x : Raw) → Stands (movedTo (some i) (t .run .held) t) x
+      → outcome (replied tt) x ≡ run (trim i) true r
   unfolding malformed effect trimmedTo replyOf first
   trim-stands v x p = call-stands (trim i) r ok refl (sym (past-goes-on r ok (some i) (trim i) [] only v)) tt x refl p
 

@@ -10,6 +10,7 @@ use Rattle.model.specs.Calls.{query, create}
 use Rattle.state_cache.specs.State.{Raw}
 use Rattle.state_cache.specs.Run.{run}
 
-pub create-keeps : (i : ℕ) (whole : Bool) (r : Raw) (out : List ℕ) (n k : ℕ) → writtenOut (run (query (create i)) whole r .answer) out .answer ≡ refused n k
+pub create-keeps : (i : ℕ) (whole : Bool) (r : Raw) (out : List ℕ) (n k : ℕ)
+    → writtenOut (run (query (create i)) whole r .answer) out .answer ≡ refused n k
     → writtenOut (run (query (create i)) whole r .answer) out .output ≡ out
 create-keeps i whole r out n k e = written-keeps (run (query (create i)) whole r .answer) out n k e

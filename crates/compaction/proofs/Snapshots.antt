@@ -42,7 +42,8 @@ module _ (r : Raw) (ok : formed r ≡ true) (upto : Option ℕ) where
   unfolding further snapshotGuards
   both = refl
 
-  snapshot-stands : passes ≡ first (further (snapshot upto) s) → (x : Raw) → Stands (movedTo upto (some (foldedUpto upto s)) s) x → outcome (replied tt) x ≡ run (snapshot upto) true r
+  snapshot-stands : passes ≡ first (further (snapshot upto) s) → (x : Raw)
+      → Stands (movedTo upto (some (foldedUpto upto s)) s) x → outcome (replied tt) x ≡ run (snapshot upto) true r
   unfolding malformed effect snapshotTo replyOf
   snapshot-stands v x p = call-stands (snapshot upto) r ok refl v tt x refl p
 
@@ -52,7 +53,8 @@ module _ (r : Raw) (ok : formed r ≡ true) (upto : Option ℕ) where
       snapshot-stands (sym (past-goes-on r ok upto (snapshot upto) (foldGuards due) both (p .verdict) ∙ rw (not-past r ok upto (p .low refl)))) r
       (unmoved-stands r ok upto (p .low refl) (some (foldedUpto upto s)))
   snapshot-stays (SettledRefused x) p =
-      call-refused (snapshot upto) r ok refl (numberOf x) (carriedOf x) (past-stops r ok upto (snapshot upto) (foldGuards due) both (numberOf x) (carriedOf x) (p .verdict))
+      call-refused (snapshot upto) r ok refl (numberOf x) (carriedOf x)
+      (past-stops r ok upto (snapshot upto) (foldGuards due) both (numberOf x) (carriedOf x) (p .verdict))
 
   -- a fold of the entries below the target, with nothing folded after it
   module _ (to : ℕ) (u : Up upto (r .index) to) (a : Folded) (exit : List ℕ)
@@ -69,14 +71,16 @@ module _ (r : Raw) (ok : formed r ≡ true) (upto : Option ℕ) where
         past-goes-on r ok upto (snapshot upto) (foldGuards due) both (u .verdict)
         ∙ ap (λ (b : Bool). first (foldGuards (if b then foldedUpto upto s else []))) (is-past r ok upto to u)
 
-    pub snapshot-over : (x : Refusal) → a ≡ Refused x → outcome (refusedBy x) (raw (r .index) (r .log) exit) ≡ run (snapshot upto) true r
+    pub snapshot-over : (x : Refusal) → a ≡ Refused x
+        → outcome (refusedBy x) (raw (r .index) (r .log) exit) ≡ run (snapshot upto) true r
     unfolding malformed
     snapshot-over x p =
         let q = wrote-nothing (first (foldGuards (foldedUpto upto s))) (foldedUpto upto s) (r .snapshot) exit a wrote x p in
         ap (λ (ws : List ℕ). outcome (refusedBy x) (raw (r .index) (r .log) ws)) (q .1)
         ∙ call-refused (snapshot upto) r ok refl (numberOf x) (carriedOf x) (sym (verdict ∙ q .0))
 
-    pub snapshot-moves : (k : ℕ) → a ≡ Keys k → (y : IndexRecord) (words : List ℕ) → Moved to true k (r .index) (r .log) y words
+    pub snapshot-moves : (k : ℕ) → a ≡ Keys k → (y : IndexRecord) (words : List ℕ)
+        → Moved to true k (r .index) (r .log) y words
         → outcome (replied tt) (raw y words exit) ≡ run (snapshot upto) true r
     snapshot-moves k p y words m =
         let q = wrote-keys (first (foldGuards (foldedUpto upto s))) (foldedUpto upto s) (r .snapshot) exit a wrote k p in

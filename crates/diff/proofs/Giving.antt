@@ -61,7 +61,8 @@ module _ (last i : ℕ) (r : Run) where
     to-complete : (given (r .held) || ltb (r .compacted) last) ≡ true → diffTo last i r ≡ complete (foldedTo last r)
     to-complete g = rw (le-leb i (r .compacted) h) (go (reach last (r .compacted)))
       where
-        held : (o : Option (List Change)) → given o ≡ true → elim o [ none ↦ plain | some t ↦ complete t ] ≡ complete (orEmpty o)
+        held : (o : Option (List Change)) → given o ≡ true
+            → elim o [ none ↦ plain | some t ↦ complete t ] ≡ complete (orEmpty o)
         held none e = let z : _≡_ {A = ℕ} 0 1 = cc in absurd (omega arith)
         held (some t) e = refl
 
@@ -85,7 +86,8 @@ between-least i last r = go (reach i last)
     go (short x) =
         let e : last - min i last ≡ 0 = omega arith in
         let f : last - i ≡ 0 = omega arith in
-        ap (λ (k : ℕ). take k (drop (min i last - r .compacted) (r .retained))) e ∙ ap (λ (k : ℕ). take k (drop (i - r .compacted) (r .retained))) (sym f)
+        ap (λ (k : ℕ). take k (drop (min i last - r .compacted) (r .retained))) e
+        ∙ ap (λ (k : ℕ). take k (drop (i - r .compacted) (r .retained))) (sym f)
 
 -- a part of the log, to its end, folded onto the empty snapshot
 module _ (first n : ℕ) (log out : List ℕ) where
@@ -96,7 +98,9 @@ module _ (first n : ℕ) (log out : List ℕ) where
       → Aside 0 (replicate snapshotWords 0) n (take (length log - first * width) (drop (first * width) log)) out
   rest-needs h roomy = rw rest (record { base-holds = snapshot-holds 0 (replicate snapshotWords 0) empty-formed; entries-show = h; room = roomy })
 
-  pub rest-folds : foldedOut 0 (replicate snapshotWords 0) n (take (length log - first * width) (drop (first * width) log)) out ≡ foldedOut 0 [] n (drop (first * width) log) out
+  pub rest-folds : foldedOut 0 (replicate snapshotWords 0) n
+      (take (length log - first * width) (drop (first * width) log)) out
+      ≡ foldedOut 0 [] n (drop (first * width) log) out
   unfolding entriesAt
   rest-folds = ap (λ (ws : List ℕ). foldedOut 0 [] n ws out) rest
 
@@ -112,12 +116,16 @@ module _ (r : Raw) (ok : formed r ≡ true) (i last : ℕ) (l : last ≡ logDeci
   unfolding diffOf
   diff-is = ap (λ (k : ℕ). diffTo k i (s .run)) (sym (l ∙ ap logDecided (sym (numbers r ok))))
 
-  pub diff-plain : i ≤ r .index .compacted .0 → (r .index .«snapshot_held» || ltb (r .index .compacted .0) last) ≡ false → diffOf i s ≡ plain
+  pub diff-plain : i ≤ r .index .compacted .0 → (r .index .«snapshot_held» || ltb (r .index .compacted .0) last) ≡ false
+      → diffOf i s ≡ plain
   diff-plain h e =
       diff-is
-      ∙ to-plain last i (s .run) (omega (arith, st .run .start, h)) (omega (arith, st .run .start, ltb-false (r .index .compacted .0) last (or-right (r .index .«snapshot_held») _ e))) (st .run .snapshot ∙ or-left _ _ e)
+      ∙ to-plain last i (s .run) (omega (arith, st .run .start, h))
+      (omega (arith, st .run .start, ltb-false (r .index .compacted .0) last (or-right (r .index .«snapshot_held») _ e))) (st .run .snapshot ∙ or-left _ _ e)
 
-  pub diff-complete : i ≤ r .index .compacted .0 → (r .index .«snapshot_held» || ltb (r .index .compacted .0) last) ≡ true → diffOf i s ≡ complete (foldedTo last (s .run))
+  pub diff-complete : i ≤ r .index .compacted .0
+      → (r .index .«snapshot_held» || ltb (r .index .compacted .0) last) ≡ true
+      → diffOf i s ≡ complete (foldedTo last (s .run))
   diff-complete h e = diff-is ∙ to-complete last i (s .run) (omega (arith, st .run .start, h)) (rw (st .run .snapshot, st .run .start) e)
 
   pub complete-formed : entriesFormed (foldedTo last (s .run)) ≡ true
@@ -136,7 +144,8 @@ module _ (r : Raw) (ok : formed r ≡ true) (i last : ℕ) (l : last ≡ logDeci
     part-is =
         let first : ℕ = start - r .index .compacted .0 in
         sym (ap (take (last - start)) (entries-drop changeCode first (r .index .retained) (r .log) (omega (arith, start-low, decided-high (numbersIn (r .index)) (ready-of r ok .numbers) last l)))
-        ∙ entries-take changeCode (last - start) (r .index .retained - first) (drop (first * width) (r .log)) (omega (arith, start-low, decided-low (numbersIn (r .index)) (ready-of r ok .numbers) last l, decided-high (numbersIn (r .index)) (ready-of r ok .numbers) last l)))
+        ∙ entries-take changeCode (last - start) (r .index .retained - first) (drop (first * width) (r .log))
+        (omega (arith, start-low, decided-low (numbersIn (r .index)) (ready-of r ok .numbers) last l, decided-high (numbersIn (r .index)) (ready-of r ok .numbers) last l)))
 
     pub diff-delta : diffOf i s ≡ delta (fold part)
     diff-delta =
@@ -152,7 +161,8 @@ module _ (r : Raw) (ok : formed r ≡ true) (i last : ℕ) (l : last ≡ logDeci
     delta-formed = formed-fold part part-formed
 
     pub part-inside : (start - r .index .compacted .0) * width ≤ length (r .log)
-    part-inside = let g : Ready r = ready-of r ok in omega (arith, decided-high (numbersIn (r .index)) (ready-of r ok .numbers) last l, g .log .fits, g .log .long)
+    part-inside = let g : Ready r = ready-of r ok in
+        omega (arith, decided-high (numbersIn (r .index)) (ready-of r ok .numbers) last l, g .log .fits, g .log .long)
 
     pub part-shows : Shows (last - start) (drop ((start - r .index .compacted .0) * width) (r .log))
     part-shows =

@@ -9,6 +9,7 @@ use Rattle.state_cache.specs.State.{Raw}
 use Rattle.state_cache.specs.Run.{run}
 use Rattle.diff.specs.Replies.{outAfter}
 
-pub diff-keeps : (i : ℕ) (whole : Bool) (r : Raw) (out : List ℕ) (n k : ℕ) → run (query (diff i)) whole r .answer ≡ refused n k
+pub diff-keeps : (i : ℕ) (whole : Bool) (r : Raw) (out : List ℕ) (n k : ℕ)
+    → run (query (diff i)) whole r .answer ≡ refused n k
     → outAfter (run (query (diff i)) whole r .answer) out ≡ out
 diff-keeps i whole r out n k e = ap (λ (a : Answer Reply). outAfter a out) e

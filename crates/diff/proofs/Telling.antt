@@ -44,7 +44,8 @@ kind-holds : (kind : Bool) (es : List Change) → snapshotIn (kindOf kind es) �
 kind-holds true es = refl
 kind-holds false es = refl
 
-kind-says : (kind : Bool) (k last : ℕ) (exit : List ℕ) → diffSaid exit (keysTold kind (record { 0 = last }) k) ≡ replied (reply (kindOf kind (entriesOf k exit)) last)
+kind-says : (kind : Bool) (k last : ℕ) (exit : List ℕ)
+    → diffSaid exit (keysTold kind (record { 0 = last }) k) ≡ replied (reply (kindOf kind (entriesOf k exit)) last)
 kind-says true k last exit = refl
 kind-says false k last exit = refl
 
@@ -59,7 +60,8 @@ module _ (r : Raw) (i : ℕ) (out : List ℕ) where
   abbrev pub Told : Diff → List ℕ → Bool → Type 0
   Told a exit whole = (diffSaid exit a ≡ run c whole r .answer) × (exit ≡ outAfter (run c whole r .answer) out)
 
-  told : (a : Diff) (exit : List ℕ) (whole : Bool) (x : Answer Reply) → x ≡ run c whole r .answer → diffSaid exit a ≡ x → exit ≡ outAfter x out → Told a exit whole
+  told : (a : Diff) (exit : List ℕ) (whole : Bool) (x : Answer Reply) → x ≡ run c whole r .answer → diffSaid exit a ≡ x
+      → exit ≡ outAfter x out → Told a exit whole
   told a exit whole x e p q = (p ∙ e, q ∙ ap (λ (y : Answer Reply). outAfter y out) e)
 
   abbrev answerOf : Outcome Reply → Answer Reply
@@ -84,11 +86,14 @@ module _ (r : Raw) (i : ℕ) (out : List ℕ) where
       answers (refuses n k) e = ap answerOf (call-refused c r ok refl n k e)
 
       -- refusal 8 looks at what is given
-      verdict : (es : List Change) → orEmpty (snapshotIn (diffOf i s)) ≡ es → first (foldGuards es) ≡ first (further c s)
+      verdict : (es : List Change) → orEmpty (snapshotIn (diffOf i s)) ≡ es
+          → first (foldGuards es) ≡ first (further c s)
       unfolding further queryGuards diffGuards
       verdict es e = ap (λ (t : List Change). first (foldGuards t)) (sym e)
 
-      pub diff-nothing : i ≤ r .index .compacted .0 → (r .index .«snapshot_held» || ltb (r .index .compacted .0) last) ≡ false → Told (Nothing (record { 0 = last })) out true
+      pub diff-nothing : i ≤ r .index .compacted .0
+          → (r .index .«snapshot_held» || ltb (r .index .compacted .0) last) ≡ false
+          → Told (Nothing (record { 0 = last })) out true
       unfolding first
       diff-nothing h g =
           let e = diff-plain r ok i last l h g in
@@ -100,7 +105,8 @@ module _ (r : Raw) (i : ℕ) (out : List ℕ) where
         given-is : orEmpty (snapshotIn (diffOf i s)) ≡ es
         given-is = ap (λ (g : Given). orEmpty (snapshotIn g)) is ∙ ap orEmpty (kind-holds kind es)
 
-        wrote : (a : Folded) → snapshotOutcome (folded a) exit ≡ foldWritten es out → Told (foldTold kind (record { 0 = last }) a) exit true
+        wrote : (a : Folded) → snapshotOutcome (folded a) exit ≡ foldWritten es out
+            → Told (foldTold kind (record { 0 = last }) a) exit true
         wrote (FoldRefused x) f =
             let q = wrote-nothing (first (foldGuards es)) es out exit (FoldRefused x) f x refl in
             told (Refused x) exit true (refusedBy x) (answers (refuses (numberOf x) (carriedOf x)) (sym (q .0) ∙ verdict es given-is)) refl (q .1)
@@ -113,8 +119,10 @@ module _ (r : Raw) (i : ℕ) (out : List ℕ) where
             (q .2 ∙ ap (λ (o : Option (List Change)). elim o [ none ↦ out | some t ↦ stored snapshotWords t ]) (sym (kind-holds kind es)))
 
       -- of all that is decided
-      pub complete-wrote : i ≤ r .index .compacted .0 → (r .index .«snapshot_held» || ltb (r .index .compacted .0) last) ≡ true → (a : Folded) (exit : List ℕ)
-          → snapshotOutcome (folded a) exit ≡ foldedOut (r .index .keys) (r .snapshot) (last - r .index .compacted .0) (r .log) out
+      pub complete-wrote : i ≤ r .index .compacted .0
+          → (r .index .«snapshot_held» || ltb (r .index .compacted .0) last) ≡ true → (a : Folded) (exit : List ℕ)
+          → snapshotOutcome (folded a) exit
+          ≡ foldedOut (r .index .keys) (r .snapshot) (last - r .index .compacted .0) (r .log) out
           → Told (foldTold false (record { 0 = last }) a) exit true
       complete-wrote h g a exit f =
           wrote false (foldedTo last (s .run)) (diff-complete r ok i last l h g) (complete-formed r ok i last l) exit a
@@ -122,7 +130,9 @@ module _ (r : Raw) (i : ℕ) (out : List ℕ) where
 
       -- of what is decided from an index on
       pub delta-wrote : (h : r .index .compacted .0 < i) (start : ℕ) (e : start ≡ min i last) (a : Folded) (exit : List ℕ)
-          → snapshotOutcome (folded a) exit ≡ foldedOut 0 [] (last - start) (drop ((start - r .index .compacted .0) * width) (r .log)) out
+          → snapshotOutcome (folded a) exit
+          ≡ foldedOut 0 [] (last - start) (drop ((start - r .index .compacted .0) * width) (r .log)) out
           → Told (foldTold true (record { 0 = last }) a) exit true
       unfolding fold entriesAt
-      delta-wrote h start e a exit f = wrote true _ (diff-delta r ok i last l h start e) (delta-formed r ok i last l h start e) exit a f
+      delta-wrote h start e a exit f =
+          wrote true _ (diff-delta r ok i last l h start e) (delta-formed r ok i last l h start e) exit a f

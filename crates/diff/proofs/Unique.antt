@@ -41,7 +41,8 @@ said-known out (Nothing i) (Complete m j) e = absurd (omega (arith, ap caseOf e)
 said-known out (Nothing i) (Delta m j) e = absurd (omega (arith, ap caseOf e))
 said-known out (Nothing i) (Refused y) e = absurd (omega (arith, ap caseOf e))
 said-known out (Complete n i) (Nothing j) e = absurd (omega (arith, ap caseOf e))
-said-known out (Complete n i) (Complete m j) e = ap₂ Complete (keys-known n m out (ap keysOf e)) (index-known i j (ap uptoOf e))
+said-known out (Complete n i) (Complete m j) e =
+    ap₂ Complete (keys-known n m out (ap keysOf e)) (index-known i j (ap uptoOf e))
 said-known out (Complete n i) (Delta m j) e = absurd (omega (arith, ap caseOf e))
 said-known out (Complete n i) (Refused y) e = absurd (omega (arith, ap caseOf e))
 said-known out (Delta n i) (Nothing j) e = absurd (omega (arith, ap caseOf e))
@@ -53,7 +54,8 @@ said-known out (Refused x) (Complete m j) e = absurd (omega (arith, ap caseOf e)
 said-known out (Refused x) (Delta m j) e = absurd (omega (arith, ap caseOf e))
 said-known out (Refused x) (Refused y) e = ap Refused (refusal-known x y e)
 
-pub diff-unique : (r q : Diff) (v w out : List ℕ) (claim : Answer Reply) → diffSaid v r ≡ claim → v ≡ outAfter claim out → diffSaid w q ≡ claim → w ≡ outAfter claim out
+pub diff-unique : (r q : Diff) (v w out : List ℕ) (claim : Answer Reply) → diffSaid v r ≡ claim → v ≡ outAfter claim out
+    → diffSaid w q ≡ claim → w ≡ outAfter claim out
     → (r ≡ q) × (v ≡ w)
 diff-unique r q v w out claim e f g h =
     let o : v ≡ w = f ∙ sym h in

@@ -56,12 +56,14 @@ pub entry-words : (i : ℕ) (ws : List ℕ) → changeCode .dec (take width (dro
 entry-words i ws =
     let z : i * width + 0 ≡ i * width = omega arith in
     let k : getD (take width (drop (i * width) ws)) 0 0 ≡ getD ws (i * width) 0 =
-    getD-take width (drop (i * width) ws) 0 0 (omega arith) ∙ getD-drop (i * width) ws 0 0 ∙ ap (λ (j : ℕ). getD ws j 0) z in
+    getD-take width (drop (i * width) ws) 0 0 (omega arith) ∙ getD-drop (i * width) ws 0 0
+    ∙ ap (λ (j : ℕ). getD ws j 0) z in
     let w : getD (take width (drop (i * width) ws)) 1 0 ≡ getD ws (i * width + 1) 0 =
     getD-take width (drop (i * width) ws) 1 0 (omega arith) ∙ getD-drop (i * width) ws 1 0 in
     ap₂ change k w
 
-pub entry-cons : (i n : ℕ) (ws : List ℕ) → i < n → drop i (entriesOf n ws) ≡ changeAt ws i ∷ drop (suc i) (entriesOf n ws)
+pub entry-cons : (i n : ℕ) (ws : List ℕ) → i < n
+    → drop i (entriesOf n ws) ≡ changeAt ws i ∷ drop (suc i) (entriesOf n ws)
 entry-cons i n ws h =
     entries-cons changeCode i n ws h
     ∙ ap (λ (c : Change). c ∷ drop (suc i) (entriesOf n ws)) (entry-words i ws)
@@ -75,7 +77,8 @@ module _ (k : ℕ) where
   module _ (p : ℕ) where
     pub lent-place : p < places → LentAs (record { key = k; said = place p }) (k ∷ (p ∷ []))
     unfolding entriesAt allOf
-    lent-place h = let q = ne-eqb p lastWord (omega arith) in record { whole = refl; same-form = rw (q, lt-ltb p places h); same-entry = λ e. rw q }
+    lent-place h = let q = ne-eqb p lastWord (omega arith) in
+        record { whole = refl; same-form = rw (q, lt-ltb p places h); same-entry = λ e. rw q }
 
     pub lent-none : places ≤ p → LentAs (record { key = k; said = place p }) (k ∷ (places ∷ []))
     unfolding entriesAt allOf

@@ -23,7 +23,8 @@ unfolding first
 first-left [] hs n k e = let z : _≡_ {A = ℕ} 0 1 = cc in absurd (omega arith)
 first-left (g ∷ gs) hs n k e = go (g .applies) e (λ q. first-left gs hs n k q)
   where
-    go : (t : Bool) → refuses n k ≡ (if t then refuses (g .number) (g .carried) else first gs) → (refuses n k ≡ first gs → refuses n k ≡ first (gs ++ hs))
+    go : (t : Bool) → refuses n k ≡ (if t then refuses (g .number) (g .carried) else first gs)
+        → (refuses n k ≡ first gs → refuses n k ≡ first (gs ++ hs))
         → refuses n k ≡ (if t then refuses (g .number) (g .carried) else first (gs ++ hs))
     go true q ih = q
     go false q ih = ih q
@@ -33,7 +34,8 @@ unfolding first
 first-right [] hs e = refl
 first-right (g ∷ gs) hs e = go (g .applies) e (λ q. first-right gs hs q)
   where
-    go : (t : Bool) → passes ≡ (if t then refuses (g .number) (g .carried) else first gs) → (passes ≡ first gs → first (gs ++ hs) ≡ first hs)
+    go : (t : Bool) → passes ≡ (if t then refuses (g .number) (g .carried) else first gs)
+        → (passes ≡ first gs → first (gs ++ hs) ≡ first hs)
         → (if t then refuses (g .number) (g .carried) else first (gs ++ hs)) ≡ first hs
     go true q ih = let z : _≡_ {A = ℕ} 0 1 = cc in absurd (omega arith)
     go false q ih = ih q
@@ -86,7 +88,8 @@ clear gs p n = fact n gs p
 pub data Finds : List Guard → Verdict → Type 0 where
   clear-all : Finds [] passes
   passing : {g : Guard} {gs : List Guard} {v : Verdict} → g .applies ≡ false → Finds gs v → Finds (g ∷ gs) v
-  stopping : {g : Guard} {gs : List Guard} {m : ℕ} → g .applies ≡ true → m ≡ g .carried → Finds (g ∷ gs) (refuses (g .number) m)
+  stopping : {g : Guard} {gs : List Guard} {m : ℕ} → g .applies ≡ true → m ≡ g .carried
+      → Finds (g ∷ gs) (refuses (g .number) m)
 
 pub found : {gs : List Guard} {v : Verdict} → Finds gs v → v ≡ first gs
 unfolding first

@@ -24,7 +24,8 @@ laid-of words n ws e =
     let e₂ = and-right (eqb (length ws) words) _ e in
     let fits : n * width ≤ words = leb-true (n * width) words (and-left _ _ e₂) in
     let e₃ = and-right (leb (n * width) words) _ e₂ in
-    let k : length (drop (n * width) ws) ≡ length ws - length (take (n * width) ws) = simp (length-drop, length-take) (omega arith) in
+    let k : length (drop (n * width) ws)
+    ≡ length ws - length (take (n * width) ws) = simp (length-drop, length-take) (omega arith) in
     record {
       long = long;
       fits = fits;
@@ -42,10 +43,12 @@ laid-stored words n ws l =
 pub stored-length : (words : ℕ) (es : List Change) → length es * width ≤ words → length (stored words es) ≡ words
 stored-length words es h = length-laid words (wordsOf changeCode es) (omega (arith, words-length changeCode changeOk es))
 
-pub stored-entries : (words : ℕ) (es : List Change) → entriesFormed es ≡ true → entriesOf (length es) (stored words es) ≡ es
+pub stored-entries : (words : ℕ) (es : List Change) → entriesFormed es ≡ true
+    → entriesOf (length es) (stored words es) ≡ es
 stored-entries words es fine = entries-laid changeCode changeOk words es fine
 
-pub stored-laid : (words : ℕ) (es : List Change) → length es * width ≤ words → entriesFormed es ≡ true → storedIn words (length es) (stored words es) ≡ true
+pub stored-laid : (words : ℕ) (es : List Change) → length es * width ≤ words → entriesFormed es ≡ true
+    → storedIn words (length es) (stored words es) ≡ true
 unfolding storedIn
 stored-laid words es h fine =
     let n = words-length changeCode changeOk es in
@@ -69,7 +72,8 @@ slice-fine ws e = and-right (eqb (length ws % width) 0) (entriesFormed (entriesI
 pub entries-join : (a b : List ℕ) → length a % width ≡ 0 → entriesIn (a ++ b) ≡ entriesIn a ++ entriesIn b
 entries-join a b whole =
     let n : length (a ++ b) / width ≡ length a / width + length b / width = simp length-append (omega arith) in
-    ap (λ (k : ℕ). entriesOf k (a ++ b)) n ∙ entries-append changeCode (length a / width) (length b / width) a b (omega arith)
+    ap (λ (k : ℕ). entriesOf k (a ++ b)) n
+    ∙ entries-append changeCode (length a / width) (length b / width) a b (omega arith)
 
 pub slice-join : (a b : List ℕ) → sliceFormed a ≡ true → sliceFormed b ≡ true → sliceFormed (a ++ b) ≡ true
 unfolding sliceFormed

@@ -11,10 +11,13 @@ use Rattle.host.specs.declared.Said.{Said}
 use Rattle.host.specs.declared.Reply.{Reply}
 use Rattle.host.specs.Plain.{plain, aNumber, left, plainly, wrote, wroteAs}
 
-pub carry : {A : Type 0} (f : A → Said) {p : Reply} {a : Answer A} {i : IndexRecord} {l s : List ℕ} {o : Outcome A} → (p .said ≡ plain f a) × (p .index ≡ i)
+pub carry : {A : Type 0} (f : A → Said) {p : Reply} {a : Answer A} {i : IndexRecord} {l s : List ℕ} {o : Outcome A}
+    → (p .said ≡ plain f a) × (p .index ≡ i)
     → outcome a (raw i l s) ≡ o → left (p .said) (raw (p .index) l s) ≡ plainly f o
-carry f {p} {a} {i} {l} {s} {o} e q = ap (λ t. left t (raw (p .index) l s)) (e .0) ∙ ap (λ x. left (plain f a) (raw x l s)) (e .1) ∙ ap (plainly f) q
+carry f {p} {a} {i} {l} {s} {o} e q =
+    ap (λ t. left t (raw (p .index) l s)) (e .0) ∙ ap (λ x. left (plain f a) (raw x l s)) (e .1) ∙ ap (plainly f) q
 
 -- the same of a snapshot that is written out
-pub carry-out : {s : Said} {a : Answer ℕ} {out : List ℕ} {o : Fold} → s ≡ plain aNumber a → fold a out ≡ o → wrote s out ≡ wroteAs o
+pub carry-out : {s : Said} {a : Answer ℕ} {out : List ℕ} {o : Fold} → s ≡ plain aNumber a → fold a out ≡ o
+    → wrote s out ≡ wroteAs o
 carry-out {s} {a} {out} {o} e q = ap (λ t. wrote t out) e ∙ ap wroteAs q

@@ -19,7 +19,8 @@ use Rattle.state_cache.proofs.Stands.{ready-of}
 use Rattle.state_cache.proofs.Runs.{ill-formed, not-whole, bad-call}
 use Rattle.internal_storage.specs.Inner.{Appends}
 
-pub slice-refused : (c : Call) (ws : List ℕ) (r : Raw) → malformed c ≡ not (entriesFormed (entriesIn ws)) → formed r ≡ true → sliceFormed ws ≡ false
+pub slice-refused : (c : Call) (ws : List ℕ) (r : Raw) → malformed c ≡ not (entriesFormed (entriesIn ws))
+    → formed r ≡ true → sliceFormed ws ≡ false
     → outcome (refused 11 0) r ≡ run c (wholeIn ws) r
 unfolding sliceFormed
 slice-refused c ws r m ok e = go (wholeIn ws) refl
@@ -36,13 +37,17 @@ pub slice-appends : (ws : List ℕ) (r : Raw) → formed r ≡ true → sliceFor
 slice-appends ws r ok e = record { ready = ready-of r ok; whole = omega (arith, slice-whole ws e); fine = slice-fine ws e }
 
 -- one entry, by the words that it is lent as
-pub one-run : (c : Change) (ws : List ℕ) → LentAs c ws → (r : Raw) → run (append (entriesIn ws)) (wholeIn ws) r ≡ run (append (c ∷ [])) true r
+pub one-run : (c : Change) (ws : List ℕ) → LentAs c ws → (r : Raw)
+    → run (append (entriesIn ws)) (wholeIn ws) r ≡ run (append (c ∷ [])) true r
 unfolding malformed allOf
 one-run c ws l r = ap (λ (t : Bool). run (append (entriesIn ws)) t r) (l .whole) ∙ go (changeFormed c) refl
   where
-    refused-both : changeFormed c ≡ false → (t : Bool) → formed r ≡ t → run (append (entriesIn ws)) true r ≡ run (append (c ∷ [])) true r
-    refused-both e true ok = sym (bad-call (append (entriesIn ws)) r ok (ap not (l .same-form ∙ e))) ∙ bad-call (append (c ∷ [])) r ok (rw e)
-    refused-both e false bad = sym (ill-formed (append (entriesIn ws)) true r bad) ∙ ill-formed (append (c ∷ [])) true r bad
+    refused-both : changeFormed c ≡ false → (t : Bool) → formed r ≡ t
+        → run (append (entriesIn ws)) true r ≡ run (append (c ∷ [])) true r
+    refused-both e true ok = sym (bad-call (append (entriesIn ws)) r ok (ap not (l .same-form ∙ e)))
+        ∙ bad-call (append (c ∷ [])) r ok (rw e)
+    refused-both e false bad = sym (ill-formed (append (entriesIn ws)) true r bad)
+        ∙ ill-formed (append (c ∷ [])) true r bad
 
     go : (t : Bool) → changeFormed c ≡ t → run (append (entriesIn ws)) true r ≡ run (append (c ∷ [])) true r
     go true e = ap (λ (es : List Change). run (append es) true r) (l .same-entry e)

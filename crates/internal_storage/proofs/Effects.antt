@@ -53,20 +53,27 @@ module _ (r : Raw) (ok : formed r ≡ true) where
     here = ap first same ∙ ap (λ (n : Numbers). first (gs n)) numbers
 
     -- one that moves no word
-    pub numbers-run : (y : Reply c) (next : IndexRecord) → (passes ≡ first (gs (numbersIn (r .index))) → (y ≡ replyOf c s) × Stands (effect c s) (raw next (r .log) (r .snapshot)))
-        → (a : Answer (Reply c)) (x : IndexRecord) → indexed a x ≡ byNumbers (first (gs (numbersIn (r .index)))) y next (r .index)
+    pub numbers-run : (y : Reply c) (next : IndexRecord)
+        → (passes ≡ first (gs (numbersIn (r .index))) → (y ≡ replyOf c s) × Stands (effect c s) (raw next (r .log) (r .snapshot)))
+        → (a : Answer (Reply c)) (x : IndexRecord)
+        → indexed a x ≡ byNumbers (first (gs (numbersIn (r .index)))) y next (r .index)
         → outcome a (raw x (r .log) (r .snapshot)) ≡ run c true r
     numbers-run y next stands a x e = go (first (gs (numbersIn (r .index)))) refl
       where
-        told : (v : Verdict) → first (gs (numbersIn (r .index))) ≡ v → outcome a (raw x (r .log) (r .snapshot)) ≡ outcome (byNumbers v y next (r .index) .answer) (raw (byNumbers v y next (r .index) .index) (r .log) (r .snapshot))
-        told v q = ap (λ (z : Indexed (Reply c)). outcome (z .answer) (raw (z .index) (r .log) (r .snapshot))) (e ∙ ap (λ (u : Verdict). byNumbers u y next (r .index)) q)
+        told : (v : Verdict) → first (gs (numbersIn (r .index))) ≡ v
+            → outcome a (raw x (r .log) (r .snapshot))
+            ≡ outcome (byNumbers v y next (r .index) .answer) (raw (byNumbers v y next (r .index) .index) (r .log) (r .snapshot))
+        told v q = ap (λ (z : Indexed (Reply c)). outcome (z .answer) (raw (z .index) (r .log) (r .snapshot)))
+            (e ∙ ap (λ (u : Verdict). byNumbers u y next (r .index)) q)
 
-        go : (v : Verdict) → first (gs (numbersIn (r .index))) ≡ v → outcome a (raw x (r .log) (r .snapshot)) ≡ run c true r
+        go : (v : Verdict) → first (gs (numbersIn (r .index))) ≡ v
+            → outcome a (raw x (r .log) (r .snapshot)) ≡ run c true r
         go passes q = let t = stands (sym q) in told passes q ∙ call-stands c r ok m (sym (here ∙ q)) y _ (t .0) (t .1)
         go (refuses n k) q = told (refuses n k) q ∙ call-refused c r ok m n k (sym (here ∙ q))
 
   -- a call with no refusal of its own
-  pub quiet-stands : (c : Call) → further c s ≡ [] → malformed c ≡ false → (y : Reply c) (x : Raw) → y ≡ replyOf c s → Stands (effect c s) x → outcome (replied y) x ≡ run c true r
+  pub quiet-stands : (c : Call) → further c s ≡ [] → malformed c ≡ false → (y : Reply c) (x : Raw) → y ≡ replyOf c s
+      → Stands (effect c s) x → outcome (replied y) x ≡ run c true r
   unfolding first
   quiet-stands c e m y x p q = call-stands c r ok m (ap first (sym e)) y x p q
 
@@ -82,7 +89,8 @@ module _ (r : Raw) (ok : formed r ≡ true) where
     snapshot = st .snapshot;
   }
 
-  pub promised-stands : (b : Ballot) → Stands (effect (setPromise b) s) (raw (withPromise b (r .index)) (r .log) (r .snapshot))
+  pub promised-stands : (b : Ballot)
+      → Stands (effect (setPromise b) s) (raw (withPromise b (r .index)) (r .log) (r .snapshot))
   unfolding effect
   promised-stands b = record {
     run = st .run;
@@ -122,7 +130,8 @@ module _ (r : Raw) (ok : formed r ≡ true) where
         snapshot = f .snapshot;
       }
 
-  pub stop-set-stands : (held : Bool) (g : StopSign) → Stands (stopSet (asked held g) s) (raw (withStop held (signIf held g) (r .index)) (r .log) (r .snapshot))
+  pub stop-set-stands : (held : Bool) (g : StopSign)
+      → Stands (stopSet (asked held g) s) (raw (withStop held (signIf held g) (r .index)) (r .log) (r .snapshot))
   unfolding stopSet
   stop-set-stands held g = record {
     run = st .run;
@@ -138,14 +147,16 @@ module _ (r : Raw) (ok : formed r ≡ true) where
       ap₂ (λ (k a : ℕ). if eqb k 0 then none else some (record { accepted = a; count = k })) (sym (st .tail .count))
       (ap acceptedOf (sym (numbers-are (flushed s) (raw (allFlushed (r .index)) (r .log) (r .snapshot)) flushed-stands)))
 
-  pub flush-entries-run : (a : Answer (Option Flushed)) (x : IndexRecord) → a ≡ replied (flushSays (r .index)) → x ≡ allFlushed (r .index)
+  pub flush-entries-run : (a : Answer (Option Flushed)) (x : IndexRecord) → a ≡ replied (flushSays (r .index))
+      → x ≡ allFlushed (r .index)
       → outcome a (raw x (r .log) (r .snapshot)) ≡ run flushEntries true r
   unfolding further malformed effect
   flush-entries-run a x e p =
       ap₂ (λ (b : Answer (Option Flushed)) (z : IndexRecord). outcome b (raw z (r .log) (r .snapshot))) e p
       ∙ quiet-stands flushEntries refl refl (flushSays (r .index)) (raw (allFlushed (r .index)) (r .log) (r .snapshot)) flush-says flushed-stands
 
-  pub flush-run : (y : ℕ) (x : IndexRecord) → x ≡ allFlushed (r .index) → y ≡ acceptedOf (numbersIn x) → outcome (replied y) (raw x (r .log) (r .snapshot)) ≡ run flush true r
+  pub flush-run : (y : ℕ) (x : IndexRecord) → x ≡ allFlushed (r .index) → y ≡ acceptedOf (numbersIn x)
+      → outcome (replied y) (raw x (r .log) (r .snapshot)) ≡ run flush true r
   unfolding further malformed effect replyOf
   flush-run y x e p =
       ap (λ (z : IndexRecord). outcome (replied y) (raw z (r .log) (r .snapshot))) e
@@ -154,11 +165,13 @@ module _ (r : Raw) (ok : formed r ≡ true) where
       flushed-stands
 
   pub append-stop-run : (g : StopSign) → signFormed g ≡ true → (a : Answer (Option Flushed)) (x : IndexRecord)
-      → indexed a x ≡ byNumbers (first (appendStopGuards (numbersIn (r .index)))) (flushSays (r .index)) (withStop true g (allFlushed (r .index))) (r .index)
+      → indexed a x ≡ byNumbers (first (appendStopGuards (numbersIn (r .index)))) (flushSays (r .index))
+      (withStop true g (allFlushed (r .index))) (r .index)
       → outcome a (raw x (r .log) (r .snapshot)) ≡ run (appendStop g) true r
   unfolding further malformed effect replyOf
   append-stop-run g fine a x e =
-      numbers-run (appendStop g) appendStopGuards refl (rw fine) (flushSays (r .index)) (withStop true g (allFlushed (r .index))) (λ q. (flush-says, stop-stands g)) a x e
+      numbers-run (appendStop g) appendStopGuards refl (rw fine) (flushSays (r .index))
+      (withStop true g (allFlushed (r .index))) (λ q. (flush-says, stop-stands g)) a x e
 
   module _ (held : Bool) (g : StopSign) where
     set-malformed : malformed (setStop (asked held g)) ≡ (held && not (signFormed g))
@@ -169,16 +182,20 @@ module _ (r : Raw) (ok : formed r ≡ true) where
         go true = refl
         go false = refl
 
-    pub set-stop-bad : (held && not (signFormed g)) ≡ true → outcome (refused 11 0) r ≡ run (setStop (asked held g)) true r
+    pub set-stop-bad : (held && not (signFormed g)) ≡ true
+        → outcome (refused 11 0) r ≡ run (setStop (asked held g)) true r
     set-stop-bad e = bad-call (setStop (asked held g)) r ok (set-malformed ∙ e)
 
-    pub set-stop-run : (held && not (signFormed g)) ≡ false → (k : StopSign) → k ≡ signIf held g → (a : Answer ℕ) (x : IndexRecord)
-        → indexed a x ≡ byNumbers (first (setStopGuards held (numbersIn (r .index)))) (acceptedOf (numbersIn (withStop held k (r .index)))) (withStop held k (r .index)) (r .index)
+    pub set-stop-run : (held && not (signFormed g)) ≡ false → (k : StopSign) → k ≡ signIf held g
+        → (a : Answer ℕ) (x : IndexRecord)
+        → indexed a x ≡ byNumbers (first (setStopGuards held (numbersIn (r .index))))
+        (acceptedOf (numbersIn (withStop held k (r .index)))) (withStop held k (r .index)) (r .index)
         → outcome a (raw x (r .log) (r .snapshot)) ≡ run (setStop (asked held g)) true r
     unfolding further effect replyOf
     set-stop-run m k is a x e =
         let set : Stands (stopSet (asked held g) s) (raw (withStop held k (r .index)) (r .log) (r .snapshot)) = rw is (stop-set-stands held g) in
-        numbers-run (setStop (asked held g)) (setStopGuards held) (ap (λ (t : Bool). setStopGuards t (numbersOf s)) (given-by held g)) (set-malformed ∙ m)
+        numbers-run (setStop (asked held g)) (setStopGuards held)
+        (ap (λ (t : Bool). setStopGuards t (numbersOf s)) (given-by held g)) (set-malformed ∙ m)
         (acceptedOf (numbersIn (withStop held k (r .index)))) (withStop held k (r .index))
         (λ q. (ap acceptedOf (sym (numbers-are (stopSet (asked held g) s) (raw (withStop held k (r .index)) (r .log) (r .snapshot)) set)), set)) a x e
 
@@ -199,12 +216,14 @@ module _ (r : Raw) (ok : formed r ≡ true) where
       words-are : stored logWords (s .run .retained ++ batchWith es s) ≡ words
       words-are =
           ap (stored logWords) (sym (append-assoc (s .run .retained) (s .tail .batched) es) ∙ sym (spliced-append (s .run .retained ++ s .tail .batched) es))
-          ∙ rw (held-length s r st (log-formed r ok)) (sym (put ∙ log-spliced s r st (log-formed r ok) (r .index .retained + r .index .batched) 0 entries es coded))
+          ∙ rw (held-length s r st (log-formed r ok))
+          (sym (put ∙ log-spliced s r st (log-formed r ok) (r .index .retained + r .index .batched) 0 entries es coded))
 
       batch-count : length (batchWith es s) ≡ r .index .batched + n
       batch-count = omega (arith, length-append (s .tail .batched) es, many, st .tail .count)
 
-      flushed-all : Stands (joined (batchWith es s) [] s) (raw (withEntries (r .index .retained + (r .index .batched + n)) 0 (r .index)) words (r .snapshot))
+      flushed-all : Stands (joined (batchWith es s) [] s)
+          (raw (withEntries (r .index .retained + (r .index .batched + n)) 0 (r .index)) words (r .snapshot))
       flushed-all = record {
         run = record {
           start = st .run .start;
@@ -218,7 +237,8 @@ module _ (r : Raw) (ok : formed r ≡ true) where
         snapshot = st .snapshot;
       }
 
-      held-all : Stands (withTail (waiting (batchWith es s) (s .tail)) s) (raw (withEntries (r .index .retained) (r .index .batched + n) (r .index)) words (r .snapshot))
+      held-all : Stands (withTail (waiting (batchWith es s) (s .tail)) s)
+          (raw (withEntries (r .index .retained) (r .index .batched + n) (r .index)) words (r .snapshot))
       held-all = record {
         run = st .run;
         tail = record { count = batch-count; sized = st .tail .sized; stopped = st .tail .stopped; sign = st .tail .sign };
@@ -231,11 +251,13 @@ module _ (r : Raw) (ok : formed r ≡ true) where
       unfolding fills
       fills-is = rw (batch-count, st .tail .sized)
 
-      flush-effect : fills es s ≡ true → Stands (effect (append es) s) (raw (flushedAt n (r .index) .index) words (r .snapshot))
+      flush-effect : fills es s ≡ true
+          → Stands (effect (append es) s) (raw (flushedAt n (r .index) .index) words (r .snapshot))
       unfolding effect appended
       flush-effect e = rw e flushed-all
 
-      hold-effect : fills es s ≡ false → Stands (effect (append es) s) (raw (heldAt n (r .index) .index) words (r .snapshot))
+      hold-effect : fills es s ≡ false
+          → Stands (effect (append es) s) (raw (heldAt n (r .index) .index) words (r .snapshot))
       unfolding effect appended
       hold-effect e = rw e held-all
 
@@ -263,14 +285,19 @@ module _ (r : Raw) (ok : formed r ≡ true) where
         unfolding further
         stands = rw (many, numbers) pass
 
-        pub append-run : outcome (appendSaid (batchedWith n (r .index) .answer)) (raw (batchedWith n (r .index) .index) words (r .snapshot)) ≡ run (append es) true r
+        pub append-run : outcome (appendSaid (batchedWith n (r .index) .answer))
+            (raw (batchedWith n (r .index) .index) words (r .snapshot)) ≡ run (append es) true r
         unfolding batchedWith
         append-run = go (leb (r .index .«batch_size») (r .index .batched + n)) fills-is
           where
             go : (t : Bool) → fills es s ≡ t
-                → outcome (appendSaid ((if t then flushedAt n (r .index) else heldAt n (r .index)) .answer)) (raw ((if t then flushedAt n (r .index) else heldAt n (r .index)) .index) words (r .snapshot)) ≡ run (append es) true r
-            go true e = call-stands (append es) r ok bad stands flush-told (raw (flushedAt n (r .index) .index) words (r .snapshot)) (flush-reply e) (flush-effect e)
-            go false e = call-stands (append es) r ok bad stands none (raw (heldAt n (r .index) .index) words (r .snapshot)) (hold-reply e) (hold-effect e)
+                → outcome (appendSaid ((if t then flushedAt n (r .index) else heldAt n (r .index)) .answer))
+                (raw ((if t then flushedAt n (r .index) else heldAt n (r .index)) .index) words (r .snapshot))
+                ≡ run (append es) true r
+            go true e = call-stands (append es) r ok bad stands flush-told
+                (raw (flushedAt n (r .index) .index) words (r .snapshot)) (flush-reply e) (flush-effect e)
+            go false e = call-stands (append es) r ok bad stands none
+                (raw (heldAt n (r .index) .index) words (r .snapshot)) (hold-reply e) (hold-effect e)
 
     -- before the batch
     module _ (put : words ≡ laid (length (r .log)) (spliced (r .index .retained * width) 0 entries (take ((r .index .retained + r .index .batched) * width) (r .log)))) where
@@ -325,7 +352,8 @@ flushed-small x s y e =
     rw e
     (record { few = omega (arith, s .room); waiting = omega arith; low = sound-small (numbersIn x) s .low })
 
-pub flush-answered : (x y : IndexRecord) (a : ℕ) → eqb (x .batched) 0 ≡ false → y ≡ allFlushed x → a ≡ acceptedOf (numbersIn y)
+pub flush-answered : (x y : IndexRecord) (a : ℕ) → eqb (x .batched) 0 ≡ false → y ≡ allFlushed x
+    → a ≡ acceptedOf (numbersIn y)
     → replied (some (record { accepted = a; count = x .batched })) ≡ replied (flushSays x)
 unfolding flushSays
 flush-answered x y a t e p =
@@ -333,6 +361,7 @@ flush-answered x y a t e p =
     (ap (λ (k : ℕ). replied (some (record { accepted = k; count = x .batched }))) (p ∙ ap (λ (z : IndexRecord). acceptedOf (numbersIn z)) e))
 
 -- an outcome that tells of a flush the accepted index alone
-pub index-told : (a : Answer (Option ℕ)) (b : Answer (Option Flushed)) (r : Raw) (o : Outcome (Option Flushed)) → a ≡ indexOnly b → outcome b r ≡ o
+pub index-told : (a : Answer (Option ℕ)) (b : Answer (Option Flushed)) (r : Raw) (o : Outcome (Option Flushed))
+    → a ≡ indexOnly b → outcome b r ≡ o
     → outcome a r ≡ withIndexOnly o
 index-told a b r o e q = ap (λ (x : Answer (Option ℕ)). outcome x r) e ∙ ap withIndexOnly q

@@ -1,4 +1,5 @@
--- The history theorem's premise can be met: a trace with appends, a snapshot, a plain, a complete and a delta sync, and refused calls
+-- The history theorem's premise can be met: a trace with appends, a snapshot, a plain, a complete and a delta sync, and
+-- refused calls
 -- of the kinds that it does not admit when they stand.
 use Prim.Native.Nat.{ℕ}
 use mathlib.Core.Path.{_≡_, refl}
@@ -63,7 +64,8 @@ premise-met =
 abbrev runAt : ℕ → List Change → List Change → Run
 runAt c r h = record { compacted = c; retained = r; held = some h }
 
-pub delta-held : told toDelta (fresh 0) .log .run ≡ runAt 5 (put 5 500 ∷ []) (put 4 200 ∷ put 6 600 ∷ put 7 700 ∷ del 9 ∷ [])
+pub delta-held : told toDelta (fresh 0) .log .run
+    ≡ runAt 5 (put 5 500 ∷ []) (put 4 200 ∷ put 6 600 ∷ put 7 700 ∷ del 9 ∷ [])
 unfolding allOf signFormed first insert foldOnto fold merge climbs rising endOf acceptedOf stopDecided logDecided numbersFormed foldedTo keysFormed wellFormed freshLog appendGuards fills appended target passesStart foldedUpto trimGuards snapshotGuards movedTo snapshotTo opsFormed partFormed deltaOnto runThen partNumberGuards partGuards partSynced malformed decideGuards syncGuards further guards synced effect stateAfter syncedHistory grown next told fresh
 delta-held = refl
 

@@ -8,7 +8,8 @@ use Rattle.entry.specs.Change.{Change}
 use Rattle.model.specs.Log.{Log}
 use Rattle.model.specs.Append.{batchWith, fills, appended, flushed}
 
-pub appended-last : (es : List Change) (s : Log) → fills es s ≡ true → drop (length (s .run .retained)) (appended es s .run .retained) ≡ batchWith es s
+pub appended-last : (es : List Change) (s : Log) → fills es s ≡ true
+    → drop (length (s .run .retained)) (appended es s .run .retained) ≡ batchWith es s
 unfolding appended
 appended-last es s e = rw e (drop-append-seam (s .run .retained) (batchWith es s))
 

@@ -27,12 +27,14 @@ pub log-min : (n : Numbers) → n .decided ≤ acceptedOf n → logDecided n ≡
 unfolding logDecided stopDecided acceptedOf
 log-min n h = go (n .stop) h
   where
-    two : (t : Bool) → eqb (n .decided) (endOf n + 1) ≡ t → n .decided ≤ endOf n + 1 → (if t then n .decided - 1 else n .decided) ≡ min (n .decided) (endOf n)
+    two : (t : Bool) → eqb (n .decided) (endOf n + 1) ≡ t → n .decided ≤ endOf n + 1
+        → (if t then n .decided - 1 else n .decided) ≡ min (n .decided) (endOf n)
     two true e k = omega (arith, eqb-true (n .decided) (endOf n + 1) e)
     two false e k = omega (arith, eqb-false (n .decided) (endOf n + 1) e)
 
     go : (t : Bool) → n .decided ≤ endOf n + (if t then 1 else 0)
-        → (if t && eqb (n .decided) (endOf n + (if t then 1 else 0)) then n .decided - 1 else n .decided) ≡ min (n .decided) (endOf n)
+        → (if t && eqb (n .decided) (endOf n + (if t then 1 else 0)) then n .decided - 1 else n .decided)
+        ≡ min (n .decided) (endOf n)
     go true k = two (eqb (n .decided) (endOf n + 1)) refl k
     go false k = omega arith
 

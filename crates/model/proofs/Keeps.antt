@@ -34,7 +34,8 @@ pub log-near : (n : Numbers) → (n .decided ≤ logDecided n + 1) × (logDecide
 unfolding logDecided
 log-near n = go (stopDecided n)
   where
-    go : (t : Bool) → (n .decided ≤ (if t then n .decided - 1 else n .decided) + 1) × ((if t then n .decided - 1 else n .decided) ≤ n .decided)
+    go : (t : Bool) → (n .decided ≤ (if t then n .decided - 1 else n .decided) + 1)
+        × ((if t then n .decided - 1 else n .decided) ≤ n .decided)
     go true = (omega arith, omega arith)
     go false = (omega arith, omega arith)
 
@@ -73,7 +74,8 @@ module _ (s : Log) (f : Formed s) where
   -- entries joined to the run, and a batch
   joined-keeps : (new batch : List Change) → entriesFormed new ≡ true → entriesFormed batch ≡ true
       → acceptedOf (numbersOf s) + length new + length batch ≤ lastIndex → length batch ≤ s .tail .size - 1
-      → (given (s .tail .sign) ≡ true → length batch ≡ 0) → length (s .run .retained) + length new + length batch ≤ entryRoom
+      → (given (s .tail .sign) ≡ true → length batch ≡ 0)
+      → length (s .run .retained) + length new + length batch ≤ entryRoom
       → Formed (joined new batch s)
   unfolding acceptedOf endOf
   joined-keeps new batch a b i sm q r =
@@ -95,7 +97,8 @@ module _ (s : Log) (f : Formed s) where
         stop = f .stop;
       }
 
-  append-keeps : (es : List Change) → entriesFormed es ≡ true → Clear (appendGuards (length es) (numbersOf s)) → Formed (appended es s)
+  append-keeps : (es : List Change) → entriesFormed es ≡ true → Clear (appendGuards (length es) (numbersOf s))
+      → Formed (appended es s)
   unfolding appended appendGuards fills acceptedOf endOf
   append-keeps es e clr =
       either Formed (fills es s) _ _
@@ -128,7 +131,8 @@ module _ (s : Log) (f : Formed s) where
       never : given (s .tail .sign) ≡ true → length (batchWith es s) ≡ 0
       never q = let z : _≡_ {A = ℕ} 0 1 = cc (clr 4) in omega arith
 
-  now-keeps : (es : List Change) → entriesFormed es ≡ true → Clear (appendGuards (length es) (numbersOf s)) → Formed (appendedNow es s)
+  now-keeps : (es : List Change) → entriesFormed es ≡ true → Clear (appendGuards (length es) (numbersOf s))
+      → Formed (appendedNow es s)
   unfolding appendedNow appendGuards
   now-keeps es e clr =
       joined-keeps es (s .tail .batched) e (f .batch)
@@ -140,7 +144,8 @@ module _ (s : Log) (f : Formed s) where
   flush-keeps : Formed (flushed s)
   unfolding flushed
   flush-keeps =
-      joined-keeps (s .tail .batched) [] (f .batch) nothing-formed (omega (arith, f .numbers .inside)) (omega arith) (λ h. refl) (omega (arith, f .numbers .room))
+      joined-keeps (s .tail .batched) [] (f .batch) nothing-formed (omega (arith, f .numbers .inside)) (omega arith)
+      (λ h. refl) (omega (arith, f .numbers .room))
 
   reload-keeps : Formed (reloaded s)
   unfolding reloaded acceptedOf endOf
@@ -160,7 +165,8 @@ module _ (s : Log) (f : Formed s) where
     stop = f .stop;
   }
 
-  setStop-keeps : (g : Option StopSign) → ifGiven signFormed g ≡ true → Clear (setStopGuards (given g) (numbersOf s)) → Formed (stopSet g s)
+  setStop-keeps : (g : Option StopSign) → ifGiven signFormed g ≡ true → Clear (setStopGuards (given g) (numbersOf s))
+      → Formed (stopSet g s)
   unfolding stopSet setStopGuards acceptedOf endOf
   setStop-keeps g w clr =
       let l = log-min (numbersOf s) (f .numbers .high) in
@@ -201,7 +207,8 @@ module _ (s : Log) (f : Formed s) where
   }
 
   -- the run's start moved up to a decided index
-  moved-keeps : (upto : Option ℕ) (held : Option (List Change)) → (passesStart upto s ≡ true → ifGiven keysFormed held ≡ true) → Formed (movedTo upto held s)
+  moved-keeps : (upto : Option ℕ) (held : Option (List Change))
+      → (passesStart upto s ≡ true → ifGiven keysFormed held ≡ true) → Formed (movedTo upto held s)
   unfolding movedTo passesStart acceptedOf endOf
   moved-keeps upto held w =
       let to = target upto (numbersOf s) in
@@ -239,7 +246,8 @@ module _ (s : Log) (f : Formed s) where
       moved-keeps upto (some all) (λ e. of-snapshot all (snapshot-folded _ s f) (ltb-false keyRoom (length all) (rw e at (clr 8))))
 
   -- the whole record of a sync with a log part: where the run starts, how long it is, and what is held before it
-  part-formed : (b : Ballot) (d : ℕ) (p : Part) → entriesFormed (runThen p s .retained) ≡ true → ifGiven keysFormed (runThen p s .held) ≡ true → ifGiven signFormed (p .stop) ≡ true
+  part-formed : (b : Ballot) (d : ℕ) (p : Part) → entriesFormed (runThen p s .retained) ≡ true
+      → ifGiven keysFormed (runThen p s .held) ≡ true → ifGiven signFormed (p .stop) ≡ true
       → runThen p s .compacted + length (runThen p s .retained) ≡ p .idx + length (p .suffix)
       → runThen p s .compacted ≤ max d (s .marks .decided)
       → length (runThen p s .retained) + length (s .tail .batched) ≤ entryRoom
@@ -262,14 +270,17 @@ module _ (s : Log) (f : Formed s) where
   }
 
   -- by its snapshot
-  part-cases : (b : Ballot) (d i : ℕ) (g : Given) (es : List Change) (z : Option StopSign) → partFormed (part i g es z) ≡ true
+  part-cases : (b : Ballot) (d i : ℕ) (g : Given) (es : List Change) (z : Option StopSign)
+      → partFormed (part i g es z) ≡ true
       → Clear (partGuards d (part i g es z) s) → Formed (partSynced b d (part i g es z) s)
   unfolding partFormed partNumberGuards partGuards runThen endOf
   part-cases b d i plain es z w clr =
       let v : entriesFormed es ≡ true = and-left (entriesFormed es) (ifGiven signFormed z) w in
       let low : s .run .compacted ≤ i = ltb-false i (s .run .compacted) (or-left (ltb i (s .run .compacted)) (ltb (endOf (numbersOf s)) i) (clr 7)) in
-      let high : i ≤ endOf (numbersOf s) = ltb-false (endOf (numbersOf s)) i (or-right (ltb i (s .run .compacted)) (ltb (endOf (numbersOf s)) i) (clr 7)) in
-      let long : length (take (i - s .run .compacted) (s .run .retained) ++ es) ≡ i - s .run .compacted + length es = simp (length-append, length-take) (omega arith) in
+      let high : i ≤ endOf (numbersOf s) = ltb-false (endOf (numbersOf s)) i
+      (or-right (ltb i (s .run .compacted)) (ltb (endOf (numbersOf s)) i) (clr 7)) in
+      let long : length (take (i - s .run .compacted) (s .run .retained) ++ es)
+      ≡ i - s .run .compacted + length es = simp (length-append, length-take) (omega arith) in
       part-formed b d (part i plain es z)
       (all-join changeFormed (take (i - s .run .compacted) (s .run .retained)) es (all-take changeFormed (i - s .run .compacted) (s .run .retained) (f .entries)) v)
       (f .snapshot)
@@ -302,17 +313,21 @@ module _ (s : Log) (f : Formed s) where
       (omega (arith, ltb-false entryRoom (0 + length es + length (s .tail .batched)) (clr 1)))
       clr
 
-  part-keeps : (b : Ballot) (d : ℕ) (p : Part) → partFormed p ≡ true → Clear (partGuards d p s) → Formed (partSynced b d p s)
+  part-keeps : (b : Ballot) (d : ℕ) (p : Part) → partFormed p ≡ true → Clear (partGuards d p s)
+      → Formed (partSynced b d p s)
   part-keeps b d p w clr = part-cases b d (p .idx) (p .snapshot) (p .suffix) (p .stop) w clr
 
-  sync-keeps : (b : Ballot) (d : ℕ) (p : Option Part) → ifGiven partFormed p ≡ true → Clear (syncGuards d p s) → Formed (synced b d p s)
+  sync-keeps : (b : Ballot) (d : ℕ) (p : Option Part) → ifGiven partFormed p ≡ true → Clear (syncGuards d p s)
+      → Formed (synced b d p s)
   unfolding synced syncGuards roundGuards
   sync-keeps b d none w clr =
-      marks-keep (max d (s .marks .decided)) (s .marks .promise) b (omega (arith, f .numbers .low)) (ltb-false (acceptedOf (numbersOf s)) (max d (s .marks .decided)) (clr 6))
+      marks-keep (max d (s .marks .decided)) (s .marks .promise) b (omega (arith, f .numbers .low))
+      (ltb-false (acceptedOf (numbersOf s)) (max d (s .marks .decided)) (clr 6))
   sync-keeps b d (some p) w clr = part-keeps b d p w clr
 
 -- a stop-sign set where none is held, and the batch is empty
-stop-keeps : (g : StopSign) (s : Log) → Formed s → signFormed g ≡ true → Clear (appendStopGuards (numbersOf s)) → Formed (stopAppended g s)
+stop-keeps : (g : StopSign) (s : Log) → Formed s → signFormed g ≡ true → Clear (appendStopGuards (numbersOf s))
+    → Formed (stopAppended g s)
 unfolding stopAppended flushed appendStopGuards acceptedOf endOf
 stop-keeps g s f w clr =
     let h = flush-keeps s f in
@@ -334,20 +349,26 @@ stop-keeps g s f w clr =
     }
 
 -- what an operation list leaves has passed the test itself
-steps-keep : (n : Numbers) (l : Lent) (ops : List Op) (m : Midst) → Passed (opGuards n l ops m) → wellFormed (steps l ops m .log) ≡ true
+steps-keep : (n : Numbers) (l : Lent) (ops : List Op) (m : Midst) → Passed (opGuards n l ops m)
+    → wellFormed (steps l ops m .log) ≡ true
 unfolding opGuards steps
 steps-keep n l [] m p =
     unfold lastGuards in and-right (eqb (m .start) (m .log .run .compacted)) (wellFormed (m .log)) (not-false _ (p .1 .0))
-steps-keep n l (o ∷ ops) m p = steps-keep n l ops (step l o m) (passed-right (stepGuards n l o m) (opGuards n l ops (step l o m)) p)
+steps-keep n l (o ∷ ops) m p =
+    steps-keep n l ops (step l o m) (passed-right (stepGuards n l o m) (opGuards n l ops (step l o m)) p)
 
-write-keeps : (l : Lent) (ops : List Op) (s : Log) → Passed (writeGuards l ops s) → wellFormed (listWritten l ops s) ≡ true
+write-keeps : (l : Lent) (ops : List Op) (s : Log) → Passed (writeGuards l ops s)
+    → wellFormed (listWritten l ops s) ≡ true
 unfolding writeGuards listWritten
 write-keeps l ops s p = steps-keep (numbersOf s) l ops (midst s) p
 
-decide-keeps : (i : ℕ) (s : Log) → Formed s → Clear (decideGuards i (numbersOf s)) → Formed (withMarks (deciding i (s .marks)) s)
+decide-keeps : (i : ℕ) (s : Log) → Formed s → Clear (decideGuards i (numbersOf s))
+    → Formed (withMarks (deciding i (s .marks)) s)
 unfolding decideGuards
 decide-keeps i s f clr =
-    marks-keep s f i (s .marks .promise) (s .marks .round) (omega (arith, f .numbers .low, ltb-false i (s .marks .decided) (clr 5))) (ltb-false (acceptedOf (numbersOf s)) i (clr 6))
+    marks-keep s f i (s .marks .promise) (s .marks .round)
+    (omega (arith, f .numbers .low, ltb-false i (s .marks .decided) (clr 5)))
+    (ltb-false (acceptedOf (numbersOf s)) i (clr 6))
 
 -- what is known of a call that stands: its form, and its own refusals by their numbers
 pub argued : (c : Call) (s : Log) → Passed (guards c s) → malformed c ≡ false

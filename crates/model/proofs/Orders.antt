@@ -1,4 +1,5 @@
--- The refusals of every call are the table's rows in document 01's order, each with what it carries, whatever the state and the request.
+-- The refusals of every call are the table's rows in document 01's order, each with what it carries, whatever the state
+-- and the request.
 use Prim.Native.Nat.{ℕ}
 use mathlib.Core.Path.{_≡_, refl, sym, ap, _∙_}
 use mathlib.Core.Bool.{Bool, true, false}
@@ -24,7 +25,8 @@ rows gs = map (λ (g : Guard). (g .number, g .carried)) gs
 abbrev due : Call → Numbers → List ℕ → List (ℕ × ℕ)
 due c n is = map (λ (i : ℕ). (i, carriesOf c n i)) is
 
-op-rows : (n : Numbers) (l : Lent) (ops : List Op) (o : Op) (m : Midst) → rows (stepGuards n l o m) ≡ due (write l ops) n (opOrder o)
+op-rows : (n : Numbers) (l : Lent) (ops : List Op) (o : Op) (m : Midst)
+    → rows (stepGuards n l o m) ≡ due (write l ops) n (opOrder o)
 unfolding stepGuards carriesOf
 op-rows n l ops appendEntries m = refl
 op-rows n l ops (appendOnPrefix i) m = refl
@@ -37,7 +39,8 @@ op-rows n l ops (setSign t) m = refl
 op-rows n l ops (setSnapshot t) m = refl
 
 -- all is the whole list that the call is given, ops what is left of it
-ops-rows : (n : Numbers) (l : Lent) (all ops : List Op) (m : Midst) → rows (opGuards n l ops m) ≡ due (write l all) n (opsOrder ops)
+ops-rows : (n : Numbers) (l : Lent) (all ops : List Op) (m : Midst)
+    → rows (opGuards n l ops m) ≡ due (write l all) n (opsOrder ops)
 unfolding opGuards
 ops-rows n l all [] m = unfold lastGuards carriesOf in refl
 ops-rows n l all (o ∷ ops) m =
@@ -79,13 +82,15 @@ unfolding guards carriesOf
 in-table c s = ap (λ (l : List (ℕ × ℕ)). (12, 0) ∷ (11, 0) ∷ l) (call-rows c s)
 
 -- so what a refusal carries is told by its number
-carried-by : (f : ℕ → ℕ) (gs : List Guard) (is : List ℕ) → rows gs ≡ map (λ (i : ℕ). (i, f i)) is → (n k : ℕ) → first gs ≡ refuses n k → k ≡ f n
+carried-by : (f : ℕ → ℕ) (gs : List Guard) (is : List ℕ) → rows gs ≡ map (λ (i : ℕ). (i, f i)) is → (n k : ℕ)
+    → first gs ≡ refuses n k → k ≡ f n
 unfolding first
 carried-by f [] is e n k q = let z : _≡_ {A = ℕ} 0 1 = cc in absurd (omega arith)
 carried-by f (g ∷ gs) [] e n k q = let z : _≡_ {A = ℕ} 0 1 = cc in absurd (omega arith)
 carried-by f (g ∷ gs) (i ∷ is) e n k q = go (g .applies) q (λ p. carried-by f gs is (cc) n k p)
   where
-    go : (t : Bool) → (if t then refuses (g .number) (g .carried) else first gs) ≡ refuses n k → (first gs ≡ refuses n k → k ≡ f n) → k ≡ f n
+    go : (t : Bool) → (if t then refuses (g .number) (g .carried) else first gs) ≡ refuses n k
+        → (first gs ≡ refuses n k → k ≡ f n) → k ≡ f n
     go true p ih =
         let row : _≡_ {A = ℕ × ℕ} (g .number, g .carried) (i, f i) = cc in
         let number : g .number ≡ i = ap (λ (x : ℕ × ℕ). x .0) row in

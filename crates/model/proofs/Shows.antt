@@ -17,13 +17,15 @@ use Rattle.model.specs.Log.{Log, numbersOf}
 use Rattle.model.specs.Read.{noSpan, Shown, shown, markerOf, emptyRun, fullRun, readFrom}
 
 -- a read that shows an entry shows a full run
-full : (from to : ℕ) (s : Log) (v : Shown) → readFrom from to s ≡ some v → 0 < length (v .part .entries) → v ≡ fullRun from to s
+full : (from to : ℕ) (s : Log) (v : Shown) → readFrom from to s ≡ some v → 0 < length (v .part .entries)
+    → v ≡ fullRun from to s
 unfolding readFrom
 full from to s v e h =
     go (eqb to 0) (leb to (s .run .compacted)) (ltb (acceptedOf (numbersOf s)) to || leb (acceptedOf (numbersOf s)) from) (leb to from) e
   where
     none-shown : (x : Shown) → some x ≡ some v → x .part .entries ≡ [] → v ≡ fullRun from to s
-    none-shown x q z = let w : x ≡ v = cc in absurd (omega (arith, ap length z, ap (λ (y : Shown). length (y .part .entries)) w))
+    none-shown x q z = let w : x ≡ v = cc in
+        absurd (omega (arith, ap length z, ap (λ (y : Shown). length (y .part .entries)) w))
 
     nothing : none ≡ some v → v ≡ fullRun from to s
     nothing q = let z : _≡_ {A = ℕ} 0 1 = cc in absurd (omega arith)

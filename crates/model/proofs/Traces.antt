@@ -50,7 +50,8 @@ module _ (r : Run) (h : List Change) (a : Agrees r h) where
       (rw e)
 
   -- entries joined at the end
-  joined-agrees : (es : List Change) → Agrees (record { compacted = r .compacted; retained = r .retained ++ es; held = r .held }) (h ++ es)
+  joined-agrees : (es : List Change)
+      → Agrees (record { compacted = r .compacted; retained = r .retained ++ es; held = r .held }) (h ++ es)
   joined-agrees es =
       let le : r .compacted ≤ length h = omega (arith, a .ends) in
       record {
@@ -82,7 +83,8 @@ module _ (r : Run) (h : List Change) (a : Agrees r h) where
       }
 
 -- a snapshot that stands for a whole list
-replaced-agrees : (x es c : List Change) (i : ℕ) → length x ≡ i → c ≡ fold x → Agrees (record { compacted = i; retained = es; held = some c }) (x ++ es)
+replaced-agrees : (x es c : List Change) (i : ℕ) → length x ≡ i → c ≡ fold x
+    → Agrees (record { compacted = i; retained = es; held = some c }) (x ++ es)
 replaced-agrees x es c i n e =
     record { ends = simp length-append (omega arith); kept = rw (drop-at x es i n); snapshot = rw (take-at x es i n) e }
 
@@ -102,7 +104,8 @@ part-agrees d i (delta c) es z x s h w clr t a =
     (simp (length-append, length-take) (omega (arith, a .ends, t .0, w .high, unstopped n (clr 4), ltb-false i (s .marks .decided) (clr 5))))
     (unfold deltaOnto in rw (folded-is (s .run) h a (logDecided n) (w .low), fold-on, t .1, merge-fold))
 
-snapshot-agrees : (upto : Option ℕ) (s : Log) (h : List Change) → Ranges (numbersOf s) → Agrees (s .run) h → Agrees (snapshotTo upto s .run) h
+snapshot-agrees : (upto : Option ℕ) (s : Log) (h : List Change) → Ranges (numbersOf s) → Agrees (s .run) h
+    → Agrees (snapshotTo upto s .run) h
 unfolding snapshotTo foldedUpto movedTo passesStart endOf
 snapshot-agrees upto s h w a =
     let to : ℕ = target upto (numbersOf s) in
@@ -110,7 +113,8 @@ snapshot-agrees upto s h w a =
     (λ e. moved-agrees (s .run) h a to (omega (arith, ltb-true (s .run .compacted) to e)) (omega (arith, target-range upto (numbersOf s), w .high)))
     (λ e. a)
 
-append-agrees : (es : List Change) (s : Log) (h : List Change) → Agrees (s .run) h → Agrees (appended es s .run) (if fills es s then h ++ batchWith es s else h)
+append-agrees : (es : List Change) (s : Log) (h : List Change) → Agrees (s .run) h
+    → Agrees (appended es s .run) (if fills es s then h ++ batchWith es s else h)
 unfolding appended
 append-agrees es s h a = go (fills es s)
   where
@@ -119,7 +123,8 @@ append-agrees es s h a = go (fills es s)
     go false = a
 
 -- a call that stands
-stands : (c : Call) (x : List Change) (s : Log) (h : List Change) → wellFormed s ≡ true → Passed (guards c s) → Truthful c x s → Agrees (s .run) h
+stands : (c : Call) (x : List Change) (s : Log) (h : List Change) → wellFormed s ≡ true → Passed (guards c s)
+    → Truthful c x s → Agrees (s .run) h
     → Agrees (effect c s .run) (grown c x s h)
 unfolding effect grown
 stands (query q) x s h w p t a = a
@@ -142,7 +147,8 @@ stands reload x s h w p t a = absurd (true≢false (sym (t .0)))
 stands (write l ops) x s h w p t a = absurd (true≢false (sym (t .0)))
 
 -- one call, refused or not
-step-agrees : (e : Event) (t : Told) → wellFormed (t .log) ≡ true → (first (guards (e .call) (t .log)) ≡ passes → Truthful (e .call) (e .behind) (t .log))
+step-agrees : (e : Event) (t : Told) → wellFormed (t .log) ≡ true
+    → (first (guards (e .call) (t .log)) ≡ passes → Truthful (e .call) (e .behind) (t .log))
     → Agrees (t .log .run) (t .history) → Agrees (next e t .log .run) (next e t .history)
 unfolding next stateAfter
 step-agrees e t w honest a = go (first (guards (e .call) (t .log))) refl
@@ -170,12 +176,14 @@ fresh-faithful n h = record { formed = (unfold fresh in fresh-formed n h); agree
     empty : (n : ℕ) → Agrees (fresh n .log .run) (fresh n .history)
     empty n = unfold fresh freshLog fold foldOnto in record { ends = refl; kept = refl; snapshot = refl }
 
--- Demand 3, last sentence: for every i from compacted to end, the held snapshot (empty if none) merged with the retained entries
+-- Demand 3, last sentence: for every i from compacted to end, the held snapshot (empty if none) merged with the
+-- retained entries
 -- below i is the fold of the history's first i entries, both without room limit.
 module _ (n : ℕ) (sized : n ≤ largestBatch) (es : List Event) (honest : AllTruthful es (fresh n)) where
   pub faithful : Faithful (told es (fresh n))
   faithful = told-faithful es (fresh n) honest (fresh-faithful n sized)
 
-  pub history-kept : (i : ℕ) → told es (fresh n) .log .run .compacted ≤ i → i ≤ endOf (numbersOf (told es (fresh n) .log))
+  pub history-kept : (i : ℕ) → told es (fresh n) .log .run .compacted ≤ i
+      → i ≤ endOf (numbersOf (told es (fresh n) .log))
       → foldedTo i (told es (fresh n) .log .run) ≡ fold (take i (told es (fresh n) .history))
   history-kept i low high = folded-is (told es (fresh n) .log .run) (told es (fresh n) .history) (faithful .agrees) i low

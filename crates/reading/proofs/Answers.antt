@@ -22,7 +22,8 @@ module _ (q : Query) (r : Raw) where
     unfolding malformed
     bad-answer m = ap answerOf (bad-call (query q) r ok m)
 
-    pub answer-is : queryMalformed q ≡ false → queryGuards q (logOf r) ≡ [] → (y : QueryReply q) → y ≡ queryReply q (logOf r) → replied y ≡ run (query q) true r .answer
+    pub answer-is : queryMalformed q ≡ false → queryGuards q (logOf r) ≡ [] → (y : QueryReply q)
+        → y ≡ queryReply q (logOf r) → replied y ≡ run (query q) true r .answer
     unfolding malformed further effect replyOf first
     answer-is m g y e = ap answerOf (call-stands (query q) r ok m (rw g) y r e (stands-of r ok))
 

@@ -32,14 +32,16 @@ use Rattle.reading.specs.declared.inner.Newest.the-variants.{At, Nowhere
 use Rattle.reading.proofs.Answers.{answer-is}
 
 -- the last of a run is asked first
-last-snoc : (k : ℕ) (es : List Change) (c : Change) → lastOf k (es ++ (c ∷ [])) ≡ orElse (if eqb (c .key) k then some (c .said) else none) (lastOf k es)
+last-snoc : (k : ℕ) (es : List Change) (c : Change)
+    → lastOf k (es ++ (c ∷ [])) ≡ orElse (if eqb (c .key) k then some (c .said) else none) (lastOf k es)
 unfolding lastOf orElse
 last-snoc k [] c = go (eqb (c .key) k)
   where
     go : (t : Bool) → _≡_ {A = Option Said} (if t then some (c .said) else none) (orElse (if t then some (c .said) else none) none)
     go true = refl
     go false = refl
-last-snoc k (e ∷ es) c = ap (λ (o : Option Said). orElse o (if eqb (e .key) k then some (e .said) else none)) (last-snoc k es c) ∙ go (eqb (c .key) k) (lastOf k es)
+last-snoc k (e ∷ es) c = ap (λ (o : Option Said). orElse o (if eqb (e .key) k then some (e .said) else none))
+    (last-snoc k es c) ∙ go (eqb (c .key) k) (lastOf k es)
   where
     go : (t : Bool) (o : Option Said)
         → orElse (orElse (if t then some (c .said) else none) o) (if eqb (e .key) k then some (e .said) else none)
@@ -72,7 +74,8 @@ module _ (n : ℕ) (ws : List ℕ) (k i : ℕ) (l : Left n ws k i) where
 
   -- the one before j + 1 is looked at
   module _ (j : ℕ) (e : i ≡ j + 1) where
-    one-back : lastOf k (entriesOf n ws) ≡ orElse (if eqb (changeAt ws j .key) k then some (changeAt ws j .said) else none) (lastOf k (entriesOf j ws))
+    one-back : lastOf k (entriesOf n ws)
+        ≡ orElse (if eqb (changeAt ws j .key) k then some (changeAt ws j .said) else none) (lastOf k (entriesOf j ws))
     one-back =
         l .newest ∙ ap (λ (m : ℕ). lastOf k (entriesOf m ws)) e
         ∙ ap (lastOf k) (entries-snoc j ws) ∙ last-snoc k (entriesOf j ws) (changeAt ws j)
@@ -95,7 +98,8 @@ unfolding endOf
 decided-few r g = omega (arith, log-min (numbersIn (r .index)) (g .numbers .high))
 
 -- the snapshot that is held, empty where none is
-snapshot-by : (b : Bool) (n : ℕ) (ws : List ℕ) → length (orEmpty (if b then some (entriesOf n ws) else none)) ≡ n → orEmpty (if b then some (entriesOf n ws) else none) ≡ entriesOf n ws
+snapshot-by : (b : Bool) (n : ℕ) (ws : List ℕ) → length (orEmpty (if b then some (entriesOf n ws) else none)) ≡ n
+    → orEmpty (if b then some (entriesOf n ws) else none) ≡ entriesOf n ws
 unfolding entriesAt
 snapshot-by true n ws e = refl
 snapshot-by false n ws e = ap (λ (j : ℕ). entriesOf j ws) e
@@ -108,13 +112,17 @@ module _ (r : Raw) (g : Ready r) (k : ℕ) where
   unfolding logOf
   snapshot = snapshot-by (r .index .«snapshot_held») (r .index .keys) (r .snapshot) (stands-of r (g .okay) .run .snapshot-keys)
 
-  retained-is : take (logDecided (numbersOf (logOf r)) - logOf r .run .compacted) (logOf r .run .retained) ≡ entriesOf below (r .log)
+  retained-is : take (logDecided (numbersOf (logOf r)) - logOf r .run .compacted) (logOf r .run .retained)
+      ≡ entriesOf below (r .log)
   unfolding logOf
   retained-is =
-      ap (λ (m : ℕ). take (m - r .index .compacted .0) (entriesOf (r .index .retained) (r .log))) (ap logDecided (numbers-are (logOf r) r (stands-of r (g .okay))))
+      ap (λ (m : ℕ). take (m - r .index .compacted .0) (entriesOf (r .index .retained) (r .log)))
+      (ap logDecided (numbers-are (logOf r) r (stands-of r (g .okay))))
       ∙ entries-take changeCode below (r .index .retained) (r .log) (decided-few r g)
 
-  pub look-answer : (y : Option ℕ) → y ≡ placeOf (orElse (lastOf k (entriesOf below (r .log))) (find k (entriesOf (r .index .keys) (r .snapshot)))) → replied y ≡ run (query (lookup k)) true r .answer
+  pub look-answer : (y : Option ℕ)
+      → y ≡ placeOf (orElse (lastOf k (entriesOf below (r .log))) (find k (entriesOf (r .index .keys) (r .snapshot))))
+      → replied y ≡ run (query (lookup k)) true r .answer
   unfolding queryReply queryGuards lookupReply
   look-answer y e =
       answer-is (lookup k) r (g .okay) refl refl y
@@ -123,16 +131,21 @@ module _ (r : Raw) (g : Ready r) (k : ℕ) where
 
   -- d is log-decided, as the code has it
   module _ (d : ℕ) (q : d ≡ logDecided (numbersIn (r .index))) where
-    last-is : (o : Option Said) → o ≡ lastOf k (entriesOf (d - r .index .compacted .0) (r .log)) → o ≡ lastOf k (entriesOf below (r .log))
+    last-is : (o : Option Said) → o ≡ lastOf k (entriesOf (d - r .index .compacted .0) (r .log))
+        → o ≡ lastOf k (entriesOf below (r .log))
     last-is o e = e ∙ ap (λ (j : ℕ). lastOf k (entriesOf (j - r .index .compacted .0) (r .log))) q
 
     pub look-inside : (d - r .index .compacted .0) * width ≤ length (r .log)
     look-inside = omega (arith, q, decided-few r g, g .log .long, g .log .fits)
 
-    pub look-said : (x : Said) → some x ≡ lastOf k (entriesOf (d - r .index .compacted .0) (r .log)) → replied (placeOf (some x)) ≡ run (query (lookup k)) true r .answer
+    pub look-said : (x : Said) → some x ≡ lastOf k (entriesOf (d - r .index .compacted .0) (r .log))
+        → replied (placeOf (some x)) ≡ run (query (lookup k)) true r .answer
     unfolding orElse
-    look-said x e = look-answer (placeOf (some x)) (ap (λ (o : Option Said). placeOf (orElse o (find k (entriesOf (r .index .keys) (r .snapshot))))) (last-is (some x) e))
+    look-said x e = look-answer (placeOf (some x))
+        (ap (λ (o : Option Said). placeOf (orElse o (find k (entriesOf (r .index .keys) (r .snapshot))))) (last-is (some x) e))
 
-    pub look-snapshot : none ≡ lastOf k (entriesOf (d - r .index .compacted .0) (r .log)) → replied (placeOf (find k (entriesOf (r .index .keys) (r .snapshot)))) ≡ run (query (lookup k)) true r .answer
+    pub look-snapshot : none ≡ lastOf k (entriesOf (d - r .index .compacted .0) (r .log))
+        → replied (placeOf (find k (entriesOf (r .index .keys) (r .snapshot)))) ≡ run (query (lookup k)) true r .answer
     unfolding orElse
-    look-snapshot e = look-answer (placeOf (find k (entriesOf (r .index .keys) (r .snapshot)))) (ap (λ (o : Option Said). placeOf (orElse o (find k (entriesOf (r .index .keys) (r .snapshot))))) (last-is none e))
+    look-snapshot e = look-answer (placeOf (find k (entriesOf (r .index .keys) (r .snapshot))))
+        (ap (λ (o : Option Said). placeOf (orElse o (find k (entriesOf (r .index .keys) (r .snapshot))))) (last-is none e))

@@ -1,4 +1,5 @@
--- The reply by numbers: its cases as the code takes them, that it says what the model's read shows, and that the part that it names
+-- The reply by numbers: its cases as the code takes them, that it says what the model's read shows, and that the part
+-- that it names
 -- lies in the lent log.
 use Prim.Native.Nat.{ℕ, _+_, _-_, _<_, _≤_, min, max}
 use native.Mathlib.Omega.{arith}
@@ -42,7 +43,8 @@ use Rattle.reading.proofs.Showing.{both-by, part-entries, lent-count, s
 -- ---- the cases as the code takes them
 
 -- the marker by the kind of the first index
-pub marker-at : (x : IndexRecord) (from : ℕ) (e : IndexEntry) → entryIs (numbersIn x) from e → markerAt e x ≡ (if ltb from (x .compacted .0) then markerIn x else None)
+pub marker-at : (x : IndexRecord) (from : ℕ) (e : IndexEntry) → entryIs (numbersIn x) from e
+    → markerAt e x ≡ (if ltb from (x .compacted .0) then markerIn x else None)
 unfolding endOf
 marker-at x from Compacted h = sym (rw (lt-ltb from (x .compacted .0) h))
 marker-at x from Entry h = sym (rw (le-ltb from (x .compacted .0) (h .0)))
@@ -51,8 +53,10 @@ marker-at x from StopEntry h = sym (rw (le-ltb from (x .compacted .0) (omega ari
 -- a run from the numbers that the code finds one after another
 module _ (x : IndexRecord) (from to : ℕ) (m : CodeMarker) (start far end near known last count decided : ℕ) (stopped : Bool) where
   pub run-is : m ≡ (if ltb from (x .compacted .0) then markerIn x else None)
-      → start ≡ from - x .compacted .0 → far ≡ to - x .compacted .0 → end ≡ min far (x .retained) → near ≡ x .decided .0 - x .compacted .0 → known ≡ min end near
-      → last ≡ acceptedOf (numbersIn x) → stopped ≡ stopDecided (numbersIn x) → count ≡ end - start → decided ≡ known - start
+      → start ≡ from - x .compacted .0 → far ≡ to - x .compacted .0 → end ≡ min far (x .retained)
+      → near ≡ x .decided .0 - x .compacted .0 → known ≡ min end near
+      → last ≡ acceptedOf (numbersIn x) → stopped ≡ stopDecided (numbersIn x) → count ≡ end - start
+      → decided ≡ known - start
       → _≡_ {A = ShownRun} (record { marker = m; first = start; count = count; decided = decided; stop = eqb to last && x .«stop_held»; «stop_decided» = eqb to last && stopped }) (runOf from to x)
   run-is p₁ p₂ p₃ p₄ p₅ p₆ p₇ p₈ p₉ p₁₀ = rw (p₉, p₁₀, p₆, p₄, p₃, p₅, p₂, p₇, p₈, p₁)
 
@@ -85,7 +89,8 @@ module _ (x : IndexRecord) (from to : ℕ) where
     case-nothing h =
         sym (rw (ne-eqb to 0 (omega arith), lt-leb to (x .compacted .0) h₁, le-ltb (acceptedOf n) to h₂, le-leb (acceptedOf n) from h))
 
-    pub case-run : from < acceptedOf n → (t : Bool) → leb to from ≡ t → (if t then Run (runOfNone None) else Run (runOf from to x)) ≡ readIn from to x
+    pub case-run : from < acceptedOf n → (t : Bool) → leb to from ≡ t
+        → (if t then Run (runOfNone None) else Run (runOf from to x)) ≡ readIn from to x
     unfolding readIn
     case-run h t e =
         sym (rw (ne-eqb to 0 (omega arith), lt-leb to (x .compacted .0) h₁, le-ltb (acceptedOf n) to h₂, lt-leb (acceptedOf n) from h, e))
@@ -98,11 +103,13 @@ marker-by : (b : Bool) (i : LogIndex) (k : ℕ) (ws : List ℕ)
 marker-by true i k ws = refl
 marker-by false i k ws = refl
 
-stop-by : (a b : Bool) (g : StopSign) → _≡_ {A = Option StopSign} (if a && b then some g else none) (if a then (if b then some g else none) else none)
+stop-by : (a b : Bool) (g : StopSign)
+    → _≡_ {A = Option StopSign} (if a && b then some g else none) (if a then (if b then some g else none) else none)
 stop-by true b g = refl
 stop-by false b g = refl
 
-shown-eq : {a a′ : Option Marker} {b b′ : Span} {c c′ : ℕ} {d d′ : Option StopSign} (e : Bool) → a ≡ a′ → b ≡ b′ → c ≡ c′ → d ≡ d′ → shown a b c d e ≡ shown a′ b′ c′ d′ e
+shown-eq : {a a′ : Option Marker} {b b′ : Span} {c c′ : ℕ} {d d′ : Option StopSign} (e : Bool) → a ≡ a′ → b ≡ b′
+    → c ≡ c′ → d ≡ d′ → shown a b c d e ≡ shown a′ b′ c′ d′ e
 shown-eq e p q u v = rw (p, q, u, v)
 
 -- numbers counted from the compacted index, and from 0
@@ -145,11 +152,13 @@ module _ (r : Raw) (g : Ready r) where
   unfolding markerOf logOf
   marker-said = marker-by (x .«snapshot_held») (x .compacted) (x .keys) (r .snapshot)
 
-  marker-if : (t : Bool) → markerSaid (r .snapshot) (if t then markerIn x else None) ≡ (if t then some (markerOf (logOf r .run)) else none)
+  marker-if : (t : Bool) → markerSaid (r .snapshot) (if t then markerIn x else None)
+      ≡ (if t then some (markerOf (logOf r .run)) else none)
   marker-if true = marker-said
   marker-if false = refl
 
-  full-said : (from to : ℕ) → low < to → to ≤ acceptedOf (numbersIn x) → from < to → shownSaid r (runOf from to x) ≡ fullRun from to (logOf r)
+  full-said : (from to : ℕ) → low < to → to ≤ acceptedOf (numbersIn x) → from < to
+      → shownSaid r (runOf from to x) ≡ fullRun from to (logOf r)
   unfolding fullRun logOf endOf
   full-said from to h₁ h₂ h =
       rw (ap endOf (numbers r g), ap acceptedOf (numbers r g), ap stopDecided (numbers r g)) (
@@ -159,7 +168,8 @@ module _ (r : Raw) (g : Ready r) where
       let last : low + m ≡ min to (low + n) = from-low to low n (omega arith) in
       shown-eq (eqb to (acceptedOf (numbersIn x)) && stopDecided (numbersIn x)) (marker-if (ltb from low))
       (ap (span (from - low)) (shown-is n (from - low) (m - (from - low)) (r .log) (fits from low m n (omega arith) (omega arith)))
-      ∙ ap₂ (λ (i j : ℕ). span j (take i (drop j (entriesOf n (r .log))))) (offset from low m ∙ ap (λ (k : ℕ). k - max from low) last) (past from low))
+      ∙ ap₂ (λ (i j : ℕ). span j (take i (drop j (entriesOf n (r .log)))))
+      (offset from low m ∙ ap (λ (k : ℕ). k - max from low) last) (past from low))
       (offset from low (min m (x .decided .0 - low))
       ∙ ap (λ (k : ℕ). k - max from low) (from-low′ (x .decided .0) low m (g .numbers .low) ∙ ap (λ (k : ℕ). min k (x .decided .0)) last))
       (stop-by (eqb to (acceptedOf (numbersIn x))) (x .«stop_held») (x .stop)))
@@ -172,9 +182,11 @@ module _ (r : Raw) (g : Ready r) where
       both-by (readSaid r) replied (leb to low) _ _ _ _ (λ _. ap (λ (s : Shown). replied (some s)) (shown-eq false marker-said refl refl refl)) (λ e₁.
       both-by (readSaid r) replied (ltb (acceptedOf (numbersIn x)) to || leb (acceptedOf (numbersIn x)) from) _ _ _ _ (λ _. refl) (λ e₂.
       both-by (readSaid r) replied (leb to from) _ _ _ _ (λ _. refl) (λ e₃.
-      ap (λ (s : Shown). replied (some s)) (full-said from to (leb-false to low e₁) (ltb-false (acceptedOf (numbersIn x)) to (or-left _ (leb (acceptedOf (numbersIn x)) from) e₂)) (leb-false to from e₃)))))))
+      ap (λ (s : Shown). replied (some s))
+      (full-said from to (leb-false to low e₁) (ltb-false (acceptedOf (numbersIn x)) to (or-left _ (leb (acceptedOf (numbersIn x)) from) e₂)) (leb-false to from e₃)))))))
 
-  pub read-answer : (a b : Bound) (from to last : ℕ) → startPast a || stopPast b ≡ false → from ≡ startAt a → to ≡ stopAt b last → last ≡ acceptedOf (numbersIn x)
+  pub read-answer : (a b : Bound) (from to last : ℕ) → startPast a || stopPast b ≡ false → from ≡ startAt a
+      → to ≡ stopAt b last → last ≡ acceptedOf (numbersIn x)
       → readSaid r (readIn from to x) ≡ run (query (read a b)) true r .answer
   unfolding queryReply queryGuards readReply
   read-answer a b from to last m p q e =
@@ -183,7 +195,8 @@ module _ (r : Raw) (g : Ready r) where
       ∙ answer-is (read a b) r (g .okay) m refl (readReply a b (logOf r)) refl
 
   module _ (from : ℕ) where
-    pub suffix-answer : from < x .decided .0 → readSaid r (readIn from (x .decided .0) x) ≡ run (query (readDecided from)) true r .answer
+    pub suffix-answer : from < x .decided .0
+        → readSaid r (readIn from (x .decided .0) x) ≡ run (query (readDecided from)) true r .answer
     unfolding queryReply queryGuards decidedSuffix logOf
     suffix-answer h =
         reply-said from (x .decided .0)
@@ -192,12 +205,14 @@ module _ (r : Raw) (g : Ready r) where
 
     pub suffix-none : x .decided .0 ≤ from → replied none ≡ run (query (readDecided from)) true r .answer
     unfolding queryReply queryGuards decidedSuffix logOf
-    suffix-none h = ap replied (sym (rw (le-ltb from (x .decided .0) h))) ∙ answer-is (readDecided from) r (g .okay) refl refl (decidedSuffix from (logOf r)) refl
+    suffix-none h = ap replied (sym (rw (le-ltb from (x .decided .0) h)))
+        ∙ answer-is (readDecided from) r (g .okay) refl refl (decidedSuffix from (logOf r)) refl
 
   -- entries among those retained lie in the log
   inside : (first count : ℕ) → first + count ≤ x .retained → Lent (r .log) (lentSpan (r .log) first count)
   inside first count h =
-      ap (λ (k : ℕ). entriesIn (part first k (r .log))) (lent-count (r .log) first count) ∙ part-entries first count (r .log) (omega (arith, room r g))
+      ap (λ (k : ℕ). entriesIn (part first k (r .log))) (lent-count (r .log) first count)
+      ∙ part-entries first count (r .log) (omega (arith, room r g))
 
   in-span : (from to : ℕ) → SpanLent (r .log) (spanSays (r .log) (spanIn from to (numbersIn x)))
   unfolding spanIn endOf
@@ -238,7 +253,8 @@ module _ (r : Raw) where
       decided : ℕ
       decided = r .index .decided .0
 
-      go : Ready r → (t : Bool) → ltb from decided ≡ t → ShownLent (r .log) (run (query (readDecided from)) true r .answer)
+      go : Ready r → (t : Bool) → ltb from decided ≡ t
+          → ShownLent (r .log) (run (query (readDecided from)) true r .answer)
       go g true e = subst (ShownLent (r .log)) (suffix-answer r g from (ltb-true from decided e)) (in-read r g from decided)
       go g false e = subst (ShownLent (r .log)) (suffix-none r g from (ltb-false from decided e)) tt
 

@@ -39,14 +39,16 @@ module _ (first count : ℕ) (ws : List ℕ) (p : ℕ × ℕ) where
       (sym (rw t), sym (rw t))
 
   pub part-cut : (first + count) * width ≤ length ws
-      → (take (first * width + count * width - first * width) (drop (first * width) ws) ≡ part first count ws) × (wordAt (first * width) p ≡ partAt first count ws p)
+      → (take (first * width + count * width - first * width) (drop (first * width) ws) ≡ part first count ws)
+      × (wordAt (first * width) p ≡ partAt first count ws p)
   unfolding part partAt
   part-cut h =
       let t = le-leb ((first + count) * width) (length ws) h in
       (ap (λ (k : ℕ). take k (drop (first * width) ws)) (add-sub-cancel-left (first * width) (count * width)) ∙ sym (rw t), sym (rw t))
 
 -- entries are read from the front alone
-front : (count : ℕ) (l : List ℕ) → count * width ≤ length l → entriesOf count (take (count * width) l) ≡ entriesOf count l
+front : (count : ℕ) (l : List ℕ) → count * width ≤ length l
+    → entriesOf count (take (count * width) l) ≡ entriesOf count l
 unfolding entriesAt
 front count l h =
     let z : count + 0 ≡ count = omega arith in
@@ -61,7 +63,8 @@ pub part-entries : (first count : ℕ) (ws : List ℕ) → (first + count) * wid
 unfolding part
 part-entries first count ws h =
     let room : count * width ≤ length (drop (first * width) ws) = simp length-drop (omega arith) in
-    let long : length (take (count * width) (drop (first * width) ws)) ≡ count * width = length-take-le (count * width) (drop (first * width) ws) room in
+    let long : length (take (count * width) (drop (first * width) ws))
+    ≡ count * width = length-take-le (count * width) (drop (first * width) ws) room in
     let half : length (take (count * width) (drop (first * width) ws)) / width ≡ count = omega (arith, long) in
     rw (le-leb ((first + count) * width) (length ws) h)
     (ap (λ (j : ℕ). entriesOf j (take (count * width) (drop (first * width) ws))) half ∙ front count (drop (first * width) ws) room)
@@ -83,19 +86,22 @@ pub lent-count : (log : List ℕ) (first count : ℕ) → length (lentSpan log f
 lent-count log first count = entries-length changeCode count (drop (first * width) log)
 
 -- an interval that is wholly held
-pub held : (low from to last : ℕ) → (leb low from && (leb from to && leb to last)) ≡ true → (low ≤ from) × ((from ≤ to) × (to ≤ last))
+pub held : (low from to last : ℕ) → (leb low from && (leb from to && leb to last)) ≡ true
+    → (low ≤ from) × ((from ≤ to) × (to ≤ last))
 held low from to last e =
     let e₂ = and-right (leb low from) _ e in
     (leb-true low from (and-left _ _ e), (leb-true from to (and-left _ _ e₂), leb-true to last (and-right (leb from to) _ e₂)))
 
 -- the reply by its test, as the code takes it
-pub span-by : (from to last : ℕ) (n : Numbers) → last ≡ endOf n → (t : Bool) → (leb (n .compacted) from && (leb from to && leb to last)) ≡ t
+pub span-by : (from to last : ℕ) (n : Numbers) → last ≡ endOf n → (t : Bool)
+    → (leb (n .compacted) from && (leb from to && leb to last)) ≡ t
     → (if t then Run (from - n .compacted) (to - from) else Run 0 0) ≡ spanIn from to n
 unfolding spanIn
 span-by from to last n q t e = sym (rw (← q, e))
 
 -- two choices by one test
-pub both-by : {A B C : Type 0} (f : A → C) (g : B → C) (t : Bool) (a b : A) (u v : B) → (t ≡ true → f a ≡ g u) → (t ≡ false → f b ≡ g v)
+pub both-by : {A B C : Type 0} (f : A → C) (g : B → C) (t : Bool) (a b : A) (u v : B) → (t ≡ true → f a ≡ g u)
+    → (t ≡ false → f b ≡ g v)
     → f (if t then a else b) ≡ g (if t then u else v)
 both-by f g true a b u v h k = h refl
 both-by f g false a b u v h k = k refl
@@ -111,18 +117,24 @@ module _ (r : Raw) (g : Ready r) where
   pub numbers : numbersOf (logOf r) ≡ numbersIn (r .index)
   numbers = numbers-are (logOf r) r (stands-of r (g .okay))
 
-  says-between : (from to : ℕ) → spanSays (r .log) (spanIn from to (numbersIn (r .index))) ≡ replied (entriesBetween from to (logOf r))
+  says-between : (from to : ℕ) → spanSays (r .log) (spanIn from to (numbersIn (r .index)))
+      ≡ replied (entriesBetween from to (logOf r))
   unfolding spanIn entriesBetween logOf entriesAt endOf
   says-between from to =
       rw (ap endOf numbers) (both-by (spanSays (r .log)) replied (leb c from && (leb from to && leb to (endOf (numbersIn (r .index))))) _ _ _ _ (λ e.
       let h = held c from to (endOf (numbersIn (r .index))) e in
-      ap (λ (es : List Change). replied (span (from - c) es)) (shown-is (r .index .retained) (from - c) (to - from) (r .log) (omega (arith, h .0, h .1 .0, h .1 .1)))) (λ _. refl))
+      ap (λ (es : List Change). replied (span (from - c) es))
+      (shown-is (r .index .retained) (from - c) (to - from) (r .log) (omega (arith, h .0, h .1 .0, h .1 .1))))
+      (λ _. refl))
 
-  pub entries-answer : (from to : ℕ) → spanSays (r .log) (spanIn from to (numbersIn (r .index))) ≡ run (query (getEntries from to)) true r .answer
+  pub entries-answer : (from to : ℕ)
+      → spanSays (r .log) (spanIn from to (numbersIn (r .index))) ≡ run (query (getEntries from to)) true r .answer
   unfolding queryReply queryGuards
-  entries-answer from to = says-between from to ∙ answer-is (getEntries from to) r (g .okay) refl refl (entriesBetween from to (logOf r)) refl
+  entries-answer from to = says-between from to
+      ∙ answer-is (getEntries from to) r (g .okay) refl refl (entriesBetween from to (logOf r)) refl
 
-  pub suffix-answer : (from to : ℕ) → to ≡ endOf (numbersIn (r .index)) → spanSays (r .log) (spanIn from to (numbersIn (r .index))) ≡ run (query (getSuffix from)) true r .answer
+  pub suffix-answer : (from to : ℕ) → to ≡ endOf (numbersIn (r .index))
+      → spanSays (r .log) (spanIn from to (numbersIn (r .index))) ≡ run (query (getSuffix from)) true r .answer
   unfolding queryReply queryGuards suffixFrom
   suffix-answer from to e =
       says-between from to

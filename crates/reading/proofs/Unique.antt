@@ -1,4 +1,5 @@
--- Two replies of a read that meet a claim are one: what a reply says tells its marker, where its part starts, how many entries it
+-- Two replies of a read that meet a claim are one: what a reply says tells its marker, where its part starts, how many
+-- entries it
 -- has and how many are decided, and its stop-sign.
 use Prim.Native.Nat.{ℕ}
 use native.Mathlib.Omega.{arith}

@@ -24,12 +24,14 @@ use Rattle.replay.specs.Feeding.{meaning, lastStart, after}
 use Rattle.replay.specs.Input.{replayed, start, Reached}
 
 -- before the first byte
-pub begun : (x : Raw) (over : Bool) (len used : ℕ) (line out : List ℕ) → x ≡ rawOf (freshLog 0) → len ≡ 0 → over ≡ false → used ≡ 0 → Reached (linesOf []) x (come over len line) (take used out)
+pub begun : (x : Raw) (over : Bool) (len used : ℕ) (line out : List ℕ) → x ≡ rawOf (freshLog 0) → len ≡ 0 → over ≡ false
+    → used ≡ 0 → Reached (linesOf []) x (come over len line) (take used out)
 unfolding linesFrom replayed
 begun x over len used line out e l o u = record { state = e; unended = rw (l, o); handed = []; answers = rw u }
 
 -- the answers that wait are handed over to be written
-pub handed-over : (ls : Lines) (x : Raw) (line : Option (List ℕ)) (waits : List ℕ) → Reached ls x line waits → Reached ls x line []
+pub handed-over : (ls : Lines) (x : Raw) (line : Option (List ℕ)) (waits : List ℕ) → Reached ls x line waits
+    → Reached ls x line []
 handed-over ls x line waits st = record {
   state = st .state;
   unended = st .unended;
@@ -46,13 +48,15 @@ meaning-whole l = go (leb (length l) inputLine) refl
     go false e = sym (too-long l (leb-false (length l) inputLine e))
 
 -- one line more
-replayed-more : (ls : List (List ℕ)) (l : List ℕ) (t : Printout) → replayed (ls ++ (l ∷ [])) t ≡ after (replayed ls t .text) (answering (parseOf l) (replayed ls t .after))
+replayed-more : (ls : List (List ℕ)) (l : List ℕ) (t : Printout)
+    → replayed (ls ++ (l ∷ [])) t ≡ after (replayed ls t .text) (answering (parseOf l) (replayed ls t .after))
 unfolding replayed
 replayed-more [] l t = refl
 replayed-more (k ∷ ls) l t = replayed-more ls l (after (t .text) (answering (parseOf k) (t .after)))
 
 -- the answers that wait, or none where they had to be written first
-stay-or-go : (used : ℕ) (out : List ℕ) (gone : List ℕ) → (more : List ℕ) × (more ++ take (nextAt lastStart used) out ≡ gone ++ take used out)
+stay-or-go : (used : ℕ) (out : List ℕ) (gone : List ℕ)
+    → (more : List ℕ) × (more ++ take (nextAt lastStart used) out ≡ gone ++ take used out)
 stay-or-go used out gone = go (leb used lastStart)
   where
     go : (t : Bool) → (more : List ℕ) × (more ++ take (if t then used else 0) out ≡ gone ++ take used out)
@@ -72,7 +76,8 @@ module _ (ls : Lines) (x : Raw) (line : Option (List ℕ)) (used : ℕ) (out : L
   unfolding before
   ended = rw answered (replayed-more (ls .ended) (ls .rest) start)
 
-  pub finished : (y : Raw) (text : List ℕ) (buffer : List ℕ) → printout text y ≡ after (take (nextAt lastStart used) out) (answering (meaning line) x)
+  pub finished : (y : Raw) (text : List ℕ) (buffer : List ℕ)
+      → printout text y ≡ after (take (nextAt lastStart used) out) (answering (meaning line) x)
       → Reached (lineEnded ls) y (come false 0 buffer) text
   unfolding before
   finished y text buffer e =
@@ -92,7 +97,8 @@ module _ (ls : Lines) (x : Raw) (line : Option (List ℕ)) (used : ℕ) (out : L
 -- bytes that join the line, in a buffer of the size it has
 pub kept : (ls : Lines) (x y : IndexRecord) (log snapshot : List ℕ) (line line′ : Option (List ℕ)) (used used′ room : ℕ) (out bytes : List ℕ)
     → y ≡ x → used′ ≡ used → room ≡ inputLine → line′ ≡ joined room line bytes
-    → Reached ls (raw x log snapshot) line (take used out) → Reached (restWith bytes ls) (raw y log snapshot) line′ (take used′ out)
+    → Reached ls (raw x log snapshot) line (take used out)
+    → Reached (restWith bytes ls) (raw y log snapshot) line′ (take used′ out)
 kept ls x y log snapshot line line′ used used′ room out bytes i u r e st = rw (i, u) (record {
   state = st .state;
   unended = e ∙ rw (r, st .unended) (joined-fitting inputLine (ls .rest) bytes);
@@ -117,17 +123,20 @@ kept-cut room bs = go (leb (length bs) room) refl
 
 -- the last line has a byte exactly if one has come
 module _ (ls : Lines) (len : ℕ) (line : List ℕ) where
-  some-rest : (over : Bool) → come over len line ≡ fitting inputLine (ls .rest) → (over || ltb 0 len) ≡ true → len ≤ length line → 0 < length (ls .rest)
+  some-rest : (over : Bool) → come over len line ≡ fitting inputLine (ls .rest) → (over || ltb 0 len) ≡ true
+      → len ≤ length line → 0 < length (ls .rest)
   some-rest true e t h = omega (arith, kept-cut inputLine (ls .rest) e)
   some-rest false e t h = omega (arith, ap length (kept-whole inputLine (ls .rest) (take len line) e), length-take-le len line h, ltb-true 0 len t)
 
-  no-rest : (over : Bool) → come over len line ≡ fitting inputLine (ls .rest) → (over || ltb 0 len) ≡ false → length (ls .rest) ≡ 0
+  no-rest : (over : Bool) → come over len line ≡ fitting inputLine (ls .rest) → (over || ltb 0 len) ≡ false
+      → length (ls .rest) ≡ 0
   no-rest true e t = absurd (true≢false t)
   no-rest false e t =
       let z : len ≡ 0 = omega (arith, ltb-false 0 len t) in
       ap length (kept-whole inputLine (ls .rest) (take len line) e ∙ ap (λ (n : ℕ). take n line) z)
 
-  by-rest : (rest : List ℕ) → 0 < length rest → _≡_ {A = Lines} (elim rest [ [] ↦ ls | b ∷ bs ↦ lineEnded ls ]) (lineEnded ls)
+  by-rest : (rest : List ℕ) → 0 < length rest
+      → _≡_ {A = Lines} (elim rest [ [] ↦ ls | b ∷ bs ↦ lineEnded ls ]) (lineEnded ls)
   by-rest [] h = absurd (omega arith)
   by-rest (b ∷ bs) h = refl
 

@@ -42,7 +42,8 @@ one-few true = omega arith
 one-few false = omega arith
 
 -- a snapshot's line counts the keys that its marker names
-pub snapshot-line : (i keys : ℕ) (snapshot : List ℕ) → lineOf (Snapshot i keys) ≡ lineOf (Snapshot i (length (entriesOf keys snapshot)))
+pub snapshot-line : (i keys : ℕ) (snapshot : List ℕ)
+    → lineOf (Snapshot i keys) ≡ lineOf (Snapshot i (length (entriesOf keys snapshot)))
 snapshot-line i keys snapshot = ap (λ (n : ℕ). lineOf (Snapshot i n)) (sym (entries-length changeCode keys snapshot))
 
 -- a part of a log is no longer than the log
@@ -65,11 +66,15 @@ pub shown-is : {t₁ t₂ t₃ t₄ : List ℕ} (t₀ : List ℕ) (run : ShownRu
 unfolding shownText
 shown-is {t₁ = t₁} {t₂ = t₂} t₀ run index log snapshot entries m lines e em el p q r s =
     let part-is : List ℕ = part (run .first) (length (lentSpan log (run .first) (run .count) .entries)) log in
-    let named : entries ≡ part-is = e ∙ ap (λ (k : ℕ). part (run .first) k log) (sym (lent-count log (run .first) (run .count))) in
-    let n : ℕ = oneIf (given (markerSaid snapshot (run .marker))) + length (entriesOf (length part-is / width) part-is) + oneIf (given (if run .stop then some (index .stop) else none)) in
+    let named : entries ≡ part-is = e
+    ∙ ap (λ (k : ℕ). part (run .first) k log) (sym (lent-count log (run .first) (run .count))) in
+    let n : ℕ = oneIf (given (markerSaid snapshot (run .marker))) + length
+    (entriesOf (length part-is / width) part-is) + oneIf
+    (given (if run .stop then some (index .stop) else none)) in
     let en : lines ≡ n = el ∙ ap (λ (k : ℕ). k + length entries / width + oneIf (run .stop)) em
     ∙ ap (λ (ws : List ℕ). oneIf (given (markerSaid snapshot (run .marker))) + length ws / width + oneIf (run .stop)) named
-    ∙ ap (λ (k : ℕ). oneIf (given (markerSaid snapshot (run .marker))) + k + oneIf (run .stop)) (sym (entries-length changeCode (length part-is / width) part-is))
+    ∙ ap (λ (k : ℕ). oneIf (given (markerSaid snapshot (run .marker))) + k + oneIf (run .stop))
+    (sym (entries-length changeCode (length part-is / width) part-is))
     ∙ ap (λ (b : Bool). oneIf (given (markerSaid snapshot (run .marker))) + length (entriesOf (length part-is / width) part-is) + oneIf b) (sym (given-by (run .stop) (index .stop))) in
     let head : List ℕ = lineOf (Run n) in
     let mark : List ℕ = markerText (markerSaid snapshot (run .marker)) in
@@ -83,7 +88,8 @@ shown-is {t₁ = t₁} {t₂ = t₂} t₀ run index log snapshot entries m lines
 lent-text : (log : List ℕ) (a : Answer (Option Shown)) → ShownLent log a → readTextIn log a ≡ readText a
 lent-text log (refused n k) e = refl
 lent-text log (replied none) e = refl
-lent-text log (replied (some v)) e = ap (λ (es : List Change). shownText (shown (v .marker) (span (v .part .first) es) (v .decided) (v .stop) (v .stopDecided))) e
+lent-text log (replied (some v)) e =
+    ap (λ (es : List Change). shownText (shown (v .marker) (span (v .part .first) es) (v .decided) (v .stop) (v .stopDecided))) e
 
 -- ---- what a call's answer prints, and the state after it
 
@@ -101,15 +107,18 @@ reads a b r x e =
 
 pub stops : (l : List ℕ) (a : Answer (Option Flushed)) (last : Answer ℕ) (x : Raw) (o : Outcome (Option Flushed))
     → outcome a x ≡ o → last ≡ ofNumbers acceptedOf x → l ≡ stopLine a last → printout l x ≡ stoppedBy o
-stops l a last x o e h k = ap (λ (bs : List ℕ). printout bs x) (k ∙ ap (λ (i : Answer ℕ). stopLine a i) h) ∙ ap stoppedBy e
+stops l a last x o e h k = ap (λ (bs : List ℕ). printout bs x) (k ∙ ap (λ (i : Answer ℕ). stopLine a i) h)
+    ∙ ap stoppedBy e
 
 -- a fresh log that is refused leaves the words
 fresh-kept : (n k m : ℕ) (x : Raw) (log snapshot : List ℕ) → outcome (refused k m) x ≡ freshCall n log snapshot
     → (x .log ≡ log) × (x .snapshot ≡ snapshot)
 unfolding freshCall
-fresh-kept n k m x log snapshot = go (leb n largestBatch && (eqb (length log) logWords && eqb (length snapshot) snapshotWords))
+fresh-kept n k m x log snapshot =
+    go (leb n largestBatch && (eqb (length log) logWords && eqb (length snapshot) snapshotWords))
   where
-    go : (b : Bool) → outcome (refused k m) x ≡ (if b then outcome (replied (tt {0})) (rawOf (freshLog n)) else outcome (refused 11 0) (raw (indexOf (freshLog 0)) log snapshot)) → (x .log ≡ log) × (x .snapshot ≡ snapshot)
+    go : (b : Bool) → outcome (refused k m) x
+        ≡ (if b then outcome (replied (tt {0})) (rawOf (freshLog n)) else outcome (refused 11 0) (raw (indexOf (freshLog 0)) log snapshot)) → (x .log ≡ log) × (x .snapshot ≡ snapshot)
     go true e = apart _ _ _ (sym (ap (λ (o : Outcome (Unit {0})). o .answer) e))
     go false e = (ap (λ (o : Outcome (Unit {0})). o .after .log) e, ap (λ (o : Outcome (Unit {0})). o .after .snapshot) e)
 
@@ -118,7 +127,8 @@ pub starts : (n : ℕ) (x old : Raw) → outcome (replied tt) x ≡ freshCall n 
 starts n x old e = ap (λ (o : Outcome (Unit {0})). startedBy o old) e
 
 pub stays : (n said k m : ℕ) (x old : Raw) → outcome (refused k m) x ≡ freshCall n (old .log) (old .snapshot) → said ≡ k
-    → printout (lineOf (Refused said)) (raw (old .index) (x .log) (x .snapshot)) ≡ startedBy (freshCall n (old .log) (old .snapshot)) old
+    → printout (lineOf (Refused said)) (raw (old .index) (x .log) (x .snapshot))
+    ≡ startedBy (freshCall n (old .log) (old .snapshot)) old
 stays n said k m x old e h =
     let kept = fresh-kept n k m x (old .log) (old .snapshot) e in
     ap (λ (i : ℕ). printout (lineOf (Refused i)) (raw (old .index) (x .log) (x .snapshot))) h

@@ -54,7 +54,8 @@ merge-wins k a b up =
     find-onto k a b
     ∙ ap (λ (o : Option Said). orElse o (find k a)) (sym (fold-last k b) ∙ ap (find k) (nil-merge b up))
 
--- Refused for room on one side exactly if on the other, and equal where neither is: `within room` is none where it is refused.
+-- Refused for room on one side exactly if on the other, and equal where neither is: `within room` is none where it is
+-- refused.
 pub within-fits : (room : ℕ) (s : List Change) → length s ≤ room → within room s ≡ some s
 unfolding within
 within-fits room s h = rw (le-leb (length s) room h)
@@ -78,12 +79,14 @@ fold-join-within room r q = by (reach (length (fold r)) room) (reach (length (fo
         → within room (fold (r ++ q)) ≡ bind (within room (fold r)) (λ a. bind (within room (fold q)) (λ b. within room (merge a b)))
     by (reached g) (reached h) = simp (fold-append, within-fits)
     by (reached g) (short h) =
-        let k : room < length (merge (fold r) (fold q)) = omega (arith, two) in simp (fold-append, within-none, within-fits)
+        let k : room < length (merge (fold r) (fold q)) = omega (arith, two) in
+        simp (fold-append, within-none, within-fits)
     by (short g) h =
         let k : room < length (merge (fold r) (fold q)) = omega (arith, one) in simp (fold-append, within-none)
 
 pub merge-assoc-within : (room : ℕ) (a b c : List Change) → rising b ≡ true
-    → bind (within room (merge a b)) (λ s. within room (merge s c)) ≡ bind (within room (merge b c)) (λ s. within room (merge a s))
+    → bind (within room (merge a b)) (λ s. within room (merge s c))
+    ≡ bind (within room (merge b c)) (λ s. within room (merge a s))
 unfolding bind
 merge-assoc-within room a b c up = by (reach (length (merge a b)) room) (reach (length (merge b c)) room)
   where
@@ -94,7 +97,8 @@ merge-assoc-within room a b c up = by (reach (length (merge a b)) room) (reach (
     two = merge-second a (merge b c) (merge-rises b c up)
 
     by : Reach (length (merge a b)) room → Reach (length (merge b c)) room
-        → bind (within room (merge a b)) (λ s. within room (merge s c)) ≡ bind (within room (merge b c)) (λ s. within room (merge a s))
+        → bind (within room (merge a b)) (λ s. within room (merge s c))
+        ≡ bind (within room (merge b c)) (λ s. within room (merge a s))
     by (reached f) (reached g) = simp (within-fits room (merge a b), within-fits room (merge b c), assoc a b c)
     by (reached f) (short g) =
         let k : room < length (merge (merge a b) c) = rw (assoc a b c up) (omega (arith, two)) in

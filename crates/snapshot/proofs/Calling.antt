@@ -34,15 +34,18 @@ use Rattle.snapshot.proofs.Putting.{folded-keys, folded-refused, folded
 
 -- refusal 8, or the snapshot written out
 module _ (es : List Change) (out : List ℕ) where
-  pub over-refused : keyRoom < length es → outcome (refusedBy TooManyKeys) out ≡ writtenBy (first (foldGuards es)) es out
+  pub over-refused : keyRoom < length es
+      → outcome (refusedBy TooManyKeys) out ≡ writtenBy (first (foldGuards es)) es out
   over-refused h = rw (first-refuses 8 0 (ltb keyRoom (length es)) [] (lt-ltb keyRoom (length es) h))
 
-  pub over-written : length es ≤ keyRoom → outcome (replied (length es)) (stored snapshotWords es) ≡ writtenBy (first (foldGuards es)) es out
+  pub over-written : length es ≤ keyRoom
+      → outcome (replied (length es)) (stored snapshotWords es) ≡ writtenBy (first (foldGuards es)) es out
   unfolding first
   over-written h = rw (first-goes-on 8 0 (ltb keyRoom (length es)) [] (le-ltb keyRoom (length es) h))
 
   module _ (r : Folded) (t : List ℕ) (p : FoldIs snapshotWords es r t) where
-    pub aside-refused : (x : Refusal) → r ≡ Refused x → outcome (folded r) out ≡ writtenBy (first (foldGuards es)) es out
+    pub aside-refused : (x : Refusal) → r ≡ Refused x
+        → outcome (folded r) out ≡ writtenBy (first (foldGuards es)) es out
     aside-refused x e =
         ap (λ (y : Folded). outcome (folded y) out) (folded-over snapshotWords es r x (p .reply) e)
         ∙ over-refused (omega (arith, folded-refused snapshotWords es x (sym (p .reply) ∙ e)))
@@ -50,27 +53,32 @@ module _ (es : List Change) (out : List ℕ) where
     pub aside-written : (k : ℕ) → r ≡ Keys k → outcome (folded (Keys k)) t ≡ writtenBy (first (foldGuards es)) es out
     aside-written k e =
         let q = folded-keys snapshotWords es k (sym (p .reply) ∙ e) in
-        ap₂ (λ (n : ℕ) (ws : List ℕ). outcome (replied n) ws) (q .1) (p .words-are (q .0)) ∙ over-written (omega (arith, q .0))
+        ap₂ (λ (n : ℕ) (ws : List ℕ). outcome (replied n) ws) (q .1) (p .words-are (q .0))
+        ∙ over-written (omega (arith, q .0))
 
 -- what a fold's answer tells, whatever the verdict
 module _ (v : Verdict) (es : List Change) (out exit : List ℕ) (a : Folded) (f : outcome (folded a) exit ≡ writtenBy v es out) where
   pub wrote-nothing : (x : Refusal) → a ≡ Refused x → (v ≡ refuses (numberOf x) (carriedOf x)) × (exit ≡ out)
   wrote-nothing x p = go v (ap (λ (b : Folded). outcome (folded b) exit) (sym p) ∙ f)
     where
-      go : (u : Verdict) → outcome (refusedBy x) exit ≡ writtenBy u es out → (u ≡ refuses (numberOf x) (carriedOf x)) × (exit ≡ out)
+      go : (u : Verdict) → outcome (refusedBy x) exit ≡ writtenBy u es out
+          → (u ≡ refuses (numberOf x) (carriedOf x)) × (exit ≡ out)
       go passes e =
           let y : refusedBy x ≡ replied (length es) = ap (λ (o : Outcome). o .answer) e in
           let z : _≡_ {A = ℕ} 0 1 = cc in
           absurd (omega arith)
       go (refuses n k) e =
-          let y : refusedBy x ≡ refused n k = ap (λ (o : Outcome). o .answer) e in (cc, ap (λ (o : Outcome). o .output) e)
+          let y : refusedBy x ≡ refused n k = ap (λ (o : Outcome). o .answer) e in
+          (cc, ap (λ (o : Outcome). o .output) e)
 
   pub wrote-keys : (k : ℕ) → a ≡ Keys k → (v ≡ passes) × (k ≡ length es) × (exit ≡ stored snapshotWords es)
   wrote-keys k p = go v (ap (λ (b : Folded). outcome (folded b) exit) (sym p) ∙ f)
     where
-      go : (u : Verdict) → outcome (replied k) exit ≡ writtenBy u es out → (u ≡ passes) × (k ≡ length es) × (exit ≡ stored snapshotWords es)
+      go : (u : Verdict) → outcome (replied k) exit ≡ writtenBy u es out
+          → (u ≡ passes) × (k ≡ length es) × (exit ≡ stored snapshotWords es)
       go passes e =
-          let y : replied k ≡ replied (length es) = ap (λ (o : Outcome). o .answer) e in (refl, cc, ap (λ (o : Outcome). o .output) e)
+          let y : replied k ≡ replied (length es) = ap (λ (o : Outcome). o .answer) e in
+          (refl, cc, ap (λ (o : Outcome). o .output) e)
       go (refuses n j) e =
           let y : replied k ≡ refused n j = ap (λ (o : Outcome). o .answer) e in
           let z : _≡_ {A = ℕ} 0 1 = cc in
@@ -97,7 +105,8 @@ unfolding snapshotFormed
 snapshot-holds n ws e =
     record { laid = laid-of snapshotWords n ws (and-left _ _ e); rises = and-right (storedIn snapshotWords n ws) (rising (entriesOf n ws)) e }
 
-pub snapshot-stored : (es : List Change) → length es ≤ keyRoom → entriesFormed es ≡ true → rising es ≡ true → snapshotFormed (length es) (stored snapshotWords es) ≡ true
+pub snapshot-stored : (es : List Change) → length es ≤ keyRoom → entriesFormed es ≡ true → rising es ≡ true
+    → snapshotFormed (length es) (stored snapshotWords es) ≡ true
 unfolding snapshotFormed
 snapshot-stored es h fine up =
     rw (stored-laid snapshotWords es (omega arith) fine, stored-entries snapshotWords es fine) up
@@ -108,10 +117,12 @@ empty-formed = snapshot-stored [] (omega arith) refl refl
 
 -- refusal 11, and what follows where it is not given
 module _ (ok : Bool) (es : List Change) (out : List ℕ) where
-  malformed : ok ≡ false → outcome (refusedBy Malformed) out ≡ writtenBy (first (guard 11 0 (not ok) ∷ foldGuards es)) es out
+  malformed : ok ≡ false → outcome (refusedBy Malformed) out
+      ≡ writtenBy (first (guard 11 0 (not ok) ∷ foldGuards es)) es out
   malformed e = rw (first-refuses 11 0 (not ok) (foldGuards es) (rw e))
 
-  in-form : ok ≡ true → writtenBy (first (foldGuards es)) es out ≡ writtenBy (first (guard 11 0 (not ok) ∷ foldGuards es)) es out
+  in-form : ok ≡ true → writtenBy (first (foldGuards es)) es out
+      ≡ writtenBy (first (guard 11 0 (not ok) ∷ foldGuards es)) es out
   in-form e = rw (first-goes-on 11 0 (not ok) (foldGuards es) (rw e))
 
 module _ (entries out : List ℕ) where
@@ -130,7 +141,8 @@ module _ (entries out : List ℕ) where
       room = eqb-true (length out) snapshotWords (and-right (sliceFormed entries) _ e);
     }
 
-    pub fold-stands : foldedOut 0 (replicate snapshotWords 0) (length entries / width) entries out ≡ foldCall entries out
+    pub fold-stands : foldedOut 0 (replicate snapshotWords 0) (length entries / width) entries out
+        ≡ foldCall entries out
     unfolding foldCall fold entriesAt
     fold-stands = in-form foldable (fold (entriesIn entries)) out e
 
@@ -161,7 +173,8 @@ pub find-malformed : (n : ℕ) (ws : List ℕ) (k : ℕ) → snapshotFormed n ws
 unfolding findCall
 find-malformed n ws k e = rw (first-refuses 11 0 (not (snapshotFormed n ws)) [] (rw e))
 
-pub find-stands : (n : ℕ) (ws : List ℕ) (k : ℕ) → snapshotFormed n ws ≡ true → replied (placeOf (find k (entriesOf n ws))) ≡ findCall ws n k
+pub find-stands : (n : ℕ) (ws : List ℕ) (k : ℕ) → snapshotFormed n ws ≡ true
+    → replied (placeOf (find k (entriesOf n ws))) ≡ findCall ws n k
 unfolding findCall first
 find-stands n ws k ok = sym (rw (first-goes-on 11 0 (not (snapshotFormed n ws)) [] (rw ok)))
 
@@ -173,5 +186,7 @@ module _ (n : ℕ) (ws : List ℕ) (k i : ℕ) where
   pub look-at : At i ≡ spotOf (entriesOf n ws) k → some (changeAt ws i .said) ≡ find k (entriesOf n ws)
   look-at e =
       let at = spot-at (entriesOf n ws) k i (sym e) in
-      let q : drop (rank (entriesOf n ws) k) (entriesOf n ws) ≡ changeAt ws i ∷ drop (suc i) (entriesOf n ws) = rw (at .1) (entry-cons i n ws (spot-inside n ws k i e)) in
+      let q : drop (rank (entriesOf n ws) k) (entriesOf n ws)
+      ≡ changeAt ws i ∷ drop (suc i) (entriesOf n ws) =
+      rw (at .1) (entry-cons i n ws (spot-inside n ws k i e)) in
       sym (find-found k (entriesOf n ws) (at .0) (changeAt ws i) (drop (suc i) (entriesOf n ws)) q)

@@ -44,8 +44,10 @@ find-absent k (d ∷ es) e = by (find-absent k es) (stand (d .key) k)
         absurd (omega arith)
     by ih (above x) = find-below k d es x
 
-pub find-found : (k : ℕ) (es : List Change) → here es k ≡ true → (d : Change) (r : List Change) → drop (rank es k) es ≡ d ∷ r → find k es ≡ some (d .said)
-find-found k [] e d r q = let a : false ≡ true = sym (here-nil k) ∙ e in let z : _≡_ {A = ℕ} 0 1 = cc in absurd (omega arith)
+pub find-found : (k : ℕ) (es : List Change) → here es k ≡ true → (d : Change) (r : List Change)
+    → drop (rank es k) es ≡ d ∷ r → find k es ≡ some (d .said)
+find-found k [] e d r q = let a : false ≡ true = sym (here-nil k) ∙ e in let z : _≡_ {A = ℕ} 0 1 = cc in
+    absurd (omega arith)
 find-found k (f ∷ es) e d r q = by (find-found k es) (stand (f .key) k)
   where
     by : (here es k ≡ true → (d : Change) (r : List Change) → drop (rank es k) es ≡ d ∷ r → find k es ≡ some (d .said))
@@ -68,7 +70,8 @@ find-insert-same : (c : Change) (s : List Change) → find (c .key) (insert c s)
 find-insert-same c [] = rw (insert-nil, find-same (c .key) c [] refl)
 find-insert-same c (d ∷ s) = by (find-insert-same c s) (stand (c .key) (d .key))
   where
-    by : find (c .key) (insert c s) ≡ some (c .said) → Stand (c .key) (d .key) → find (c .key) (insert c (d ∷ s)) ≡ some (c .said)
+    by : find (c .key) (insert c s) ≡ some (c .said) → Stand (c .key) (d .key)
+        → find (c .key) (insert c (d ∷ s)) ≡ some (c .said)
     by ih (below x) = rw (insert-below c d s x, find-same (c .key) c (d ∷ s) refl)
     by ih (same x) = rw (insert-same c d s x, find-same (c .key) c s refl)
     by ih (above x) = rw (insert-above c d s x, find-above (c .key) d (insert c s) x) ih
@@ -80,9 +83,11 @@ find-insert-other k c [] n = by (stand (c .key) k)
     by (below x) = rw (insert-nil, find-above k c [] x)
     by (same x) = absurd (n x)
     by (above x) = rw (insert-nil, find-below k c [] x) (unfold find in refl)
-find-insert-other k c (d ∷ s) n = by (find-insert-other k c s n) (stand (c .key) (d .key)) (stand (c .key) k) (stand (d .key) k)
+find-insert-other k c (d ∷ s) n =
+    by (find-insert-other k c s n) (stand (c .key) (d .key)) (stand (c .key) k) (stand (d .key) k)
   where
-    by : find k (insert c s) ≡ find k s → Stand (c .key) (d .key) → Stand (c .key) k → Stand (d .key) k → find k (insert c (d ∷ s)) ≡ find k (d ∷ s)
+    by : find k (insert c s) ≡ find k s → Stand (c .key) (d .key) → Stand (c .key) k → Stand (d .key) k
+        → find k (insert c (d ∷ s)) ≡ find k (d ∷ s)
     by ih (below x) (same y) z = absurd (n y)
     by ih (same x) (same y) z = absurd (n y)
     by ih (below x) (below y) z = rw (insert-below c d s x, find-above k c (d ∷ s) y)

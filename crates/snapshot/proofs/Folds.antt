@@ -64,7 +64,8 @@ pub climbs-tail : (k : ℕ) (d : Change) (s : List Change) → climbs k (d ∷ s
 unfolding climbs
 climbs-tail k d s e = and-right (ltb k (d .key)) (climbs (d .key) s) e
 
-pub climbs-cons : (k : ℕ) (d : Change) (s : List Change) → k < d .key → climbs (d .key) s ≡ true → climbs k (d ∷ s) ≡ true
+pub climbs-cons : (k : ℕ) (d : Change) (s : List Change) → k < d .key → climbs (d .key) s ≡ true
+    → climbs k (d ∷ s) ≡ true
 unfolding climbs
 climbs-cons k d s h e = rw (lt-ltb k (d .key) h) e
 
@@ -78,11 +79,13 @@ climbs-down j k (d ∷ s) h e =
     let x : k < d .key = climbs-head k d s e in
     climbs-cons j d s (omega arith) (climbs-tail k d s e)
 
-pub climbs-insert : (k : ℕ) (c : Change) (s : List Change) → k < c .key → climbs k s ≡ true → climbs k (insert c s) ≡ true
+pub climbs-insert : (k : ℕ) (c : Change) (s : List Change) → k < c .key → climbs k s ≡ true
+    → climbs k (insert c s) ≡ true
 climbs-insert k c [] h e = rw insert-nil (climbs-cons k c [] h (climbs-nil (c .key)))
 climbs-insert k c (d ∷ s) h e = by (λ g. climbs-insert (d .key) c s g (climbs-tail k d s e)) (stand (c .key) (d .key))
   where
-    by : (d .key < c .key → climbs (d .key) (insert c s) ≡ true) → Stand (c .key) (d .key) → climbs k (insert c (d ∷ s)) ≡ true
+    by : (d .key < c .key → climbs (d .key) (insert c s) ≡ true) → Stand (c .key) (d .key)
+        → climbs k (insert c (d ∷ s)) ≡ true
     by ih (below x) = rw (insert-below c d s x) (climbs-cons k c (d ∷ s) h (climbs-cons (c .key) d s x (climbs-tail k d s e)))
     by ih (same x) = rw (insert-same c d s x) (climbs-cons k c s h (climbs-down (c .key) (d .key) s (omega arith) (climbs-tail k d s e)))
     by ih (above x) = rw (insert-above c d s x) (climbs-cons k d (insert c s) (climbs-head k d s e) (ih x))
@@ -111,7 +114,8 @@ unfolding fold rising
 rising-fold r = rising-onto [] r refl
 
 -- a change below a whole ascending run may come before it or after it
-pub onto-after : (c : Change) (s t : List Change) → climbs (c .key) t ≡ true → foldOnto (insert c s) t ≡ insert c (foldOnto s t)
+pub onto-after : (c : Change) (s t : List Change) → climbs (c .key) t ≡ true
+    → foldOnto (insert c s) t ≡ insert c (foldOnto s t)
 unfolding foldOnto
 onto-after c s [] e = refl
 onto-after c s (d ∷ t) e =
@@ -123,7 +127,8 @@ unfolding rising
 tail-rises k [] g = refl
 tail-rises k (f ∷ t) g = climbs-tail k f t g
 
--- the law from which the rest follows: to put a change into an ascending run and fold that is to fold the run and put the change last
+-- the law from which the rest follows: to put a change into an ascending run and fold that is to fold the run and put
+-- the change last
 pub onto-insert : (c : Change) (s t : List Change) → rising t ≡ true → foldOnto s (insert c t) ≡ insert c (foldOnto s t)
 unfolding rising foldOnto
 onto-insert c s [] e = rw insert-nil

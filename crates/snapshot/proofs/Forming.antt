@@ -9,7 +9,8 @@ use Rattle.entry.specs.Change.{Change, changeFormed, entriesFormed}
 use Rattle.snapshot.specs.Folds.{insert, foldOnto, fold, merge}
 use Rattle.snapshot.proofs.Folds.{insert-nil, insert-below, insert-same, insert-above}
 
-pub formed-insert : (c : Change) (r : List Change) → changeFormed c ≡ true → entriesFormed r ≡ true → entriesFormed (insert c r) ≡ true
+pub formed-insert : (c : Change) (r : List Change) → changeFormed c ≡ true → entriesFormed r ≡ true
+    → entriesFormed (insert c r) ≡ true
 formed-insert c [] a b = rw insert-nil (all-cons changeFormed c [] a b)
 formed-insert c (d ∷ r) a b = by (formed-insert c r a (all-tail changeFormed d r b)) (stand (c .key) (d .key))
   where
@@ -18,7 +19,8 @@ formed-insert c (d ∷ r) a b = by (formed-insert c r a (all-tail changeFormed d
     by ih (same x) = rw insert-same (all-cons changeFormed c r a (all-tail changeFormed d r b))
     by ih (above x) = rw insert-above (all-cons changeFormed d (insert c r) (all-head changeFormed d r b) ih)
 
-pub formed-onto : (s r : List Change) → entriesFormed s ≡ true → entriesFormed r ≡ true → entriesFormed (foldOnto s r) ≡ true
+pub formed-onto : (s r : List Change) → entriesFormed s ≡ true → entriesFormed r ≡ true
+    → entriesFormed (foldOnto s r) ≡ true
 unfolding foldOnto
 formed-onto s [] a b = a
 formed-onto s (c ∷ r) a b = formed-onto (insert c s) r (formed-insert c s (all-head changeFormed c r b) a) (all-tail changeFormed c r b)
@@ -27,6 +29,7 @@ pub formed-fold : (r : List Change) → entriesFormed r ≡ true → entriesForm
 unfolding fold allOf
 formed-fold r b = formed-onto [] r refl b
 
-pub formed-merge : (a b : List Change) → entriesFormed a ≡ true → entriesFormed b ≡ true → entriesFormed (merge a b) ≡ true
+pub formed-merge : (a b : List Change) → entriesFormed a ≡ true → entriesFormed b ≡ true
+    → entriesFormed (merge a b) ≡ true
 unfolding merge
 formed-merge a b p q = formed-onto a b p q

@@ -51,7 +51,8 @@ sound-formed : (s : List Change) → Sound s → snapshotFormed (length s) (stor
 sound-formed s o = snapshot-stored s (o .few) (o .fine) (o .rises)
 
 module _ (out : List ℕ) (room : length out ≡ snapshotWords) where
-  fold-shown : (entries : List ℕ) → sliceFormed entries ≡ true → foldCall entries out ≡ shown (within keyRoom (fold (entriesIn entries))) out
+  fold-shown : (entries : List ℕ) → sliceFormed entries ≡ true
+      → foldCall entries out ≡ shown (within keyRoom (fold (entriesIn entries))) out
   fold-shown entries e =
       sym (fold-stands entries out (both-true (sliceFormed entries) (eqb (length out) snapshotWords) e (eq-eqb (length out) snapshotWords room)))
       ∙ (unfold fold entriesAt in written-shown (fold (entriesIn entries)) out)
@@ -65,12 +66,15 @@ module _ (out : List ℕ) (room : length out ≡ snapshotWords) where
 
   -- the same of snapshots as they are written
   merge-stored : (a b : List Change) → Sound a → Sound b
-      → mergeCall (stored snapshotWords a) (length a) (stored snapshotWords b) (length b) out ≡ shown (within keyRoom (merge a b)) out
+      → mergeCall (stored snapshotWords a) (length a) (stored snapshotWords b) (length b) out
+      ≡ shown (within keyRoom (merge a b)) out
   merge-stored a b p q =
       merge-shown (stored snapshotWords a) (length a) (stored snapshotWords b) (length b) (sound-formed a p) (sound-formed b q)
-      ∙ ap₂ (λ (x y : List Change). shown (within keyRoom (merge x y)) out) (stored-entries snapshotWords a (p .fine)) (stored-entries snapshotWords b (q .fine))
+      ∙ ap₂ (λ (x y : List Change). shown (within keyRoom (merge x y)) out) (stored-entries snapshotWords a (p .fine))
+      (stored-entries snapshotWords b (q .fine))
 
-fold-sound : (xs : List ℕ) (s : List Change) → sliceFormed xs ≡ true → within keyRoom (fold (entriesIn xs)) ≡ some s → Sound s
+fold-sound : (xs : List ℕ) (s : List Change) → sliceFormed xs ≡ true → within keyRoom (fold (entriesIn xs)) ≡ some s
+    → Sound s
 fold-sound xs s p e =
     let w = within-some (fold (entriesIn xs)) s e in
     record {
@@ -79,7 +83,8 @@ fold-sound xs s p e =
       rises = rw (w .0) at (fold-rises (entriesIn xs));
     }
 
--- What `fold` writes for two runs joined is what `merge` writes for their two folds; either is refused exactly if the other is.
+-- What `fold` writes for two runs joined is what `merge` writes for their two folds; either is refused exactly if the
+-- other is.
 module _ (xs ys o₁ o₂ out : List ℕ)
     (p : sliceFormed xs ≡ true)
     (q : sliceFormed ys ≡ true)
@@ -97,15 +102,18 @@ module _ (xs ys o₁ o₂ out : List ℕ)
         ∙ ap₂ (λ (u v : Outcome). afterwards u out (λ (a : List ℕ) (n : ℕ). afterwards v out (λ (b : List ℕ) (m : ℕ). mergeCall a n b m out)))
         (sym (fold-shown o₁ room₁ xs p)) (sym (fold-shown o₂ room₂ ys q))
       where
-        by : (u : Option (List Change)) → within keyRoom (fold (entriesIn xs)) ≡ u → (v : Option (List Change)) → within keyRoom (fold (entriesIn ys)) ≡ v
+        by : (u : Option (List Change)) → within keyRoom (fold (entriesIn xs)) ≡ u → (v : Option (List Change))
+            → within keyRoom (fold (entriesIn ys)) ≡ v
             → shown (bind u (λ a. bind v (λ b. within keyRoom (merge a b)))) out
             ≡ afterwards (shown u o₁) out (λ (a : List ℕ) (n : ℕ). afterwards (shown v o₂) out (λ (b : List ℕ) (m : ℕ). mergeCall a n b m out))
         by none e v f = unfold bind shown in refl
         by (some a) e none f = unfold bind shown in refl
-        by (some a) e (some b) f = unfold bind shown in sym (unfold shown in merge-stored out room a b (fold-sound xs a p e) (fold-sound ys b q f))
+        by (some a) e (some b) f = unfold bind shown in
+            sym (unfold shown in merge-stored out room a b (fold-sound xs a p e) (fold-sound ys b q f))
 
 -- `merge` is associative on snapshots in form, and refused one way exactly if the other way.
-merge-sound : (a : List ℕ) (n : ℕ) (b : List ℕ) (m : ℕ) (s : List Change) → snapshotFormed n a ≡ true → snapshotFormed m b ≡ true
+merge-sound : (a : List ℕ) (n : ℕ) (b : List ℕ) (m : ℕ) (s : List Change) → snapshotFormed n a ≡ true
+    → snapshotFormed m b ≡ true
     → within keyRoom (merge (entriesOf n a) (entriesOf m b)) ≡ some s → Sound s
 merge-sound a n b m s p q e =
     let w = within-some (merge (entriesOf n a) (entriesOf m b)) s e in
@@ -134,7 +142,8 @@ module _ (a : List ℕ) (n : ℕ) (b : List ℕ) (m : ℕ) (c : List ℕ) (l : �
         ∙ ap (λ (u : Outcome). afterwards u out (λ (s : List ℕ) (k : ℕ). mergeCall a n s k out)) (sym (merge-shown o room₁ b m c l q r))
       where
         left : (w : Option (List Change)) → within keyRoom (merge (entriesOf n a) (entriesOf m b)) ≡ w
-            → afterwards (shown w o) out (λ (s : List ℕ) (k : ℕ). mergeCall s k c l out) ≡ shown (bind w (λ s. within keyRoom (merge s (entriesOf l c)))) out
+            → afterwards (shown w o) out (λ (s : List ℕ) (k : ℕ). mergeCall s k c l out)
+            ≡ shown (bind w (λ s. within keyRoom (merge s (entriesOf l c)))) out
         left none e = unfold bind shown in refl
         left (some s) e =
             let o′ = merge-sound a n b m s p q e in
@@ -143,7 +152,8 @@ module _ (a : List ℕ) (n : ℕ) (b : List ℕ) (m : ℕ) (c : List ℕ) (l : �
             ∙ ap (λ (x : List Change). shown (within keyRoom (merge x (entriesOf l c))) out) (stored-entries snapshotWords s (o′ .fine))
 
         right : (w : Option (List Change)) → within keyRoom (merge (entriesOf m b) (entriesOf l c)) ≡ w
-            → shown (bind w (λ s. within keyRoom (merge (entriesOf n a) s))) out ≡ afterwards (shown w o) out (λ (s : List ℕ) (k : ℕ). mergeCall a n s k out)
+            → shown (bind w (λ s. within keyRoom (merge (entriesOf n a) s))) out
+            ≡ afterwards (shown w o) out (λ (s : List ℕ) (k : ℕ). mergeCall a n s k out)
         right none e = unfold bind shown in refl
         right (some s) e =
             let o′ = merge-sound b m c l s q r e in

@@ -37,21 +37,24 @@ unfolding foldedIn
 folded-full words es h = rw (lt-leb (length es * width) words h)
 
 -- what a reply tells of the size
-pub folded-keys : (words : ℕ) (es : List Change) (k : ℕ) → foldedIn words es ≡ Keys k → (length es * width ≤ words) × (k ≡ length es)
+pub folded-keys : (words : ℕ) (es : List Change) (k : ℕ) → foldedIn words es ≡ Keys k
+    → (length es * width ≤ words) × (k ≡ length es)
 folded-keys words es k e = go (decLe (length es * width) words)
   where
     go : Dec (length es * width ≤ words) → (length es * width ≤ words) × (k ≡ length es)
     go (yes h) = let b = folded-fits words es h in let q : k ≡ length es = cc in (h, q)
     go (no h) = let b = folded-full words es (omega arith) in let z : _≡_ {A = ℕ} 0 1 = cc in absurd (omega arith)
 
-pub folded-refused : (words : ℕ) (es : List Change) (x : Refusal) → foldedIn words es ≡ Refused x → words < length es * width
+pub folded-refused : (words : ℕ) (es : List Change) (x : Refusal) → foldedIn words es ≡ Refused x
+    → words < length es * width
 folded-refused words es x e = go (decLe (length es * width) words)
   where
     go : Dec (length es * width ≤ words) → words < length es * width
     go (yes h) = let b = folded-fits words es h in let z : _≡_ {A = ℕ} 0 1 = cc in absurd (omega arith)
     go (no h) = omega arith
 
-pub folded-over : (words : ℕ) (es : List Change) (r : Folded) (x : Refusal) → r ≡ foldedIn words es → r ≡ Refused x → r ≡ Refused TooManyKeys
+pub folded-over : (words : ℕ) (es : List Change) (r : Folded) (x : Refusal) → r ≡ foldedIn words es → r ≡ Refused x
+    → r ≡ Refused TooManyKeys
 folded-over words es r x p e = p ∙ folded-full words es (folded-refused words es x (sym p ∙ e))
 
 -- the entry that the words `item` are, put among the n entries of s
@@ -68,7 +71,8 @@ module _ (s : List ℕ) (n : ℕ) (item : List ℕ) (h : Holds (length s) n s) (
 
   -- a splice of one entry, over `cut` others
   put-words : (i cut : ℕ) → Put c (entriesOf n s) cut → rank (entriesOf n s) (c .key) ≡ i
-      → laid (length s) (spliced (i * width) (cut * width) item (take (n * width) s)) ≡ stored (length s) (insert c (entriesOf n s))
+      → laid (length s) (spliced (i * width) (cut * width) item (take (n * width) s))
+      ≡ stored (length s) (insert c (entriesOf n s))
   put-words i cut p e =
       spliced-laid changeCode changeOk n i cut s item (c ∷ []) (h .laid .fits) one-entry
       ∙ ap (λ (j : ℕ). stored (length s) (spliced j cut (c ∷ []) (entriesOf n s))) (sym e)
@@ -102,7 +106,8 @@ module _ (s : List ℕ) (n : ℕ) (item : List ℕ) (h : Holds (length s) n s) (
           words-are = λ _. put-words i 0 into (spot-before (entriesOf n s) (c .key) i (sym e) .1);
         }
 
-    pub put-full : (t : List ℕ) → length s - n * width < width → FoldIs (length s) (insert c (entriesOf n s)) (Refused TooManyKeys) t
+    pub put-full : (t : List ℕ) → length s - n * width < width
+        → FoldIs (length s) (insert c (entriesOf n s)) (Refused TooManyKeys) t
     put-full t full =
         let k : n + 1 ≡ length (insert c (entriesOf n s)) = omega (arith, into .length-is, long) in
         let o : length s < length (insert c (entriesOf n s)) * width = omega (arith, h .laid .fits) in
@@ -158,14 +163,16 @@ module _ (words : ℕ) (m : List Change) (s : List ℕ) (kept : ℕ) (f : Sofar 
     sofar-full x e = folded-refused words (insert c m) x (sym (put-is .reply) ∙ e)
 
 -- a run of puts, entry by entry
-take-next : (i : ℕ) (es : List Change) (e : Change) → drop i es ≡ e ∷ drop (suc i) es → take (i + 1) es ≡ take i es ++ (e ∷ [])
+take-next : (i : ℕ) (es : List Change) (e : Change) → drop i es ≡ e ∷ drop (suc i) es
+    → take (i + 1) es ≡ take i es ++ (e ∷ [])
 take-next i es e h = take-add i 1 es ∙ ap (λ (l : List Change). take i es ++ take 1 l) h
 
 onto-next : (base : List Change) (n i : ℕ) (ws : List ℕ) → i < n
     → foldOnto base (take (i + 1) (entriesOf n ws)) ≡ insert (changeAt ws i) (foldOnto base (take i (entriesOf n ws)))
 unfolding foldOnto
 onto-next base n i ws h =
-    ap (foldOnto base) (take-next i (entriesOf n ws) (changeAt ws i) (entry-cons i n ws h)) ∙ onto-append base (take i (entriesOf n ws)) (changeAt ws i ∷ [])
+    ap (foldOnto base) (take-next i (entriesOf n ws) (changeAt ws i) (entry-cons i n ws h))
+    ∙ onto-append base (take i (entriesOf n ws)) (changeAt ws i ∷ [])
 
 onto-grows : (base es : List Change) → length base ≤ length (foldOnto base es)
 unfolding foldOnto
@@ -182,7 +189,8 @@ module _ (words : ℕ) (base : List Change) (n : ℕ) (ws : List ℕ) (shown : S
     (f : Sofar words (foldOnto base (take i (entriesOf n ws))) s kept) where
   pub fold-done : n ≤ i → FoldIs words (foldOnto base (entriesOf n ws)) (Keys kept) s
   fold-done h =
-      let t : take i (entriesOf n ws) ≡ entriesOf n ws = take-all i (entriesOf n ws) (omega (arith, entries-length changeCode n ws)) in
+      let t : take i (entriesOf n ws)
+      ≡ entriesOf n ws = take-all i (entriesOf n ws) (omega (arith, entries-length changeCode n ws)) in
       let g : Sofar words (foldOnto base (entriesOf n ws)) s kept = rw t at f in
       record {
         reply = ap Keys (g .count) ∙ sym (folded-fits words (foldOnto base (entriesOf n ws)) (omega (arith, g .count, g .room)));
@@ -191,17 +199,20 @@ module _ (words : ℕ) (base : List Change) (n : ℕ) (ws : List ℕ) (shown : S
 
   module _ (h : i < n) where
     next-formed : changeFormed (changeAt ws i) ≡ true
-    next-formed = all-head changeFormed (changeAt ws i) (drop (suc i) (entriesOf n ws)) (rw (entry-cons i n ws h) at (all-drop changeFormed i (entriesOf n ws) (shown .sound)))
+    next-formed = all-head changeFormed (changeAt ws i) (drop (suc i) (entriesOf n ws))
+        (rw (entry-cons i n ws h) at (all-drop changeFormed i (entriesOf n ws) (shown .sound)))
 
     -- the entry at i is put, as the part of the words that it is
-    module _ (r : Folded) (t : List ℕ) (p : FoldIs (length s) (insert (changeCode .dec (take (i * width + width - i * width) (drop (i * width) ws))) (entriesOf kept s)) r t) where
+    module _ (r : Folded) (t : List ℕ)
+        (p : FoldIs (length s) (insert (changeCode .dec (take (i * width + width - i * width) (drop (i * width) ws))) (entriesOf kept s)) r t) where
       put-next : FoldIs (length s) (insert (changeAt ws i) (entriesOf kept s)) r t
       put-next =
           let m : i * width + width - i * width ≡ width = omega arith in
           rw (m, entry-words i ws) at p
 
       pub fold-turn : (k : ℕ) → r ≡ Keys k → Sofar words (foldOnto base (take (i + 1) (entriesOf n ws))) t k
-      fold-turn k e = rw (onto-next base n i ws h) (sofar-put words (foldOnto base (take i (entriesOf n ws))) s kept f (changeAt ws i) r t put-next next-formed k e)
+      fold-turn k e = rw (onto-next base n i ws h)
+          (sofar-put words (foldOnto base (take i (entriesOf n ws))) s kept f (changeAt ws i) r t put-next next-formed k e)
 
       pub fold-refused : (x : Refusal) → r ≡ Refused x → FoldIs words (foldOnto base (entriesOf n ws)) r t
       fold-refused x e =
@@ -209,6 +220,7 @@ module _ (words : ℕ) (base : List Change) (n : ℕ) (ws : List ℕ) (shown : S
           let b = ap length (onto-next base n i ws h) in
           let o : words < length (foldOnto base (entriesOf n ws)) * width = omega (arith, onto-part base (entriesOf n ws) (i + 1)) in
           record {
-            reply = folded-over _ _ r x (put-next .reply) e ∙ sym (folded-full words (foldOnto base (entriesOf n ws)) o);
+            reply = folded-over _ _ r x (put-next .reply) e
+                ∙ sym (folded-full words (foldOnto base (entriesOf n ws)) o);
             words-are = λ w. absurd (omega arith);
           }

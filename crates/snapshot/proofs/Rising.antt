@@ -1,4 +1,5 @@
--- A walk over the first n entries that compares neighbours and keeps a flag: at i the flag and the order of the rest are together
+-- A walk over the first n entries that compares neighbours and keeps a flag: at i the flag and the order of the rest
+-- are together
 -- what is asked.
 use Prim.Native.Nat.{ℕ, zero, suc, _+_, _<_, _≤_, _*_}
 use mathlib.Core.Path.{_≡_, refl, sym, ap, _∙_}
@@ -42,7 +43,8 @@ module _ (n : ℕ) (ws : List ℕ) (i : ℕ) (ok asked : Bool) (so : (ok && risi
       let m : List Change = drop (suc (i + 1)) (entriesOf n ws) in
       let next : drop (i + 1) (entriesOf n ws) ≡ f ∷ m = entry-cons (i + 1) n ws h in
       let both : drop i (entriesOf n ws) ≡ e ∷ (f ∷ m) =
-      entry-cons i n ws (omega arith) ∙ ap (λ (k : ℕ). e ∷ drop k (entriesOf n ws)) (sym (add-one i)) ∙ ap (λ (l : List Change). e ∷ l) next in
+      entry-cons i n ws (omega arith) ∙ ap (λ (k : ℕ). e ∷ drop k (entriesOf n ws)) (sym (add-one i))
+      ∙ ap (λ (l : List Change). e ∷ l) next in
       ap (λ (l : List Change). ok && ltb (e .key) (f .key) && rising l) next
       ∙ and-assoc ok (ltb (e .key) (f .key)) (rising (f ∷ m))
       ∙ ap (λ (t : Bool). ok && t) (sym (rising-two e f m))
@@ -51,7 +53,8 @@ module _ (n : ℕ) (ws : List ℕ) (i : ℕ) (ok asked : Bool) (so : (ok && risi
 
 -- where all ascend, so do the entries from any on, and each key is below the next
 module _ (n : ℕ) (ws : List ℕ) (up : rising (entriesOf n ws) ≡ true) where
-  turn : (i : ℕ) → rising (drop i (entriesOf n ws)) ≡ true → i + 1 < n → (getD ws (i * width) 0 < getD ws ((i + 1) * width) 0) × (rising (drop (i + 1) (entriesOf n ws)) ≡ true)
+  turn : (i : ℕ) → rising (drop i (entriesOf n ws)) ≡ true → i + 1 < n
+      → (getD ws (i * width) 0 < getD ws ((i + 1) * width) 0) × (rising (drop (i + 1) (entriesOf n ws)) ≡ true)
   turn i e h =
       let a : ℕ = getD ws (i * width) 0 in
       let b : ℕ = getD ws ((i + 1) * width) 0 in

@@ -58,7 +58,8 @@ from-insert : (k : ℕ) (c : Change) (s : List Change) → k ≤ c .key → suc 
 from-insert k c [] h = rw insert-nil (omega (arith, from-more k c [] h, from-length (suc (c .key)) []))
 from-insert k c (e ∷ s) h = by (from-insert k c s h) (stand (c .key) (e .key))
   where
-    by : suc (from (suc (c .key)) s) ≤ from k (insert c s) → Stand (c .key) (e .key) → suc (from (suc (c .key)) (e ∷ s)) ≤ from k (insert c (e ∷ s))
+    by : suc (from (suc (c .key)) s) ≤ from k (insert c s) → Stand (c .key) (e .key)
+        → suc (from (suc (c .key)) (e ∷ s)) ≤ from k (insert c (e ∷ s))
     by ih (below x) = rw (insert-below c e s x) (omega (arith, from-more k c (e ∷ s) h, from-down k (suc (c .key)) (e ∷ s) (omega arith)))
     by ih (same x) =
         rw (insert-same c e s x) (omega (arith, from-more k c s h, from-same (suc (c .key)) e s (omega arith), from-down k (suc (c .key)) s (omega arith)))
@@ -72,15 +73,18 @@ insert-first : (c : Change) (s : List Change) → climbs (c .key) s ≡ true →
 insert-first c [] e = insert-nil c
 insert-first c (d ∷ s) e = insert-below c d s (climbs-head (c .key) d s e)
 
-onto-from : (k : ℕ) (s t : List Change) → rising t ≡ true → ((d : Change) (r : List Change) → t ≡ d ∷ r → k ≤ d .key) → length t ≤ from k (foldOnto s t)
+onto-from : (k : ℕ) (s t : List Change) → rising t ≡ true → ((d : Change) (r : List Change) → t ≡ d ∷ r → k ≤ d .key)
+    → length t ≤ from k (foldOnto s t)
 onto-from k s [] up low = omega arith
 onto-from k s (d ∷ t) up low =
     let c : climbs (d .key) t ≡ true = rising-climbs d t up in
-    let q : foldOnto s (d ∷ t) ≡ insert d (foldOnto s t) = ap (foldOnto s) (sym (insert-first d t c)) ∙ onto-insert d s t (tail-rises (d .key) t c) in
+    let q : foldOnto s (d ∷ t) ≡ insert d (foldOnto s t) = ap (foldOnto s) (sym (insert-first d t c))
+    ∙ onto-insert d s t (tail-rises (d .key) t c) in
     let n : length t ≤ from (suc (d .key)) (foldOnto s t) = onto-from (suc (d .key)) s t (tail-rises (d .key) t c) (above-head t c) in
     rw q (omega (arith, from-insert k d (foldOnto s t) (low d t refl)))
   where
-    above-head : (t : List Change) → climbs (d .key) t ≡ true → (f : Change) (r : List Change) → t ≡ f ∷ r → suc (d .key) ≤ f .key
+    above-head : (t : List Change) → climbs (d .key) t ≡ true → (f : Change) (r : List Change) → t ≡ f ∷ r
+        → suc (d .key) ≤ f .key
     above-head t c f r e = let h = climbs-head (d .key) f r (rw e at c) in omega arith
 
 pub merge-second : (a b : List Change) → rising b ≡ true → length b ≤ length (merge a b)

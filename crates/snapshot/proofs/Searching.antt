@@ -48,14 +48,16 @@ pub passed-none : (es : List Change) (k : ℕ) → Passed es k 0
 passed-none es k = record { placed = omega arith; found = refl }
 
 module _ (n : ℕ) (ws : List ℕ) (k i : ℕ) (p : Passed (entriesOf n ws) k i) where
-  spot-is : (t : Bool) (j : ℕ) → here (entriesOf n ws) k ≡ t → rank (entriesOf n ws) k ≡ j → (if t then At j else Before j) ≡ spotOf (entriesOf n ws) k
+  spot-is : (t : Bool) (j : ℕ) → here (entriesOf n ws) k ≡ t → rank (entriesOf n ws) k ≡ j
+      → (if t then At j else Before j) ≡ spotOf (entriesOf n ws) k
   unfolding spotOf
   spot-is t j e q = rw (e, q)
 
   pub search-end : n ≤ i → i ≤ n → Before i ≡ spotOf (entriesOf n ws) k
   unfolding rank here
   search-end h le =
-      let z : drop i (entriesOf n ws) ≡ [] = drop-of-length-le (entriesOf n ws) {i = i} (omega (arith, entries-length changeCode n ws)) in
+      let z : drop i (entriesOf n ws)
+      ≡ [] = drop-of-length-le (entriesOf n ws) {i = i} (omega (arith, entries-length changeCode n ws)) in
       let a : here (entriesOf n ws) k ≡ false = p .found ∙ rw z in
       let b : rank (drop i (entriesOf n ws)) k ≡ 0 = rw z in
       spot-is false i a (omega (arith, p .placed))
@@ -66,14 +68,19 @@ module _ (n : ℕ) (ws : List ℕ) (k i : ℕ) (p : Passed (entriesOf n ws) k i)
 
     pub search-more : getD ws (i * width) 0 < k → Passed (entriesOf n ws) k (i + 1)
     search-more l =
-        let a : rank (drop i (entriesOf n ws)) k ≡ suc (rank (drop (suc i) (entriesOf n ws)) k) = rw at (rank-below (changeAt ws i) (drop (suc i) (entriesOf n ws)) k l) in
-        let b : here (drop i (entriesOf n ws)) k ≡ here (drop (suc i) (entriesOf n ws)) k = rw at (here-below (changeAt ws i) (drop (suc i) (entriesOf n ws)) k l) in
+        let a : rank (drop i (entriesOf n ws)) k
+        ≡ suc (rank (drop (suc i) (entriesOf n ws)) k) =
+        rw at (rank-below (changeAt ws i) (drop (suc i) (entriesOf n ws)) k l) in
+        let b : here (drop i (entriesOf n ws)) k
+        ≡ here (drop (suc i) (entriesOf n ws)) k =
+        rw at (here-below (changeAt ws i) (drop (suc i) (entriesOf n ws)) k l) in
         record { placed = rw (add-one i) (omega (arith, p .placed)); found = rw (add-one i) (p .found ∙ b) }
 
     module _ (l : k ≤ getD ws (i * width) 0) where
       stops : rank (entriesOf n ws) k ≡ i
       stops =
-          let a : rank (drop i (entriesOf n ws)) k ≡ 0 = rw at (rank-stop (changeAt ws i) (drop (suc i) (entriesOf n ws)) k l) in
+          let a : rank (drop i (entriesOf n ws)) k
+          ≡ 0 = rw at (rank-stop (changeAt ws i) (drop (suc i) (entriesOf n ws)) k l) in
           omega (arith, p .placed)
 
       tests : here (entriesOf n ws) k ≡ eqb (getD ws (i * width) 0) k
@@ -86,7 +93,8 @@ module _ (n : ℕ) (ws : List ℕ) (k i : ℕ) (p : Passed (entriesOf n ws) k i)
       search-before e = spot-is false i (tests ∙ ne-eqb (getD ws (i * width) 0) k e) stops
 
 -- four entries are below a key where the last of them is
-pub pass-four : (n : ℕ) (ws : List ℕ) (k i : ℕ) → rising (entriesOf n ws) ≡ true → Passed (entriesOf n ws) k i → i + 4 ≤ n → getD ws ((i + 3) * width) 0 < k → Passed (entriesOf n ws) k (i + 4)
+pub pass-four : (n : ℕ) (ws : List ℕ) (k i : ℕ) → rising (entriesOf n ws) ≡ true → Passed (entriesOf n ws) k i
+    → i + 4 ≤ n → getD ws ((i + 3) * width) 0 < k → Passed (entriesOf n ws) k (i + 4)
 pass-four n ws k i up p h l =
     let c : getD ws ((i + 1 + 1 + 1) * width) 0 < k = rw (three i) at l in
     let b₂ : getD ws ((i + 1 + 1) * width) 0 < getD ws ((i + 1 + 1 + 1) * width) 0 = keys-climb n ws up (i + 1 + 1) (omega arith) in
@@ -139,7 +147,8 @@ pub record Put (c : Change) (es : List Change) (cut : ℕ) : Type 0 where
   pub inside : rank es (c .key) + cut ≤ length es
 
 pub insert-over : (c : Change) (es : List Change) → here es (c .key) ≡ true → Put c es 1
-insert-over c [] h = let e : false ≡ true = sym (here-nil (c .key)) ∙ h in let z : _≡_ {A = ℕ} 0 1 = cc in absurd (omega arith)
+insert-over c [] h = let e : false ≡ true = sym (here-nil (c .key)) ∙ h in let z : _≡_ {A = ℕ} 0 1 = cc in
+    absurd (omega arith)
 insert-over c (d ∷ es) h = by (insert-over c es) (stand (c .key) (d .key))
   where
     by : (here es (c .key) ≡ true → Put c es 1) → Stand (c .key) (d .key) → Put c (d ∷ es) 1

@@ -32,7 +32,8 @@ find-unique (FindRefused x) Absent e = let z : _≡_ {A = ℕ} 0 1 = cc in absur
 find-unique (FindRefused x) (FindRefused y) e = ap FindRefused (refusal-known x y e)
 
 -- of `fold` and of `merge`, whatever the claim's right side
-pub fold-unique : (r q : Folded) (v w : List ℕ) (claim : Outcome) → outcome (folded r) v ≡ claim → outcome (folded q) w ≡ claim → (r ≡ q) × (v ≡ w)
+pub fold-unique : (r q : Folded) (v w : List ℕ) (claim : Outcome) → outcome (folded r) v ≡ claim
+    → outcome (folded q) w ≡ claim → (r ≡ q) × (v ≡ w)
 fold-unique r q v w claim e f =
     let o : outcome (folded r) v ≡ outcome (folded q) w = e ∙ sym f in
     (folded-known r q (ap (λ (x : Outcome). x .answer) o), ap (λ (x : Outcome). x .output) o)

@@ -1,4 +1,5 @@
--- A chain of calls on lent words is a chain of the model's calls: each leaves a well-formed state that stands for the log after the
+-- A chain of calls on lent words is a chain of the model's calls: each leaves a well-formed state that stands for the
+-- log after the
 -- model's call. And with that demand 3's last sentence, for the calls on lent words from a fresh state.
 use Prim.Native.Nat.{ℕ, _≤_}
 use mathlib.Core.Path.{_≡_, refl, sym, ap, _∙_}
@@ -29,14 +30,17 @@ runs-keep (a ∷ qs) r ok = runs-keep qs (run (a .call) (a .whole) r .after) (ru
 left : (c : Call) (r : Raw) → formed r ≡ true → run c false r .after ≡ r
 left c r ok = ap (λ (o : Outcome (Reply c)). o .after) (sym (not-whole c false r ok refl))
 
-pub runs-told : (qs : List Asked) (r : Raw) (h : List Change) → formed r ≡ true → logOf (runs qs r) ≡ told (events qs) (record { log = logOf r; history = h }) .log
+pub runs-told : (qs : List Asked) (r : Raw) (h : List Change) → formed r ≡ true
+    → logOf (runs qs r) ≡ told (events qs) (record { log = logOf r; history = h }) .log
 unfolding runs events told
 runs-told [] r h ok = refl
-runs-told (a ∷ qs) r h ok = step (a .whole) (λ (whole : Bool) (h′ : List Change). runs-told qs (run (a .call) whole r .after) h′ (run-keeps (a .call) r ok whole))
+runs-told (a ∷ qs) r h ok = step (a .whole)
+    (λ (whole : Bool) (h′ : List Change). runs-told qs (run (a .call) whole r .after) h′ (run-keeps (a .call) r ok whole))
   where
     step : (whole : Bool)
         → ((whole : Bool) (h′ : List Change) → logOf (runs qs (run (a .call) whole r .after)) ≡ told (events qs) (record { log = logOf (run (a .call) whole r .after); history = h′ }) .log)
-        → logOf (runs qs (run (a .call) whole r .after)) ≡ told (eventsOf whole (a .call) (a .behind) (events qs)) (record { log = logOf r; history = h }) .log
+        → logOf (runs qs (run (a .call) whole r .after))
+        ≡ told (eventsOf whole (a .call) (a .behind) (events qs)) (record { log = logOf r; history = h }) .log
     step true ih =
         ih true _
         ∙ ap (λ (s : Log). told (events qs) (record { log = s; history = next (record { call = a .call; behind = a .behind }) (record { log = logOf r; history = h }) .history }) .log) (run-stands (a .call) r ok)
@@ -44,7 +48,8 @@ runs-told (a ∷ qs) r h ok = step (a .whole) (λ (whole : Bool) (h′ : List Ch
     step false ih = ih false h ∙ ap (λ (x : Raw). told (events qs) (record { log = logOf x; history = h }) .log) (left (a .call) r ok)
 
 -- a fresh state stands for a fresh log
-runs-fresh : (n : ℕ) → n ≤ largestBatch → (qs : List Asked) → logOf (runs qs (rawOf (freshLog n))) ≡ told (events qs) (fresh n) .log
+runs-fresh : (n : ℕ) → n ≤ largestBatch → (qs : List Asked)
+    → logOf (runs qs (rawOf (freshLog n))) ≡ told (events qs) (fresh n) .log
 unfolding fresh
 runs-fresh n h qs =
     runs-told qs (rawOf (freshLog n)) [] (raw-formed (freshLog n) (fresh-formed n h))
@@ -54,9 +59,11 @@ runs-fresh n h qs =
 pub runs-formed : (n : ℕ) → n ≤ largestBatch → (qs : List Asked) → formed (runs qs (rawOf (freshLog n))) ≡ true
 runs-formed n h qs = runs-keep qs (rawOf (freshLog n)) (raw-formed (freshLog n) (fresh-formed n h))
 
--- demand 3's last sentence: the held snapshot merged with the retained entries below i is the fold of the history's first i entries
+-- demand 3's last sentence: the held snapshot merged with the retained entries below i is the fold of the history's
+-- first i entries
 pub history-real : (n : ℕ) → n ≤ largestBatch → (qs : List Asked) → AllTruthful (events qs) (fresh n) → (i : ℕ)
-    → logOf (runs qs (rawOf (freshLog n))) .run .compacted ≤ i → i ≤ endOf (numbersOf (logOf (runs qs (rawOf (freshLog n)))))
+    → logOf (runs qs (rawOf (freshLog n))) .run .compacted ≤ i
+    → i ≤ endOf (numbersOf (logOf (runs qs (rawOf (freshLog n)))))
     → foldedTo i (logOf (runs qs (rawOf (freshLog n))) .run) ≡ fold (take i (told (events qs) (fresh n) .history))
 history-real n h qs honest i low high =
     rw (runs-fresh n h qs) (history-kept n h (events qs) honest i (rw (runs-fresh n h qs) at low) (rw (runs-fresh n h qs) at high))

@@ -36,13 +36,15 @@ module _ (s : Log) (r : Raw) (st : Stands s r) (w : wellFormed s ≡ true) where
   held = s .run .retained ++ s .tail .batched
 
   held-formed : entriesFormed held ≡ true
-  held-formed = let f = formed-of s w in all-join changeFormed (s .run .retained) (s .tail .batched) (f .entries) (f .batch)
+  held-formed = let f = formed-of s w in
+      all-join changeFormed (s .run .retained) (s .tail .batched) (f .entries) (f .batch)
 
   pub held-length : length held ≡ r .index .retained + r .index .batched
   held-length = omega (arith, length-append (s .run .retained) (s .tail .batched), st .run .count, st .tail .count)
 
   held-fits : length held * width ≤ logWords
-  held-fits = let f = formed-of s w in omega (arith, length-append (s .run .retained) (s .tail .batched), f .numbers .room)
+  held-fits = let f = formed-of s w in
+      omega (arith, length-append (s .run .retained) (s .tail .batched), f .numbers .room)
 
   pub log-long : length (r .log) ≡ logWords
   log-long = ap length (sym (st .log)) ∙ stored-length logWords held held-fits
@@ -56,13 +58,15 @@ module _ (s : Log) (r : Raw) (st : Stands s r) (w : wellFormed s ≡ true) where
       → laid (length (r .log)) (spliced (at * width) (cut * width) new (take ((r .index .retained + r .index .batched) * width) (r .log)))
       ≡ stored logWords (spliced at cut ns held)
   log-spliced at cut new ns e =
-      spliced-laid changeCode changeOk (r .index .retained + r .index .batched) at cut (r .log) new ns (omega (arith, log-long, held-fits, held-length)) e
+      spliced-laid changeCode changeOk (r .index .retained + r .index .batched) at cut (r .log) new ns
+      (omega (arith, log-long, held-fits, held-length)) e
       ∙ ap (λ (n : ℕ). stored n (spliced at cut ns (entriesOf (r .index .retained + r .index .batched) (r .log)))) log-long
       ∙ ap (λ (es : List Change). stored logWords (spliced at cut ns es)) log-entries
 
   -- the batch cut off
   pub reload-stands : (words : List ℕ)
-      → words ≡ laid (length (r .log)) (spliced (r .index .retained * width) (r .index .batched * width) [] (take ((r .index .retained + r .index .batched) * width) (r .log)))
+      → words ≡ laid (length (r .log))
+      (spliced (r .index .retained * width) (r .index .batched * width) [] (take ((r .index .retained + r .index .batched) * width) (r .log)))
       → Stands (reloaded s) (raw (withEntries (r .index .retained) 0 (r .index)) words (r .snapshot))
   unfolding reloaded
   reload-stands words e = record {
@@ -76,7 +80,8 @@ module _ (s : Log) (r : Raw) (st : Stands s r) (w : wellFormed s ≡ true) where
   }
 
 pub reload-runs : (r : Raw) → formed r ≡ true → (words : List ℕ)
-    → words ≡ laid (length (r .log)) (spliced (r .index .retained * width) (r .index .batched * width) [] (take ((r .index .retained + r .index .batched) * width) (r .log)))
+    → words ≡ laid (length (r .log))
+    (spliced (r .index .retained * width) (r .index .batched * width) [] (take ((r .index .retained + r .index .batched) * width) (r .log)))
     → (y : ℕ) → y ≡ acceptedOf (numbersIn (withEntries (r .index .retained) 0 (r .index)))
     → outcome (replied y) (raw (withEntries (r .index .retained) 0 (r .index)) words (r .snapshot)) ≡ run reload true r
 unfolding malformed further effect replyOf first
@@ -85,7 +90,8 @@ reload-runs r ok words e y q =
     call-stands reload r ok refl refl y _ (q ∙ sym (ap acceptedOf (numbers-are (reloaded (logOf r)) _ s))) s
 
 -- a fresh log's words, and what a call for one comes to
-zeros-fresh : (n : ℕ) → rawOf (freshLog n) ≡ raw (indexOf (freshLog n)) (replicate logWords 0) (replicate snapshotWords 0)
+zeros-fresh : (n : ℕ) → rawOf (freshLog n)
+    ≡ raw (indexOf (freshLog n)) (replicate logWords 0) (replicate snapshotWords 0)
 unfolding rawOf freshLog laid wordsOf
 zeros-fresh n = refl
 
@@ -93,18 +99,22 @@ module _ (n : ℕ) (log snapshot : List ℕ) where
   abbrev pub startable : Bool
   startable = leb n largestBatch && (eqb (length log) logWords && eqb (length snapshot) snapshotWords)
 
-  pub fresh-refused : startable ≡ false → outcome (refused 11 0) (raw (indexOf (freshLog 0)) log snapshot) ≡ freshCall n log snapshot
+  pub fresh-refused : startable ≡ false
+      → outcome (refused 11 0) (raw (indexOf (freshLog 0)) log snapshot) ≡ freshCall n log snapshot
   unfolding freshCall
   fresh-refused e = rw e
 
-  pub fresh-stands : startable ≡ true → (log′ snapshot′ : List ℕ) → log′ ≡ paste log 0 (replicate (length log - 0) 0) (length log - 0)
+  pub fresh-stands : startable ≡ true → (log′ snapshot′ : List ℕ)
+      → log′ ≡ paste log 0 (replicate (length log - 0) 0) (length log - 0)
       → snapshot′ ≡ paste snapshot 0 (replicate (length snapshot - 0) 0) (length snapshot - 0)
       → outcome (replied tt) (raw (indexOf (freshLog n)) log′ snapshot′) ≡ freshCall n log snapshot
   unfolding freshCall
   fresh-stands e log′ snapshot′ p q =
       let e₂ = and-right (leb n largestBatch) _ e in
-      let l : log′ ≡ replicate logWords 0 = p ∙ cleared log ∙ ap (λ (k : ℕ). replicate k 0) (eqb-true (length log) logWords (and-left _ _ e₂)) in
-      let m : snapshot′ ≡ replicate snapshotWords 0 = q ∙ cleared snapshot ∙ ap (λ (k : ℕ). replicate k 0) (eqb-true (length snapshot) snapshotWords (and-right (eqb (length log) logWords) _ e₂)) in
+      let l : log′ ≡ replicate logWords 0 = p ∙ cleared log
+      ∙ ap (λ (k : ℕ). replicate k 0) (eqb-true (length log) logWords (and-left _ _ e₂)) in
+      let m : snapshot′ ≡ replicate snapshotWords 0 = q ∙ cleared snapshot
+      ∙ ap (λ (k : ℕ). replicate k 0) (eqb-true (length snapshot) snapshotWords (and-right (eqb (length log) logWords) _ e₂)) in
       rw e (ap₂ (λ (a b : List ℕ). outcome (replied tt) (raw (indexOf (freshLog n)) a b)) l m ∙ ap (outcome (replied tt)) (sym (zeros-fresh n)))
     where
       cleared : (ws : List ℕ) → paste ws 0 (replicate (length ws - 0) 0) (length ws - 0) ≡ replicate (length ws) 0
@@ -114,6 +124,8 @@ module _ (n : ℕ) (log snapshot : List ℕ) where
           ∙ ap (λ (j : ℕ). paste ws 0 (replicate (length ws) 0) j) (sym k)
           ∙ paste-all ws (replicate (length ws) 0) k
 
-pub fresh-starts : (n : ℕ) (log snapshot : List ℕ) → n ≤ largestBatch → length log ≡ logWords → length snapshot ≡ snapshotWords → freshCall n log snapshot .after ≡ rawOf (freshLog n)
+pub fresh-starts : (n : ℕ) (log snapshot : List ℕ) → n ≤ largestBatch → length log ≡ logWords
+    → length snapshot ≡ snapshotWords → freshCall n log snapshot .after ≡ rawOf (freshLog n)
 unfolding freshCall
-fresh-starts n log snapshot h l k = rw (le-leb n largestBatch h, eq-eqb (length log) logWords l, eq-eqb (length snapshot) snapshotWords k)
+fresh-starts n log snapshot h l k =
+    rw (le-leb n largestBatch h, eq-eqb (length log) logWords l, eq-eqb (length snapshot) snapshotWords k)

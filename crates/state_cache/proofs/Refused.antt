@@ -20,7 +20,8 @@ use Rattle.state_cache.proofs.Stands.{stands-of, numbers-are}
 use Rattle.state_cache.proofs.Runs.{on-log}
 
 -- a refusal is the verdict's, and leaves the state
-by-verdict : {A : Type 0} (v : Verdict) (y : A) (next r : Raw) (n k : ℕ) → chosen v y next r .answer ≡ refused n k → (v ≡ refuses n k) × (chosen v y next r .after ≡ r)
+by-verdict : {A : Type 0} (v : Verdict) (y : A) (next r : Raw) (n k : ℕ) → chosen v y next r .answer ≡ refused n k
+    → (v ≡ refuses n k) × (chosen v y next r .after ≡ r)
 by-verdict passes y next r n k e = let z : _≡_ {A = ℕ} 0 1 = cc in absurd (omega arith)
 by-verdict (refuses m j) y next r n k e = (cc, refl)
 
@@ -38,10 +39,12 @@ module _ (c : Call) (whole : Bool) (r : Raw) (n k : ℕ) (e : run c whole r .ans
   unfolding verdictOn first carriesOf
   refused-carries = go (formed r) refl whole (refuses-with .0)
     where
-      zero-carried : (m : ℕ) → refuses m 0 ≡ refuses n k → carriesOf c (numbersIn (r .index)) m ≡ 0 → k ≡ carriesOf c (numbersIn (r .index)) n
+      zero-carried : (m : ℕ) → refuses m 0 ≡ refuses n k → carriesOf c (numbersIn (r .index)) m ≡ 0
+          → k ≡ carriesOf c (numbersIn (r .index)) n
       zero-carried m q z = cc
 
-      go : (b : Bool) → formed r ≡ b → (w : Bool) → verdictOn c w r ≡ refuses n k → k ≡ carriesOf c (numbersIn (r .index)) n
+      go : (b : Bool) → formed r ≡ b → (w : Bool) → verdictOn c w r ≡ refuses n k
+          → k ≡ carriesOf c (numbersIn (r .index)) n
       go false f w q = zero-carried 12 (rw f at q) refl
       go true f false q = zero-carried 11 (rw f at q) refl
       go true f true q =
@@ -52,7 +55,8 @@ module _ (c : Call) (whole : Bool) (r : Raw) (n k : ℕ) (e : run c whole r .ans
 pub fresh-keeps : (size : ℕ) (log snapshot : List ℕ) (n k : ℕ) → freshCall size log snapshot .answer ≡ refused n k
     → (freshCall size log snapshot .after .log ≡ log) × (freshCall size log snapshot .after .snapshot ≡ snapshot)
 unfolding freshCall
-fresh-keeps size log snapshot n k = go (leb size largestBatch && (eqb (length log) logWords && eqb (length snapshot) snapshotWords))
+fresh-keeps size log snapshot n k =
+    go (leb size largestBatch && (eqb (length log) logWords && eqb (length snapshot) snapshotWords))
   where
     by : Bool → Outcome (Unit {0})
     by t = if t then outcome (replied tt) (rawOf (freshLog size)) else outcome (refused 11 0) (raw (indexOf (freshLog 0)) log snapshot)

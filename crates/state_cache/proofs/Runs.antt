@@ -19,12 +19,14 @@ unfolding run verdictOn first
 ill-formed c whole r e = rw e
 
 -- refusal 11 where the words are no call
-pub not-whole : (c : Call) (whole : Bool) (r : Raw) → formed r ≡ true → whole ≡ false → outcome (refused 11 0) r ≡ run c whole r
+pub not-whole : (c : Call) (whole : Bool) (r : Raw) → formed r ≡ true → whole ≡ false
+    → outcome (refused 11 0) r ≡ run c whole r
 unfolding run verdictOn first
 not-whole c whole r ok e = rw (ok, e)
 
 -- the verdict on a well-formed log: refusal 11, then the call's own
-verdict : (c : Call) (s : Log) → wellFormed s ≡ true → first (guards c s) ≡ first (guard 11 0 (malformed c) ∷ further c s)
+verdict : (c : Call) (s : Log) → wellFormed s ≡ true
+    → first (guards c s) ≡ first (guard 11 0 (malformed c) ∷ further c s)
 unfolding guards
 verdict c s w = first-goes-on 12 0 (not (wellFormed s)) (guard 11 0 (malformed c) ∷ further c s) (rw w)
 
@@ -43,7 +45,8 @@ module _ (c : Call) (r : Raw) (ok : formed r ≡ true) where
   unfolding run at
   run-at v e = rw (on-log, e)
 
-  refuses-at : (n k : ℕ) → first (guard 11 0 (malformed c) ∷ further c (logOf r)) ≡ refuses n k → outcome (refused n k) r ≡ run c true r
+  refuses-at : (n k : ℕ) → first (guard 11 0 (malformed c) ∷ further c (logOf r)) ≡ refuses n k
+      → outcome (refused n k) r ≡ run c true r
   unfolding at
   refuses-at n k e = sym (run-at (refuses n k) (verdict c (logOf r) (log-formed r ok) ∙ e))
 
@@ -57,14 +60,17 @@ module _ (c : Call) (r : Raw) (ok : formed r ≡ true) where
     pub call-refused : (n k : ℕ) → refuses n k ≡ first (further c (logOf r)) → outcome (refused n k) r ≡ run c true r
     call-refused n k e = refuses-at n k (goes-on ∙ sym e)
 
-    pub call-stands : passes ≡ first (further c (logOf r)) → (y : Reply c) (x : Raw) → y ≡ replyOf c (logOf r) → Stands (effect c (logOf r)) x → outcome (replied y) x ≡ run c true r
+    pub call-stands : passes ≡ first (further c (logOf r)) → (y : Reply c) (x : Raw) → y ≡ replyOf c (logOf r)
+        → Stands (effect c (logOf r)) x → outcome (replied y) x ≡ run c true r
     unfolding at
     call-stands e y x p s =
-        ap (λ (z : Reply c). outcome (replied z) x) p ∙ ap (outcome (replied (replyOf c (logOf r)))) (sym (stands-raw (effect c (logOf r)) x s))
+        ap (λ (z : Reply c). outcome (replied z) x) p
+        ∙ ap (outcome (replied (replyOf c (logOf r)))) (sym (stands-raw (effect c (logOf r)) x s))
         ∙ sym (run-at passes (verdict c (logOf r) (log-formed r ok) ∙ goes-on ∙ sym e))
 
   -- the state after a call is formed again, and stands for the log after the model's
-  keeps-at : (v : Verdict) → first (guards c (logOf r)) ≡ v → (formed (at v .after) ≡ true) × (logOf (at v .after) ≡ after v (effect c (logOf r)) (logOf r))
+  keeps-at : (v : Verdict) → first (guards c (logOf r)) ≡ v
+      → (formed (at v .after) ≡ true) × (logOf (at v .after) ≡ after v (effect c (logOf r)) (logOf r))
   unfolding at stateAfter
   keeps-at passes e =
       let w : wellFormed (effect c (logOf r)) ≡ true = rw e at (call-keeps c (logOf r) (log-formed r ok)) in

@@ -61,12 +61,15 @@ pub record Stands (t : Log) (x : Raw) : Type 0 where
 pub stands-raw : (t : Log) (x : Raw) → Stands t x → rawOf t ≡ x
 unfolding rawOf indexOf
 stands-raw t x s =
-    fields _ _ _ _ _ _ _ _ _ _ _ _ _ (s .tail .sized) (s .run .count) (s .tail .count) (s .run .start) (s .marks .index) (s .marks .promised) (s .marks .rounded)
+    fields _ _ _ _ _ _ _ _ _ _ _ _ _ (s .tail .sized) (s .run .count) (s .tail .count) (s .run .start) (s .marks .index)
+    (s .marks .promised) (s .marks .rounded)
     (s .run .snapshot) (s .run .snapshot-keys) (s .tail .stopped) (s .tail .sign) (s .log) (s .snapshot)
   where
     fields : (a b c d e : ℕ) (f g : Ballot) (h : Bool) (i : ℕ) (j : Bool) (k : StopSign) (l m : List ℕ)
-        → a ≡ x .index .«batch_size» → b ≡ x .index .retained → c ≡ x .index .batched → d ≡ x .index .compacted .0 → e ≡ x .index .decided .0
-        → f ≡ x .index .promise → g ≡ x .index .«accepted_round» → h ≡ x .index .«snapshot_held» → i ≡ x .index .keys → j ≡ x .index .«stop_held» → k ≡ x .index .stop
+        → a ≡ x .index .«batch_size» → b ≡ x .index .retained → c ≡ x .index .batched → d ≡ x .index .compacted .0
+        → e ≡ x .index .decided .0
+        → f ≡ x .index .promise → g ≡ x .index .«accepted_round» → h ≡ x .index .«snapshot_held» → i ≡ x .index .keys
+        → j ≡ x .index .«stop_held» → k ≡ x .index .stop
         → l ≡ x .log → m ≡ x .snapshot
         → _≡_ {A = Raw} (record {
           index = record {
@@ -85,7 +88,8 @@ stands-raw t x s =
           log = l;
           snapshot = m;
         }) x
-    fields a b c d e f g h i j k l m p1 p2 p3 p4 p5 p6 p7 p8 p9 p10 p11 p12 p13 = rw (p1, p2, p3, p4, p5, p6, p7, p8, p9, p10, p11, p12, p13)
+    fields a b c d e f g h i j k l m p1 p2 p3 p4 p5 p6 p7 p8 p9 p10 p11 p12 p13 =
+        rw (p1, p2, p3, p4, p5, p6, p7, p8, p9, p10, p11, p12, p13)
 
 -- ---- what a well-formed state is known to be
 
@@ -99,7 +103,8 @@ none-formed : (ws : List ℕ) → blank snapshotWords ws ≡ snapshotFormed 0 ws
 unfolding blank snapshotFormed storedIn entriesAt rising allOf
 none-formed ws = sym (and-true (eqb (length ws) snapshotWords && allZero ws))
 
-pub snapshot-tests : (x : IndexRecord) (ws : List ℕ) → snapshotHeld x ws ≡ (snapshotFormed (x .keys) ws && (x .«snapshot_held» || eqb (x .keys) 0))
+pub snapshot-tests : (x : IndexRecord) (ws : List ℕ)
+    → snapshotHeld x ws ≡ (snapshotFormed (x .keys) ws && (x .«snapshot_held» || eqb (x .keys) 0))
 unfolding snapshotHeld
 snapshot-tests x ws = go (x .«snapshot_held») (eqb (x .keys) 0) refl
   where
@@ -112,7 +117,8 @@ snapshot-tests x ws = go (x .«snapshot_held») (eqb (x .keys) 0) refl
     none false = refl
 
     go : (h k : Bool) → eqb (x .keys) 0 ≡ k
-        → ((h && snapshotFormed (x .keys) ws) || (not h && (k && blank snapshotWords ws))) ≡ (snapshotFormed (x .keys) ws && (h || k))
+        → ((h && snapshotFormed (x .keys) ws) || (not h && (k && blank snapshotWords ws)))
+        ≡ (snapshotFormed (x .keys) ws && (h || k))
     go true k e = kept (snapshotFormed (x .keys) ws)
     go false true e =
         none-formed ws ∙ sym (ap (λ (n : ℕ). snapshotFormed n ws && true) (eqb-true (x .keys) 0 e) ∙ and-true (snapshotFormed 0 ws))
@@ -123,7 +129,8 @@ unfolding formed
 facts-of r e =
     let e₁ = and-right (numbersFormed (numbersIn (r .index))) _ e in
     let e₂ = and-right (signHeld (r .index)) _ e₁ in
-    let e₃ = sym (snapshot-tests (r .index) (r .snapshot)) ∙ and-right (storedIn logWords (r .index .retained + r .index .batched) (r .log)) _ e₂ in
+    let e₃ = sym (snapshot-tests (r .index) (r .snapshot))
+    ∙ and-right (storedIn logWords (r .index .retained + r .index .batched) (r .log)) _ e₂ in
     record {
       ready = record {
         okay = e;
@@ -160,7 +167,8 @@ sign-blank g e =
     (eqb-true _ _ (and-left _ _ e₂))
     (blank-is mostMetadata (g .metadata) (and-right (blank mostNodes (g .nodes)) _ e₄))
   where
-    fields : (a b : ℕ) (n : List ℕ) (h : Bool) (l : ℕ) (m : List ℕ) → a ≡ 0 → b ≡ 0 → n ≡ replicate mostNodes 0 → h ≡ false → l ≡ 0 → m ≡ replicate mostMetadata 0
+    fields : (a b : ℕ) (n : List ℕ) (h : Bool) (l : ℕ) (m : List ℕ) → a ≡ 0 → b ≡ 0 → n ≡ replicate mostNodes 0
+        → h ≡ false → l ≡ 0 → m ≡ replicate mostMetadata 0
         → _≡_ {A = StopSign} (record { «config_id» = a; «node_count» = b; nodes = n; «metadata_held» = h; «metadata_len» = l; metadata = m }) noSign
     fields a b n h l m p q s t u v = rw (p, q, s, t, u, v)
 
@@ -173,11 +181,13 @@ pub sign-by : (held : Bool) (g : StopSign) → signOr (if held then some g else 
 sign-by true g = refl
 sign-by false g = refl
 
-stop-by : (b : Bool) (g : StopSign) → ((b && signFormed g) || (not b && signBlank g)) ≡ true → signOr (if b then some g else none) ≡ g
+stop-by : (b : Bool) (g : StopSign) → ((b && signFormed g) || (not b && signBlank g)) ≡ true
+    → signOr (if b then some g else none) ≡ g
 stop-by true g e = refl
 stop-by false g e = sym (sign-blank g e)
 
-snapshot-by : (b : Bool) (n : ℕ) (ws : List ℕ) → (b || eqb n 0) ≡ true → orEmpty (if b then some (entriesOf n ws) else none) ≡ entriesOf n ws
+snapshot-by : (b : Bool) (n : ℕ) (ws : List ℕ) → (b || eqb n 0) ≡ true
+    → orEmpty (if b then some (entriesOf n ws) else none) ≡ entriesOf n ws
 snapshot-by true n ws e = refl
 snapshot-by false n ws e = let z : n ≡ 0 = eqb-true n 0 e in rw z (unfold entriesAt in refl)
 
@@ -190,7 +200,8 @@ module _ (r : Raw) (ok : formed r ≡ true) where
   unfolding logOf
   snapshot-is = snapshot-by (r .index .«snapshot_held») (r .index .keys) (r .snapshot) (f .none-held)
 
-  entries-are : logOf r .run .retained ++ logOf r .tail .batched ≡ entriesOf (r .index .retained + r .index .batched) (r .log)
+  entries-are : logOf r .run .retained ++ logOf r .tail .batched
+      ≡ entriesOf (r .index .retained + r .index .batched) (r .log)
   unfolding logOf
   entries-are = sym (entries-add changeCode (r .index .retained) (r .index .batched) (r .log))
 
@@ -221,18 +232,21 @@ pub numbers-are : (t : Log) (x : Raw) → Stands t x → numbersOf t ≡ numbers
 numbers-are t x s =
     fields _ _ _ _ _ _ (s .run .start) (s .marks .index) (s .run .count) (s .tail .count) (s .tail .sized) (s .tail .stopped)
   where
-    fields : (a b c d e : ℕ) (f : Bool) → a ≡ x .index .compacted .0 → b ≡ x .index .decided .0 → c ≡ x .index .retained → d ≡ x .index .batched
+    fields : (a b c d e : ℕ) (f : Bool) → a ≡ x .index .compacted .0 → b ≡ x .index .decided .0 → c ≡ x .index .retained
+        → d ≡ x .index .batched
         → e ≡ x .index .«batch_size» → f ≡ x .index .«stop_held»
         → _≡_ {A = Numbers} (record { compacted = a; decided = b; retained = c; batched = d; size = e; stop = f }) (numbersIn (x .index))
     fields a b c d e f p q u v w z = rw (p, q, u, v, w, z)
 
 -- ---- the log of a well-formed state is well formed
 
-snapshot-formed-by : (b : Bool) (t : List Change) → keysFormed t ≡ true → ifGiven keysFormed (if b then some t else none) ≡ true
+snapshot-formed-by : (b : Bool) (t : List Change) → keysFormed t ≡ true
+    → ifGiven keysFormed (if b then some t else none) ≡ true
 snapshot-formed-by true t e = e
 snapshot-formed-by false t e = refl
 
-sign-formed-by : (b : Bool) (g : StopSign) → ((b && signFormed g) || (not b && signBlank g)) ≡ true → ifGiven signFormed (if b then some g else none) ≡ true
+sign-formed-by : (b : Bool) (g : StopSign) → ((b && signFormed g) || (not b && signBlank g)) ≡ true
+    → ifGiven signFormed (if b then some g else none) ≡ true
 sign-formed-by true g e = go (signFormed g) e
   where
     go : (t : Bool) → (t || false) ≡ true → t ≡ true
@@ -245,7 +259,8 @@ unfolding keysFormed
 snapshot-of r g =
     let t : List Change = entriesOf (r .index .keys) (r .snapshot) in
     let few : length t ≤ keyRoom = omega (arith, entries-length changeCode (r .index .keys) (r .snapshot), g .snapshot .laid .fits) in
-    both-true (rising t) _ (g .snapshot .rises) (both-true (leb (length t) keyRoom) (entriesFormed t) (le-leb (length t) keyRoom few) (g .snapshot .laid .fine))
+    both-true (rising t) _ (g .snapshot .rises)
+    (both-true (leb (length t) keyRoom) (entriesFormed t) (le-leb (length t) keyRoom few) (g .snapshot .laid .fine))
 
 pub log-formed : (r : Raw) → formed r ≡ true → wellFormed (logOf r) ≡ true
 log-formed r ok = of-formed (logOf r) (record {
@@ -268,7 +283,8 @@ sign-blank-none : signBlank noSign ≡ true
 unfolding signBlank blank allOf
 sign-blank-none = refl
 
-sign-held : (o : Option StopSign) → ifGiven signFormed o ≡ true → ((given o && signFormed (signOr o)) || (not (given o) && signBlank (signOr o))) ≡ true
+sign-held : (o : Option StopSign) → ifGiven signFormed o ≡ true
+    → ((given o && signFormed (signOr o)) || (not (given o) && signBlank (signOr o))) ≡ true
 sign-held none e = sign-blank-none
 sign-held (some g) e = rw e
 
@@ -307,9 +323,12 @@ module _ (s : Log) (w : wellFormed s ≡ true) where
   snapshot : SnapshotFacts (orEmpty (s .run .held))
   snapshot = snapshot-facts (s .run .held) (h .snapshot)
 
-  log-stored : storedIn logWords (length (s .run .retained) + length (s .tail .batched)) (stored logWords (s .run .retained ++ s .tail .batched)) ≡ true
+  log-stored : storedIn logWords (length (s .run .retained) + length (s .tail .batched))
+      (stored logWords (s .run .retained ++ s .tail .batched)) ≡ true
   log-stored =
-      let n : length (s .run .retained ++ s .tail .batched) ≡ length (s .run .retained) + length (s .tail .batched) = length-append (s .run .retained) (s .tail .batched) in
+      let n : length (s .run .retained ++ s .tail .batched)
+      ≡ length (s .run .retained) + length (s .tail .batched) =
+      length-append (s .run .retained) (s .tail .batched) in
       rw (← n)
       (stored-laid logWords (s .run .retained ++ s .tail .batched) (omega (arith, h .numbers .room)) (all-join changeFormed (s .run .retained) (s .tail .batched) (h .entries) (h .batch)))
 
@@ -328,16 +347,20 @@ module _ (s : Log) (w : wellFormed s ≡ true) where
   pub log-of-raw : logOf (rawOf s) ≡ s
   log-of-raw = unfold logOf rawOf indexOf in fields _ _ _ _ retained batched held (sign-again (s .tail .sign))
     where
-      retained : entriesOf (length (s .run .retained)) (stored logWords (s .run .retained ++ s .tail .batched)) ≡ s .run .retained
+      retained : entriesOf (length (s .run .retained)) (stored logWords (s .run .retained ++ s .tail .batched))
+          ≡ s .run .retained
       retained = entries-first changeCode changeOk logWords (s .run .retained) (s .tail .batched) (h .entries)
 
-      batched : entriesOf (length (s .tail .batched)) (drop (length (s .run .retained) * width) (stored logWords (s .run .retained ++ s .tail .batched))) ≡ s .tail .batched
+      batched : entriesOf (length (s .tail .batched))
+          (drop (length (s .run .retained) * width) (stored logWords (s .run .retained ++ s .tail .batched)))
+          ≡ s .tail .batched
       batched = entries-second changeCode changeOk logWords (s .run .retained) (s .tail .batched) (h .batch)
 
       held : (if given (s .run .held) then some (entriesOf (length (orEmpty (s .run .held))) (stored snapshotWords (orEmpty (s .run .held)))) else none) ≡ s .run .held
       held = held-again (s .run .held) _ (stored-entries snapshotWords (orEmpty (s .run .held)) (snapshot .fine))
 
-      fields : (a b : List Change) (k : Option (List Change)) (g : Option StopSign) → a ≡ s .run .retained → b ≡ s .tail .batched → k ≡ s .run .held → g ≡ s .tail .sign
+      fields : (a b : List Change) (k : Option (List Change)) (g : Option StopSign) → a ≡ s .run .retained
+          → b ≡ s .tail .batched → k ≡ s .run .held → g ≡ s .tail .sign
           → _≡_ {A = Log} (record {
             run = record { compacted = s .run .compacted; retained = a; held = k };
             tail = record { batched = b; size = s .tail .size; sign = g };

@@ -15,9 +15,11 @@ use Rattle.state_cache.specs.declared.Flag.the-variants.{Is, Refused as 
 abbrev pub Known : {E A : Type 0} → (E → Answer A) → Type 0
 Known {E} f = (a b : E) → f a ≡ f b → a ≡ b
 
--- of a call that may change the state, two that meet a claim, whatever its right side, are one, and so are the states after them
+-- of a call that may change the state, two that meet a claim, whatever its right side, are one, and so are the states
+-- after them
 abbrev pub Unique : {E A : Type 0} → (E → Answer A) → Type 0
-Unique {E} {A} f = (a b : E) (r s : Raw) (claim : Outcome A) → outcome (f a) r ≡ claim → outcome (f b) s ≡ claim → (a ≡ b) × (r ≡ s)
+Unique {E} {A} f = (a b : E) (r s : Raw) (claim : Outcome A) → outcome (f a) r ≡ claim → outcome (f b) s ≡ claim
+    → (a ≡ b) × (r ≡ s)
 
 pub unique : {E A : Type 0} (f : E → Answer A) → Known f → Unique f
 unique {E} {A} f known a b r s claim e g =

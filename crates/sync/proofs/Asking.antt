@@ -48,7 +48,8 @@ and-none true = refl
 and-none false = refl
 
 -- a snapshot in its words is one of the model's in form, of either kind
-snapshot-formed : (k : SnapshotType) (n : ℕ) (ws : List ℕ) → (plainBy k ≡ false → Holds snapshotWords n ws) → ifGiven keysFormed (snapshotIn (givenBy k (entriesOf n ws))) ≡ true
+snapshot-formed : (k : SnapshotType) (n : ℕ) (ws : List ℕ) → (plainBy k ≡ false → Holds snapshotWords n ws)
+    → ifGiven keysFormed (snapshotIn (givenBy k (entriesOf n ws))) ≡ true
 snapshot-formed k n ws h = go k h
   where
     fine : Holds snapshotWords n ws → keysFormed (entriesOf n ws) ≡ true
@@ -57,7 +58,8 @@ snapshot-formed k n ws h = go k h
         both-true (rising (entriesOf n ws)) _ (l .rises)
         (both-true (leb (length (entriesOf n ws)) keyRoom) (entriesFormed (entriesOf n ws)) (le-leb (length (entriesOf n ws)) keyRoom (omega (arith, entries-length changeCode n ws, l .laid .fits))) (l .laid .fine))
 
-    go : (k : SnapshotType) → (plainBy k ≡ false → Holds snapshotWords n ws) → ifGiven keysFormed (snapshotIn (givenBy k (entriesOf n ws))) ≡ true
+    go : (k : SnapshotType) → (plainBy k ≡ false → Holds snapshotWords n ws)
+        → ifGiven keysFormed (snapshotIn (givenBy k (entriesOf n ws))) ≡ true
     go Plain h = refl
     go Complete h = fine (h refl)
     go Delta h = fine (h refl)
@@ -105,11 +107,13 @@ module _ (r : Raw) (ok : formed r ≡ true) (x : LogSync) (incoming suffix : Lis
   bad : (held : Bool) → rest held ≡ false → malformed (callOf held) ≡ true
   unfolding malformed partFormed
   bad true e =
-      let q : (entriesFormed (entriesIn suffix) && ifGiven signFormed (asked (x .«stop_held») (x .stopsign))) ≡ false = rw (sign-is (x .«stop_held») (x .stopsign)) e in
+      let q : (entriesFormed (entriesIn suffix) && ifGiven signFormed (asked (x .«stop_held») (x .stopsign)))
+      ≡ false = rw (sign-is (x .«stop_held») (x .stopsign)) e in
       rw q (ap not (and-none (ifGiven keysFormed (snapshotIn (givenBy (x .«decided_snapshot») (entriesOf (x .keys) incoming))))))
   bad false e = absurd (true≢false e)
 
-  pub ask-refused : (held : Bool) → requestFormed held x incoming suffix ≡ false → outcome (refused 11 0) r ≡ run (callOf held) (wholeOf held) r
+  pub ask-refused : (held : Bool) → requestFormed held x incoming suffix ≡ false
+      → outcome (refused 11 0) r ≡ run (callOf held) (wholeOf held) r
   unfolding requestFormed
   ask-refused held e = go (wholeOf held) refl
     where
@@ -143,7 +147,8 @@ module _ (r : Raw) (ok : formed r ≡ true) (x : LogSync) (incoming suffix : Lis
       }
 
   -- what follows, with the flag as it is known
-  pub ask-round : (held : Bool) → held ≡ false → requestFormed false x incoming suffix ≡ true → (a : Answer ℕ) (y : IndexRecord)
+  pub ask-round : (held : Bool) → held ≡ false → requestFormed false x incoming suffix ≡ true
+      → (a : Answer ℕ) (y : IndexRecord)
       → indexed a y ≡ byNumbers (first (roundGuards d (numbersIn (r .index)))) (acceptedOf (numbersIn (r .index))) (marked b d (r .index)) (r .index)
       → outcome a (raw y (r .log) (r .snapshot)) ≡ run (callOf held) (wholeOf held) r
   ask-round held h e a y q = rw (h, whole-is false e) (round-run r ok b d a y q)

@@ -21,36 +21,44 @@ use Rattle.internal_storage.proofs.Numbered.{told-by}
 use Rattle.sync.specs.Inner.{marked}
 
 -- 9, by what is left of the indexes
-pub past-is : (idx n one waiting : ℕ) (stop t : Bool) → one ≡ oneIf stop → t ≡ ltb lastIndex (idx + n + (one + waiting)) → ltb lastIndex (idx + n + oneIf stop + waiting) ≡ t
+pub past-is : (idx n one waiting : ℕ) (stop t : Bool) → one ≡ oneIf stop → t ≡ ltb lastIndex (idx + n + (one + waiting))
+    → ltb lastIndex (idx + n + oneIf stop + waiting) ≡ t
 past-is idx n one waiting stop t e p =
     let q : idx + n + oneIf stop + waiting ≡ idx + n + (one + waiting) = omega (arith, e) in
     ap (ltb lastIndex) q ∙ sym p
 
 -- 7 and 2, by whether the sync is plain; 1 and 6, by sums that fit once 7 and 9 do not apply
-pub outside-is : (idx : ℕ) (n : Numbers) (p plain : Bool) (end : ℕ) → p ≡ plain → end ≡ endOf n → (t : Bool) → (p && (ltb idx (n .compacted) || ltb end idx)) ≡ t
+pub outside-is : (idx : ℕ) (n : Numbers) (p plain : Bool) (end : ℕ) → p ≡ plain → end ≡ endOf n → (t : Bool)
+    → (p && (ltb idx (n .compacted) || ltb end idx)) ≡ t
     → (plain && (ltb idx (n .compacted) || ltb (endOf n) idx)) ≡ t
 outside-is idx n p plain end e q t h = rw (← e, ← q) h
 
-pub above-is : (idx d next : ℕ) (n : Numbers) (p plain : Bool) → p ≡ plain → next ≡ max d (n .decided) → (t : Bool) → (not p && ltb next idx) ≡ t → (not plain && ltb (max d (n .decided)) idx) ≡ t
+pub above-is : (idx d next : ℕ) (n : Numbers) (p plain : Bool) → p ≡ plain → next ≡ max d (n .decided) → (t : Bool)
+    → (not p && ltb next idx) ≡ t → (not plain && ltb (max d (n .decided)) idx) ≡ t
 above-is idx d next n p plain e q t h = rw (← e, ← q) h
 
 -- a sync that is not outside the run keeps no more than there is
-pub kept-few : (idx : ℕ) (n : Numbers) (plain p : Bool) (kept : ℕ) → p ≡ plain → kept ≡ (if p then idx - n .compacted else 0)
+pub kept-few : (idx : ℕ) (n : Numbers) (plain p : Bool) (kept : ℕ) → p ≡ plain
+    → kept ≡ (if p then idx - n .compacted else 0)
     → (plain && (ltb idx (n .compacted) || ltb (endOf n) idx)) ≡ false → kept ≤ n .retained
 kept-few idx n plain p kept q e h = go p e (rw q h)
   where
-    go : (t : Bool) → kept ≡ (if t then idx - n .compacted else 0) → (t && (ltb idx (n .compacted) || ltb (endOf n) idx)) ≡ false → kept ≤ n .retained
+    go : (t : Bool) → kept ≡ (if t then idx - n .compacted else 0)
+        → (t && (ltb idx (n .compacted) || ltb (endOf n) idx)) ≡ false → kept ≤ n .retained
     go true e h = unfold endOf in omega (arith, e, ltb-false (n .compacted + n .retained) idx (or-right (ltb idx (n .compacted)) _ h))
     go false e h = omega (arith, e)
 
-module _ (idx count kept : ℕ) (plain p : Bool) (n : Numbers) (f : Sound n) (e : p ≡ plain) (k : kept ≡ (if p then idx - n .compacted else 0)) (few : kept ≤ n .retained) where
+module _ (idx count kept : ℕ) (plain p : Bool) (n : Numbers) (f : Sound n) (e : p ≡ plain)
+    (k : kept ≡ (if p then idx - n .compacted else 0)) (few : kept ≤ n .retained) where
   kept-is : kept ≡ (if plain then idx - n .compacted else 0)
   kept-is = rw (← e) k
 
-  pub no-room : entryRoom - (kept + n .batched) < count → ltb entryRoom ((if plain then idx - n .compacted else 0) + count + n .batched) ≡ true
+  pub no-room : entryRoom - (kept + n .batched) < count
+      → ltb entryRoom ((if plain then idx - n .compacted else 0) + count + n .batched) ≡ true
   no-room h = rw (← kept-is) (lt-ltb entryRoom (kept + count + n .batched) (omega (arith, f .room)))
 
-  pub room : count ≤ entryRoom - (kept + n .batched) → ltb entryRoom ((if plain then idx - n .compacted else 0) + count + n .batched) ≡ false
+  pub room : count ≤ entryRoom - (kept + n .batched)
+      → ltb entryRoom ((if plain then idx - n .compacted else 0) + count + n .batched) ≡ false
   room h = rw (← kept-is) (le-ltb entryRoom (kept + count + n .batched) (omega (arith, f .room)))
 
 module _ (idx count d one next : ℕ) (stop : Bool) (n : Numbers) (e : one ≡ oneIf stop) (q : next ≡ max d (n .decided)) where
@@ -71,10 +79,12 @@ module _ (b : Ballot) (d last : ℕ) (x y : IndexRecord) (l : last ≡ acceptedO
   pub round-refused : last < y .decided .0 → indexed (refused 6 last) x ≡ told
   unfolding roundGuards
   round-refused h =
-      told-by (roundGuards d (numbersIn x)) (acceptedOf (numbersIn x)) (marked b d x) x (refuses 6 last) (stopping (lt-ltb (acceptedOf (numbersIn x)) (decidedThen d (numbersIn x)) (rw (← l, ← larger-is) h)) l)
+      told-by (roundGuards d (numbersIn x)) (acceptedOf (numbersIn x)) (marked b d x) x (refuses 6 last)
+      (stopping (lt-ltb (acceptedOf (numbersIn x)) (decidedThen d (numbersIn x)) (rw (← l, ← larger-is) h)) l)
 
   pub round-passes : y .decided .0 ≤ last → indexed (replied last) y ≡ told
   unfolding roundGuards
   round-passes h =
       ap₂ (λ (k : ℕ) (z : IndexRecord). indexed (replied k) z) l m
-      ∙ told-by (roundGuards d (numbersIn x)) (acceptedOf (numbersIn x)) (marked b d x) x passes (passing (le-ltb (acceptedOf (numbersIn x)) (decidedThen d (numbersIn x)) (rw (← l, ← larger-is) h)) clear-all)
+      ∙ told-by (roundGuards d (numbersIn x)) (acceptedOf (numbersIn x)) (marked b d x) x passes
+      (passing (le-ltb (acceptedOf (numbersIn x)) (decidedThen d (numbersIn x)) (rw (← l, ← larger-is) h)) clear-all)

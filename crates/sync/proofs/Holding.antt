@@ -21,7 +21,8 @@ use Rattle.sync.specs.declared.SnapshotType.{SnapshotType}
 use Rattle.sync.specs.declared.SnapshotType.the-variants.{Plain, Complete, Delta}
 
 -- a snapshot in form, as it stands in its words
-pub held-written : (n : ℕ) (ws out : List ℕ) → Holds snapshotWords n ws → snapshotOutcome (replied n) ws ≡ foldWritten (entriesOf n ws) out
+pub held-written : (n : ℕ) (ws out : List ℕ) → Holds snapshotWords n ws
+    → snapshotOutcome (replied n) ws ≡ foldWritten (entriesOf n ws) out
 held-written n ws out h =
     let k : length (entriesOf n ws) ≡ n = entries-length changeCode n ws in
     ap₂ (λ (j : ℕ) (t : List ℕ). snapshotOutcome (replied j) t) (sym k) (laid-stored snapshotWords n ws (h .laid))
@@ -39,7 +40,8 @@ module _ (kind : SnapshotType) (r : Raw) (g : Ready r) (keys : ℕ) (incoming : 
   pub hold-plain : kind ≡ Plain → snapshotOutcome (replied (r .index .keys)) (r .snapshot) ≡ told
   hold-plain e = rw e (held-written (r .index .keys) (r .snapshot) (r .snapshot) (g .snapshot))
 
-  pub hold-complete : kind ≡ Complete → Holds snapshotWords keys incoming → (exit : List ℕ) → exit ≡ incoming → snapshotOutcome (replied keys) exit ≡ told
+  pub hold-complete : kind ≡ Complete → Holds snapshotWords keys incoming → (exit : List ℕ) → exit ≡ incoming
+      → snapshotOutcome (replied keys) exit ≡ told
   hold-complete e h exit q = rw (e, q) (held-written keys incoming (r .snapshot) h)
 
   pub hold-delta : kind ≡ Delta → (last : ℕ) → last ≡ logDecided (numbersIn (r .index))

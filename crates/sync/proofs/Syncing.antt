@@ -120,7 +120,8 @@ module _ (r : Raw) (x : LogSync) (incoming suffix : List ℕ) (w : Syncs r x inc
     }
 
     -- the accepted index after it fits
-    pub fits-small : (keys : ℕ) (z : IndexRecord) → z ≡ syncedIndex x n keys (marked b d (r .index)) → Small (numbersIn z)
+    pub fits-small : (keys : ℕ) (z : IndexRecord) → z ≡ syncedIndex x n keys (marked b d (r .index))
+        → Small (numbersIn z)
     unfolding partNumberGuards
     fits-small keys z e =
         rw e
@@ -166,14 +167,16 @@ module _ (r : Raw) (x : LogSync) (incoming suffix : List ℕ) (w : Syncs r x inc
     tested Complete h = rw (few-keys (x .keys) incoming (h refl))
     tested Delta h = ap (λ (u : List Change). first (foldGuards u)) (sym delta-is)
 
-    module _ (a : Folded) (exit : List ℕ) (f : snapshotOutcome (folded a) exit ≡ foldWritten (snapshotThen kind held decided lent) (r .snapshot)) where
+    module _ (a : Folded) (exit : List ℕ)
+        (f : snapshotOutcome (folded a) exit ≡ foldWritten (snapshotThen kind held decided lent) (r .snapshot)) where
       abbrev snapshot : List Change
       snapshot = snapshotThen kind held decided lent
 
       verdict : first (foldGuards snapshot) ≡ first (further c s)
       verdict = tested kind (w .lent) ∙ sym (first-right gs last-guard pass) ∙ sym guards-are
 
-      pub sync-over : (y : Refusal) → a ≡ Refused y → outcome (refusedBy y) (raw (r .index) (r .log) exit) ≡ run c true r
+      pub sync-over : (y : Refusal) → a ≡ Refused y
+          → outcome (refusedBy y) (raw (r .index) (r .log) exit) ≡ run c true r
       sync-over y e =
           let q = wrote-nothing (first (foldGuards snapshot)) snapshot (r .snapshot) exit a f y e in
           ap (λ (ws : List ℕ). outcome (refusedBy y) (raw (r .index) (r .log) ws)) (q .1)
@@ -181,8 +184,10 @@ module _ (r : Raw) (x : LogSync) (incoming suffix : List ℕ) (w : Syncs r x inc
 
       -- ---- the state after it
 
-      module _ (keys : ℕ) (e : a ≡ Keys keys) (z : IndexRecord) (words : List ℕ) (m : Taken x n keys (marked b d (r .index)) (r .log) suffix z words) where
-        wrote : (first (foldGuards snapshot) ≡ passes) × (keys ≡ length snapshot) × (exit ≡ stored snapshotWords snapshot)
+      module _ (keys : ℕ) (e : a ≡ Keys keys) (z : IndexRecord) (words : List ℕ)
+          (m : Taken x n keys (marked b d (r .index)) (r .log) suffix z words) where
+        wrote : (first (foldGuards snapshot) ≡ passes) × (keys ≡ length snapshot)
+            × (exit ≡ stored snapshotWords snapshot)
         wrote = wrote-keys (first (foldGuards snapshot)) snapshot (r .snapshot) exit a f keys e
 
         abbrev new : List Change
@@ -198,7 +203,8 @@ module _ (r : Raw) (x : LogSync) (incoming suffix : List ℕ) (w : Syncs r x inc
         abbrev keptAs : SnapshotType → ℕ
         keptAs k = if plainBy k then x .«sync_idx» .0 - r .index .compacted .0 else 0
 
-        starts : (k : SnapshotType) → runThen (partAs k) s .compacted ≡ (if plainBy k then r .index .compacted else x .«sync_idx») .0
+        starts : (k : SnapshotType) → runThen (partAs k) s .compacted
+            ≡ (if plainBy k then r .index .compacted else x .«sync_idx») .0
         unfolding runThen
         starts Plain = st .run .start
         starts Complete = refl
@@ -248,4 +254,5 @@ module _ (r : Raw) (x : LogSync) (incoming suffix : List ℕ) (w : Syncs r x inc
         pub sync-stands : (y : ℕ) → y ≡ acceptedOf (numbersIn z) → outcome (replied y) (raw z words exit) ≡ run c true r
         unfolding effect replyOf synced
         sync-stands y q =
-            call-stands c r ok fine (sym (wrote .0) ∙ verdict) y (raw z words exit) (q ∙ ap acceptedOf (sym (numbers-are (partSynced b d (partBy x incoming suffix) s) (raw z words exit) stands))) stands
+            call-stands c r ok fine (sym (wrote .0) ∙ verdict) y (raw z words exit)
+            (q ∙ ap acceptedOf (sym (numbers-are (partSynced b d (partBy x incoming suffix) s) (raw z words exit) stands))) stands

@@ -17,7 +17,8 @@ use Rattle.sync.specs.Requests.{plainBy}
 use Rattle.sync.specs.Inner.{keptBy, syncedIndex, Fits, Taken}
 use Rattle.sync.specs.declared.LogSync.{LogSync}
 
-module _ (x : LogSync) (n keys : ℕ) (y : IndexRecord) (log suffix : List ℕ) (w : Fits x n y log suffix) (p : Bool) (plain : p ≡ plainBy (x .«decided_snapshot»)) (kept : ℕ)
+module _ (x : LogSync) (n keys : ℕ) (y : IndexRecord) (log suffix : List ℕ) (w : Fits x n y log suffix) (p : Bool)
+    (plain : p ≡ plainBy (x .«decided_snapshot»)) (kept : ℕ)
     (k : kept ≡ (if p then x .«sync_idx» .0 - y .compacted .0 else 0)) where
   pub kept-is : kept ≡ keptBy x n y
   kept-is = k ∙ ap (λ (t : Bool). if t then x .«sync_idx» .0 - y .compacted .0 else 0) plain
@@ -38,15 +39,18 @@ module _ (x : LogSync) (n keys : ℕ) (y : IndexRecord) (log suffix : List ℕ) 
         ),
       )
 
-  module _ (start : LogIndex) (s : start ≡ (if p then y .compacted else x .«sync_idx»)) (stop : StopSign) (g : stop ≡ signIf (x .«stop_held») (x .stopsign)) (exit : List ℕ)
+  module _ (start : LogIndex) (s : start ≡ (if p then y .compacted else x .«sync_idx»)) (stop : StopSign)
+      (g : stop ≡ signIf (x .«stop_held») (x .stopsign)) (exit : List ℕ)
       (e : exit ≡ laid (length log) (spliced (kept * width) ((y .retained - kept) * width) suffix (take ((y .retained + y .batched) * width) log))) where
     pub taken : Taken x n keys y log suffix (withStop (x .«stop_held») stop (withRun start (kept + n) (y .«snapshot_held» || not p) keys y)) exit
     taken = record {
-      index = fields start (kept + n) p stop (s ∙ ap (λ (t : Bool). if t then y .compacted else x .«sync_idx») plain) (ap (λ (j : ℕ). j + n) kept-is) plain g;
+      index = fields start (kept + n) p stop (s ∙ ap (λ (t : Bool). if t then y .compacted else x .«sync_idx») plain)
+          (ap (λ (j : ℕ). j + n) kept-is) plain g;
       words = e ∙ ap (λ (j : ℕ). laid (length log) (spliced (j * width) ((y .retained - j) * width) suffix (take ((y .retained + y .batched) * width) log))) kept-is;
     }
       where
-        fields : (a : LogIndex) (b : ℕ) (c : Bool) (h : StopSign) → a ≡ (if plainBy (x .«decided_snapshot») then y .compacted else x .«sync_idx») → b ≡ keptBy x n y + n
+        fields : (a : LogIndex) (b : ℕ) (c : Bool) (h : StopSign)
+            → a ≡ (if plainBy (x .«decided_snapshot») then y .compacted else x .«sync_idx») → b ≡ keptBy x n y + n
             → c ≡ plainBy (x .«decided_snapshot») → h ≡ signIf (x .«stop_held») (x .stopsign)
             → withStop (x .«stop_held») h (withRun a b (y .«snapshot_held» || not c) keys y) ≡ syncedIndex x n keys y
         fields a b c h q1 q2 q3 q4 = rw (q1, q2, q3, q4)

@@ -40,7 +40,8 @@ fewer n (suc j) h f =
     (omega arith, omega arith, λ l. rw e′ (omega arith))
 
 digits-by : (fuel n k : ℕ) (t : Bool) → ltb n 10 ≡ t → Fewest 10 1 n k
-    → ((j : ℕ) → Fewest 10 1 (n / 10) j → j ≡ digitsUpTo fuel (n / 10)) → k ≡ (if t then 1 else suc (digitsUpTo fuel (n / 10)))
+    → ((j : ℕ) → Fewest 10 1 (n / 10) j → j ≡ digitsUpTo fuel (n / 10))
+    → k ≡ (if t then 1 else suc (digitsUpTo fuel (n / 10)))
 digits-by fuel n k true e f ih = one-digit n k (ltb-true n 10 e) f
 digits-by fuel n zero false e f ih = absurd (omega (arith, f .0))
 digits-by fuel n (suc k) false e f ih = ap suc (ih k (fewer n k (ltb-false n 10 e) f))
@@ -54,7 +55,8 @@ digits-most : (fuel n : ℕ) → digitsUpTo fuel n ≤ suc fuel
 digits-most zero n = omega arith
 digits-most (suc fuel) n = go (ltb n 10) (digits-most fuel (n / 10))
   where
-    go : (t : Bool) → digitsUpTo fuel (n / 10) ≤ suc fuel → (if t then 1 else suc (digitsUpTo fuel (n / 10))) ≤ suc (suc fuel)
+    go : (t : Bool) → digitsUpTo fuel (n / 10) ≤ suc fuel
+        → (if t then 1 else suc (digitsUpTo fuel (n / 10))) ≤ suc (suc fuel)
     go true h = omega arith
     go false h = omega arith
 
@@ -72,7 +74,8 @@ pub glue : {t u v : List ℕ} (a l d e : List ℕ) → t ≡ u ++ e → u ≡ v 
 glue a l d e p q r = p ∙ rw (q, r) (simp append-assoc)
 
 -- two numbers, put one after the other with what stands beside them
-pub glue-two : {t u : List ℕ} (a l d s e n : List ℕ) → t ≡ u ++ (e ++ n) → u ≡ a ++ (l ++ d ++ s) → t ≡ a ++ (l ++ d ++ s ++ e ++ n)
+pub glue-two : {t u : List ℕ} (a l d s e n : List ℕ) → t ≡ u ++ (e ++ n) → u ≡ a ++ (l ++ d ++ s)
+    → t ≡ a ++ (l ++ d ++ s ++ e ++ n)
 glue-two a l d s e n p q = p ∙ rw q (simp append-assoc)
 
 -- what is put and what is left make the whole, turn by turn
@@ -88,7 +91,8 @@ early i d = go (ltb i d) refl
     go false e = le-ltb 0 (d - i) (omega (arith, ltb-false i d e))
 
 module _ (d n : ℕ) (ws : List ℕ) (i : ℕ) where
-  pub lines-next : i < n → entryLines (d - i) (drop i (entriesOf n ws)) ≡ entryLine (ltb i d) (changeAt ws i) ++ entryLines (d - (i + 1)) (drop (i + 1) (entriesOf n ws))
+  pub lines-next : i < n → entryLines (d - i) (drop i (entriesOf n ws))
+      ≡ entryLine (ltb i d) (changeAt ws i) ++ entryLines (d - (i + 1)) (drop (i + 1) (entriesOf n ws))
   unfolding entryLines
   lines-next h =
       let e : d - (i + 1) ≡ d - i - 1 = omega arith in

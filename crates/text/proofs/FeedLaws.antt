@@ -20,7 +20,8 @@ joined-cut false len line part h l =
     let k : length line < length (take len line) + length part = omega (arith, e) in
     sym (ap (λ (b : Bool). if b then some (take len line ++ part) else none) (lt-leb _ _ k))
 
-pub joined-more : (over : Bool) (len n : ℕ) (line after part : List ℕ) → len ≤ length line → length part ≤ length line - len
+pub joined-more : (over : Bool) (len n : ℕ) (line after part : List ℕ) → len ≤ length line
+    → length part ≤ length line - len
     → take n after ≡ take len line ++ part → come over n after ≡ joined (length line) (come over len line) part
 joined-more true len n line after part h l e = refl
 joined-more false len n line after part h l e =

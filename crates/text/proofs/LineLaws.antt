@@ -39,7 +39,8 @@ gap-within [] = refl
 gap-within (b ∷ bs) = go (eqb b 10) refl (gap-within bs)
   where
     go : (t : Bool) → eqb b 10 ≡ t → gapOf 10 (take (gapOf 10 bs) bs) ≡ length (take (gapOf 10 bs) bs)
-        → gapOf 10 (take (if t then 0 else suc (gapOf 10 bs)) (b ∷ bs)) ≡ length (take (if t then 0 else suc (gapOf 10 bs)) (b ∷ bs))
+        → gapOf 10 (take (if t then 0 else suc (gapOf 10 bs)) (b ∷ bs))
+        ≡ length (take (if t then 0 else suc (gapOf 10 bs)) (b ∷ bs))
     go true e ih = refl
     go false e ih = rw e (ap suc ih)
 
@@ -49,7 +50,8 @@ gap-ends (b ∷ bs) h = go (eqb b 10) refl h (gap-ends bs)
   where
     go : (t : Bool) → eqb b 10 ≡ t → (if t then 0 else suc (gapOf 10 bs)) < length (b ∷ bs)
         → (gapOf 10 bs < length bs → take (gapOf 10 bs + 1) bs ≡ take (gapOf 10 bs) bs ++ (10 ∷ []))
-        → take ((if t then 0 else suc (gapOf 10 bs)) + 1) (b ∷ bs) ≡ take (if t then 0 else suc (gapOf 10 bs)) (b ∷ bs) ++ (10 ∷ [])
+        → take ((if t then 0 else suc (gapOf 10 bs)) + 1) (b ∷ bs)
+        ≡ take (if t then 0 else suc (gapOf 10 bs)) (b ∷ bs) ++ (10 ∷ [])
     go true e g ih = ap (λ (x : ℕ). x ∷ []) (eqb-true b 10 e)
     go false e g ih =
         let q : suc (gapOf 10 bs) + 1 ≡ suc (gapOf 10 bs + 1) = omega arith in
@@ -69,7 +71,8 @@ module _ (ls : Lines) (part : List ℕ) (at : ℕ) (h : at < length part) where
       ∙ lines-append ls (take at part) (take gap left)
       ∙ lines-within (linesFrom ls (take at part)) (take gap left) (gap-within left)
 
-  ends : gap < length left → linesFrom ls (take (at + gap + 1) part) ≡ lineEnded (restWith (take gap left) (linesFrom ls (take at part)))
+  ends : gap < length left → linesFrom ls (take (at + gap + 1) part)
+      ≡ lineEnded (restWith (take gap left) (linesFrom ls (take at part)))
   unfolding linesFrom
   ends g =
       let q : at + gap + 1 ≡ at + (gap + 1) = omega arith in
@@ -78,14 +81,16 @@ module _ (ls : Lines) (part : List ℕ) (at : ℕ) (h : at < length part) where
       ∙ lines-append ls (take (at + gap) part) (10 ∷ [])
       ∙ ap lineEnded up-to
 
-  goes-on : length left ≤ gap → linesFrom ls (take (at + gap + 1) part) ≡ restWith (take gap left) (linesFrom ls (take at part))
+  goes-on : length left ≤ gap → linesFrom ls (take (at + gap + 1) part)
+      ≡ restWith (take gap left) (linesFrom ls (take at part))
   goes-on g =
       let e = length-drop at part in
       ap (linesFrom ls) (take-all (at + gap + 1) part (omega (arith, e)) ∙ sym (take-all (at + gap) part (omega (arith, e)))) ∙ up-to
 
   -- e is the index of that line end, or the end of the part, as the code finds it
   pub lines-part : (e : ℕ) → e ≡ at + gapOf 10 (take (length part - at) left)
-      → linesFrom ls (take (e + 1) part) ≡ endedIf (ltb e (length part)) (restWith (take (e - at) left) (linesFrom ls (take at part)))
+      → linesFrom ls (take (e + 1) part)
+      ≡ endedIf (ltb e (length part)) (restWith (take (e - at) left) (linesFrom ls (take at part)))
   lines-part e q = go (ltb e (length part)) refl
     where
       all : take (length part - at) left ≡ left
@@ -100,7 +105,8 @@ module _ (ls : Lines) (part : List ℕ) (at : ℕ) (h : at < length part) where
       to : linesFrom ls (take (e + 1) part) ≡ linesFrom ls (take (at + gap + 1) part)
       to = ap (λ (k : ℕ). linesFrom ls (take (k + 1) part)) q′
 
-      go : (t : Bool) → ltb e (length part) ≡ t → linesFrom ls (take (e + 1) part) ≡ endedIf t (restWith (take (e - at) left) (linesFrom ls (take at part)))
+      go : (t : Bool) → ltb e (length part) ≡ t
+          → linesFrom ls (take (e + 1) part) ≡ endedIf t (restWith (take (e - at) left) (linesFrom ls (take at part)))
       go true t = rw seg (to ∙ ends (omega (arith, ltb-true e (length part) t, length-drop at part, q′)))
       go false t = rw seg (to ∙ goes-on (omega (arith, ltb-false e (length part) t, length-drop at part, q′)))
 
@@ -108,6 +114,7 @@ module _ (ls : Lines) (part : List ℕ) (at : ℕ) (h : at < length part) where
 pub joined-fitting : (room : ℕ) (bs part : List ℕ) → joined room (fitting room bs) part ≡ fitting room (bs ++ part)
 joined-fitting room bs part = go (leb (length bs) room) refl
   where
-    go : (t : Bool) → leb (length bs) room ≡ t → joined room (if t then some bs else none) part ≡ fitting room (bs ++ part)
+    go : (t : Bool) → leb (length bs) room ≡ t
+        → joined room (if t then some bs else none) part ≡ fitting room (bs ++ part)
     go true e = ap (λ (n : ℕ). if leb n room then some (bs ++ part) else none) (sym (length-append bs part))
     go false e = sym (rw (lt-leb (length (bs ++ part)) room (simp length-append (omega (arith, leb-false (length bs) room e)))))

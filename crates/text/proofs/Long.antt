@@ -1,4 +1,5 @@
--- A line of more than `inputLine` bytes is a bad line, whatever it says: a buffer of that size cuts nothing off that means something.
+-- A line of more than `inputLine` bytes is a bad line, whatever it says: a buffer of that size cuts nothing off that
+-- means something.
 use Prim.Native.Nat.{ℕ, _+_, _-_, _*_, _^_, _≤_, _<_}
 use Prim.Native.String.{String}
 use mathlib.Core.Path.{_≡_, refl, sym, ap, _∙_}
@@ -37,7 +38,8 @@ unfolding total
 total-words [] = omega arith
 total-words (b ∷ bs) = go (eqb b 32) (total-words bs)
   where
-    go : (t : Bool) → total (words bs) ≡ length bs + 1 → total (if t then [] ∷ words bs else onto b (words bs)) ≡ length (b ∷ bs) + 1
+    go : (t : Bool) → total (words bs) ≡ length bs + 1
+        → total (if t then [] ∷ words bs else onto b (words bs)) ≡ length (b ∷ bs) + 1
     go true e = omega arith
     go false e = omega (arith, total-onto b (words bs) (omega arith))
 
@@ -83,7 +85,8 @@ tens m (b ∷ bs) = tens (m * 10) bs
 tens-power : (m : ℕ) (xs : List ℕ) → tens m xs ≡ m * 10 ^ length xs
 unfolding tens
 tens-power m [] = omega arith
-tens-power m (b ∷ bs) = tens-power (m * 10) bs ∙ mul-assoc m 10 (10 ^ length bs) ∙ ap (λ (k : ℕ). m * k) (sym (pow-succ' 10 (length bs)))
+tens-power m (b ∷ bs) = tens-power (m * 10) bs ∙ mul-assoc m 10 (10 ^ length bs)
+    ∙ ap (λ (k : ℕ). m * k) (sym (pow-succ' 10 (length bs)))
 
 tens-least : (m n : ℕ) (xs : List ℕ) → m ≤ n → tens m xs ≤ value n xs
 unfolding tens
@@ -110,7 +113,8 @@ number-long : (xs : List ℕ) → mostDigits < length xs → numeralOf xs ≡ No
 unfolding numeralOf
 number-long xs h = go (plain xs) (value-long xs h)
   where
-    go : (t : Bool) → (t ≡ true → 2 ^ 64 ≤ value 0 xs) → (if t && ltb (value 0 xs) (2 ^ 64) then Value (value 0 xs) else NoNumber) ≡ NoNumber
+    go : (t : Bool) → (t ≡ true → 2 ^ 64 ≤ value 0 xs)
+        → (if t && ltb (value 0 xs) (2 ^ 64) then Value (value 0 xs) else NoNumber) ≡ NoNumber
     go false f = refl
     go true f = rw (le-ltb (value 0 xs) (2 ^ 64) (f refl))
 

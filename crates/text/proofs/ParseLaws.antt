@@ -31,7 +31,8 @@ module _ (b : ℕ) (s : List ℕ) (i : ℕ) where
   gap-end h = ap (gapOf b) (drop-of-length-le s h)
 
 -- the words of a line
-words-none-by : (b : ℕ) (bs : List ℕ) (t : Bool) → (if t then 0 else suc (gapOf 32 bs)) ≡ suc (length bs) → (gapOf 32 bs ≡ length bs → words bs ≡ bs ∷ [])
+words-none-by : (b : ℕ) (bs : List ℕ) (t : Bool) → (if t then 0 else suc (gapOf 32 bs)) ≡ suc (length bs)
+    → (gapOf 32 bs ≡ length bs → words bs ≡ bs ∷ [])
     → (if t then [] ∷ words bs else onto b (words bs)) ≡ (b ∷ bs) ∷ []
 words-none-by b bs true e ih = absurd (omega arith)
 words-none-by b bs false e ih = rw (ih (omega arith))
@@ -42,11 +43,13 @@ words-none (b ∷ bs) e = words-none-by b bs (eqb b 32) e (words-none bs)
 
 words-some-by : (b : ℕ) (bs : List ℕ) (t : Bool) → (if t then 0 else suc (gapOf 32 bs)) < suc (length bs)
     → (gapOf 32 bs < length bs → words bs ≡ take (gapOf 32 bs) bs ∷ words (drop (suc (gapOf 32 bs)) bs))
-    → (if t then [] ∷ words bs else onto b (words bs)) ≡ take (if t then 0 else suc (gapOf 32 bs)) (b ∷ bs) ∷ words (drop (suc (if t then 0 else suc (gapOf 32 bs))) (b ∷ bs))
+    → (if t then [] ∷ words bs else onto b (words bs))
+    ≡ take (if t then 0 else suc (gapOf 32 bs)) (b ∷ bs) ∷ words (drop (suc (if t then 0 else suc (gapOf 32 bs))) (b ∷ bs))
 words-some-by b bs true h ih = refl
 words-some-by b bs false h ih = rw (ih (omega arith))
 
-pub words-some : (xs : List ℕ) → gapOf 32 xs < length xs → words xs ≡ take (gapOf 32 xs) xs ∷ words (drop (suc (gapOf 32 xs)) xs)
+pub words-some : (xs : List ℕ) → gapOf 32 xs < length xs
+    → words xs ≡ take (gapOf 32 xs) xs ∷ words (drop (suc (gapOf 32 xs)) xs)
 words-some [] h = absurd (omega arith)
 words-some (b ∷ bs) h = words-some-by b bs (eqb b 32) h (words-some bs)
 
@@ -54,7 +57,8 @@ words-some (b ∷ bs) h = words-some-by b bs (eqb b 32) h (words-some bs)
 abbrev pub rest : List ℕ → ℕ → List ℕ
 rest xs e = take (length xs - (e + 1)) (drop (e + 1) xs)
 
-pub words-more : (xs : List ℕ) (e : ℕ) → e ≡ gapOf 32 xs → e ≤ length xs → (e ≡ length xs → ⊥) → words xs ≡ take e xs ∷ words (rest xs e)
+pub words-more : (xs : List ℕ) (e : ℕ) → e ≡ gapOf 32 xs → e ≤ length xs → (e ≡ length xs → ⊥)
+    → words xs ≡ take e xs ∷ words (rest xs e)
 words-more xs e g h ne = rw (part-to-end xs (e + 1), g, add-one) (words-some xs (omega arith))
 
 -- a line of four words or more
@@ -63,7 +67,8 @@ module _ (w a b : List ℕ) where
   four-onto x [] = refl
   four-onto x (v ∷ vs) = refl
 
-  four-by : (x : ℕ) (xs : List ℕ) (t : Bool) → BadLine ≡ commandOf (w ∷ a ∷ b ∷ (if t then [] ∷ words xs else onto x (words xs)))
+  four-by : (x : ℕ) (xs : List ℕ) (t : Bool)
+      → BadLine ≡ commandOf (w ∷ a ∷ b ∷ (if t then [] ∷ words xs else onto x (words xs)))
   four-by x xs true = refl
   four-by x xs false = four-onto x (words xs)
 
@@ -79,7 +84,8 @@ same-lengths (x ∷ xs) [] ne = refl
 same-lengths (x ∷ xs) (y ∷ ys) ne = rw (same-lengths xs ys (λ e. ne (ap suc e))) (and-false (eqb x y))
 
 module _ (a b : List ℕ) (i : ℕ) where
-  pub same-step : i < length a → i < length b → getD a i 0 ≡ getD b i 0 → sameOf (drop i a) (drop i b) ≡ sameOf (drop (i + 1) a) (drop (i + 1) b)
+  pub same-step : i < length a → i < length b → getD a i 0 ≡ getD b i 0
+      → sameOf (drop i a) (drop i b) ≡ sameOf (drop (i + 1) a) (drop (i + 1) b)
   same-step h k e = rw (add-one, drop-cons a i 0, drop-cons b i 0, eq-eqb _ _ e)
 
   pub same-here : i < length a → i < length b → (getD a i 0 ≡ getD b i 0 → ⊥) → sameOf (drop i a) (drop i b) ≡ false
@@ -120,7 +126,8 @@ number-more (b ∷ []) h ne = absurd (omega arith)
 number-more (b ∷ c ∷ bs) h ne = rw (ne-eqb b 48 ne)
 
 module _ (n : ℕ) (s : List ℕ) (i : ℕ) where
-  pub whole-step : i < length s → 48 ≤ getD s i 0 → getD s i 0 ≤ 57 → whole n (drop i s) ≡ whole (n * 10 + (getD s i 0 - 48)) (drop (i + 1) s)
+  pub whole-step : i < length s → 48 ≤ getD s i 0 → getD s i 0 ≤ 57
+      → whole n (drop i s) ≡ whole (n * 10 + (getD s i 0 - 48)) (drop (i + 1) s)
   unfolding whole allOf
   whole-step h k l = rw (add-one, drop-cons s i 0, le-leb 48 (getD s i 0), le-leb (getD s i 0) 57)
 
@@ -135,7 +142,8 @@ module _ (n : ℕ) (s : List ℕ) (i : ℕ) where
   pub whole-over : i < length s → 2 ^ 64 ≤ n * 10 + (getD s i 0 - 48) → whole n (drop i s) ≡ NoNumber
   unfolding whole allOf
   whole-over h k =
-      let l : 2 ^ 64 ≤ value (n * 10 + (getD s i 0 - 48)) (drop (suc i) s) = omega (arith, value-grows (n * 10 + (getD s i 0 - 48)) (drop (suc i) s)) in
+      let l : 2 ^ 64 ≤ value (n * 10 + (getD s i 0 - 48)) (drop (suc i) s) = omega
+      (arith, value-grows (n * 10 + (getD s i 0 - 48)) (drop (suc i) s)) in
       rw (drop-cons s i 0, le-ltb _ _ l, and-false)
 
   pub whole-end : length s ≤ i → n < 2 ^ 64 → whole n (drop i s) ≡ Value n

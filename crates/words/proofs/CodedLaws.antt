@@ -16,7 +16,8 @@ module _ {E : Type 0} (c : Code E) where
   pub words-append : (a b : List E) → wordsOf c (a ++ b) ≡ wordsOf c a ++ wordsOf c b
   unfolding wordsOf
   words-append [] b = refl
-  words-append (e ∷ a) b = ap (λ (l : List ℕ). c .enc e ++ l) (words-append a b) ∙ sym (append-assoc (c .enc e) (wordsOf c a) (wordsOf c b))
+  words-append (e ∷ a) b = ap (λ (l : List ℕ). c .enc e ++ l) (words-append a b)
+      ∙ sym (append-assoc (c .enc e) (wordsOf c a) (wordsOf c b))
 
   pub entries-length : (n : ℕ) (ws : List ℕ) → length (entriesAt c n ws) ≡ n
   unfolding entriesAt
@@ -24,9 +25,11 @@ module _ {E : Type 0} (c : Code E) where
   entries-length (suc n) ws = ap suc (entries-length n (drop (c .width) ws))
 
   -- the first m entries, and then n
-  pub entries-add : (m n : ℕ) (ws : List ℕ) → entriesAt c (m + n) ws ≡ entriesAt c m ws ++ entriesAt c n (drop (m * c .width) ws)
+  pub entries-add : (m n : ℕ) (ws : List ℕ)
+      → entriesAt c (m + n) ws ≡ entriesAt c m ws ++ entriesAt c n (drop (m * c .width) ws)
   unfolding entriesAt
-  entries-add zero n ws = ap (λ (k : ℕ). entriesAt c k ws) (zero-add n) ∙ ap (λ (k : ℕ). entriesAt c n (drop k ws)) (sym (zero-mul (c .width)))
+  entries-add zero n ws = ap (λ (k : ℕ). entriesAt c k ws) (zero-add n)
+      ∙ ap (λ (k : ℕ). entriesAt c n (drop k ws)) (sym (zero-mul (c .width)))
   entries-add (suc m) n ws =
       let e : c .width + m * c .width ≡ suc m * c .width = omega (arith, suc-mul m (c .width)) in
       ap (λ (k : ℕ). entriesAt c k ws) (suc-add m n)
@@ -42,7 +45,8 @@ module _ {E : Type 0} (c : Code E) where
       ∙ ap (λ (l : List E). take m l) (entries-add m (n - m) ws)
       ∙ take-at (entriesAt c m ws) (entriesAt c (n - m) (drop (m * c .width) ws)) m (entries-length m ws)
 
-  pub entries-drop : (m n : ℕ) (ws : List ℕ) → m ≤ n → drop m (entriesAt c n ws) ≡ entriesAt c (n - m) (drop (m * c .width) ws)
+  pub entries-drop : (m n : ℕ) (ws : List ℕ) → m ≤ n
+      → drop m (entriesAt c n ws) ≡ entriesAt c (n - m) (drop (m * c .width) ws)
   entries-drop m n ws h =
       let e : n ≡ m + (n - m) = omega arith in
       ap (λ (k : ℕ). drop m (entriesAt c k ws)) e
@@ -54,7 +58,8 @@ module _ {E : Type 0} (c : Code E) where
       → drop i (entriesAt c n ws) ≡ c .dec (take (c .width) (drop (i * c .width) ws)) ∷ drop (suc i) (entriesAt c n ws)
   unfolding entriesAt
   entries-cons i zero ws h = absurd (omega arith)
-  entries-cons zero (suc n) ws h = ap (λ (k : ℕ). c .dec (take (c .width) (drop k ws)) ∷ entriesAt c n (drop (c .width) ws)) (sym (zero-mul (c .width)))
+  entries-cons zero (suc n) ws h =
+      ap (λ (k : ℕ). c .dec (take (c .width) (drop k ws)) ∷ entriesAt c n (drop (c .width) ws)) (sym (zero-mul (c .width)))
   entries-cons (suc i) (suc n) ws h =
       let e : c .width + i * c .width ≡ suc i * c .width = omega (arith, suc-mul i (c .width)) in
       entries-cons i n (drop (c .width) ws) (omega arith)
@@ -71,7 +76,8 @@ module _ {E : Type 0} (c : Code E) where
       ∙ ap (λ (l : List E). c .dec (take (c .width) a) ∷ l)
       (ap (entriesAt c n) (drop-append-le (c .width) a b (omega arith)) ∙ entries-front n (drop (c .width) a) b (simp length-drop (omega arith)))
 
-  pub entries-append : (m n : ℕ) (a b : List ℕ) → length a ≡ m * c .width → entriesAt c (m + n) (a ++ b) ≡ entriesAt c m a ++ entriesAt c n b
+  pub entries-append : (m n : ℕ) (a b : List ℕ) → length a ≡ m * c .width
+      → entriesAt c (m + n) (a ++ b) ≡ entriesAt c m a ++ entriesAt c n b
   entries-append m n a b h =
       entries-add m n (a ++ b)
       ∙ ap (λ (l : List E). l ++ entriesAt c n (drop (m * c .width) (a ++ b))) (entries-front m a b (omega arith))
@@ -104,11 +110,13 @@ module _ {E : Type 0} (c : Code E) where
         ∙ words-drop n es
 
     -- what some sound entries' words are, whatever stands after them
-    pub entries-words : (es : List E) (rest : List ℕ) → allOf (c .sound) es ≡ true → entriesAt c (length es) (wordsOf c es ++ rest) ≡ es
+    pub entries-words : (es : List E) (rest : List ℕ) → allOf (c .sound) es ≡ true
+        → entriesAt c (length es) (wordsOf c es ++ rest) ≡ es
     unfolding wordsOf entriesAt
     entries-words [] rest fine = refl
     entries-words (e ∷ es) rest fine =
-        let s : c .enc e ++ wordsOf c es ++ rest ≡ c .enc e ++ (wordsOf c es ++ rest) = append-assoc (c .enc e) (wordsOf c es) rest in
+        let s : c .enc e ++ wordsOf c es ++ rest
+        ≡ c .enc e ++ (wordsOf c es ++ rest) = append-assoc (c .enc e) (wordsOf c es) rest in
         ap (λ (l : List ℕ). c .dec (take (c .width) l) ∷ entriesAt c (length es) (drop (c .width) l)) s
         ∙ ap (λ (l : List ℕ). c .dec l ∷ entriesAt c (length es) (drop (c .width) (c .enc e ++ (wordsOf c es ++ rest))))
         (take-at (c .enc e) (wordsOf c es ++ rest) (c .width) (ok .long e))
@@ -118,7 +126,8 @@ module _ {E : Type 0} (c : Code E) where
         ∙ ap (λ (l : List E). e ∷ l) (entries-words es rest (all-tail (c .sound) e es fine))
 
     -- the words of the entries at the front are the words at the front
-    pub words-entries : (n : ℕ) (ws : List ℕ) → n * c .width ≤ length ws → wordsOf c (entriesAt c n ws) ≡ take (n * c .width) ws
+    pub words-entries : (n : ℕ) (ws : List ℕ) → n * c .width ≤ length ws
+        → wordsOf c (entriesAt c n ws) ≡ take (n * c .width) ws
     unfolding wordsOf entriesAt
     words-entries zero ws h = ap (λ (k : ℕ). take k ws) (sym (zero-mul (c .width)))
     words-entries (suc n) ws h =
@@ -140,7 +149,8 @@ module _ {E : Type 0} (c : Code E) where
         ∙ sym (words-append (take at es) (new ++ drop (at + cut) es) ∙ ap (λ (l : List ℕ). wordsOf c (take at es) ++ l) (words-append new (drop (at + cut) es)))
 
     -- what a slice that is laid out holds
-    pub entries-laid : (n : ℕ) (es : List E) → allOf (c .sound) es ≡ true → entriesAt c (length es) (laidOut c n es) ≡ es
+    pub entries-laid : (n : ℕ) (es : List E) → allOf (c .sound) es ≡ true
+        → entriesAt c (length es) (laidOut c n es) ≡ es
     unfolding laid
     entries-laid n es fine = entries-words es (replicate (n - length (wordsOf c es)) 0) fine
 
@@ -151,14 +161,16 @@ module _ {E : Type 0} (c : Code E) where
 
     -- what `splice` leaves of the n entries at the front of ws, where whole entries are cut and new ones put in
     pub spliced-laid : (n at cut : ℕ) (ws new : List ℕ) (es : List E) → n * c .width ≤ length ws → new ≡ wordsOf c es
-        → laid (length ws) (spliced (at * c .width) (cut * c .width) new (take (n * c .width) ws)) ≡ laidOut c (length ws) (spliced at cut es (entriesAt c n ws))
+        → laid (length ws) (spliced (at * c .width) (cut * c .width) new (take (n * c .width) ws))
+        ≡ laidOut c (length ws) (spliced at cut es (entriesAt c n ws))
     spliced-laid n at cut ws new es h e =
         ap (λ (l : List ℕ). laid (length ws) (spliced (at * c .width) (cut * c .width) l (take (n * c .width) ws))) e
         ∙ ap (λ (l : List ℕ). laid (length ws) (spliced (at * c .width) (cut * c .width) (wordsOf c es) l)) (sym (words-entries n ws h))
         ∙ ap (λ (l : List ℕ). laid (length ws) l) (words-spliced at cut es (entriesAt c n ws))
 
     -- two runs laid out one after the other are read back, each by its number
-    pub entries-first : (n : ℕ) (r b : List E) → allOf (c .sound) r ≡ true → entriesAt c (length r) (laidOut c n (r ++ b)) ≡ r
+    pub entries-first : (n : ℕ) (r b : List E) → allOf (c .sound) r ≡ true
+        → entriesAt c (length r) (laidOut c n (r ++ b)) ≡ r
     unfolding laid
     entries-first n r b fine =
         let z : List ℕ = replicate (n - length (wordsOf c (r ++ b))) 0 in
@@ -166,7 +178,8 @@ module _ {E : Type 0} (c : Code E) where
         ∙ ap (λ (l : List ℕ). entriesAt c (length r) l) (append-assoc (wordsOf c r) (wordsOf c b) z)
         ∙ entries-words r (wordsOf c b ++ z) fine
 
-    pub entries-second : (n : ℕ) (r b : List E) → allOf (c .sound) b ≡ true → entriesAt c (length b) (drop (length r * c .width) (laidOut c n (r ++ b))) ≡ b
+    pub entries-second : (n : ℕ) (r b : List E) → allOf (c .sound) b ≡ true
+        → entriesAt c (length b) (drop (length r * c .width) (laidOut c n (r ++ b))) ≡ b
     unfolding laid
     entries-second n r b fine =
         let z : List ℕ = replicate (n - length (wordsOf c (r ++ b))) 0 in
@@ -197,7 +210,8 @@ module _ {A : Type 0} where
   spliced-trim n r b h = ap (λ (k : ℕ). drop k (r ++ b)) (zero-add n) ∙ drop-append-le n r b h
 
   -- from i to the end of the retained run r, the batch b stays
-  pub spliced-sync : (i : ℕ) (r b new : List A) → i ≤ length r → spliced i (length r - i) new (r ++ b) ≡ take i r ++ (new ++ b)
+  pub spliced-sync : (i : ℕ) (r b new : List A) → i ≤ length r
+      → spliced i (length r - i) new (r ++ b) ≡ take i r ++ (new ++ b)
   spliced-sync i r b new h =
       let q : i + (length r - i) ≡ length r = omega arith in
       ap (λ (l : List A). l ++ (new ++ drop (i + (length r - i)) (r ++ b))) (take-append-le i r b h)

@@ -30,7 +30,8 @@ take-paste-at d at s n hd =
     ap (λ (l : List ℕ). take at l) (append-assoc (take at d) (take n s) (drop (at + n) d))
     ∙ take-at (take at d) (take n s ++ drop (at + n) d) at (length-take-le at d hd)
 
-drop-paste-at : (d : List ℕ) (at : ℕ) (s : List ℕ) (n : ℕ) → at ≤ length d → drop at (paste d at s n) ≡ take n s ++ drop (at + n) d
+drop-paste-at : (d : List ℕ) (at : ℕ) (s : List ℕ) (n : ℕ) → at ≤ length d
+    → drop at (paste d at s n) ≡ take n s ++ drop (at + n) d
 drop-paste-at d at s n hd =
     ap (λ (l : List ℕ). drop at l) (append-assoc (take at d) (take n s) (drop (at + n) d))
     ∙ drop-at (take at d) (take n s ++ drop (at + n) d) at (length-take-le at d hd)
@@ -89,7 +90,8 @@ take-laid n ws = take-at ws (replicate (n - length ws) 0) (length ws) refl
 pub length-laid : (n : ℕ) (ws : List ℕ) → length ws ≤ n → length (laid n ws) ≡ n
 unfolding laid
 length-laid n ws h =
-    length-append ws (replicate (n - length ws) 0) ∙ ap (λ (m : ℕ). length ws + m) (length-replicate (n - length ws) 0) ∙ omega arith
+    length-append ws (replicate (n - length ws) 0) ∙ ap (λ (m : ℕ). length ws + m) (length-replicate (n - length ws) 0)
+    ∙ omega arith
 
 -- the turns of the three loops that move words, each with the slice as it stands
 pub down-turn : (d cur : List ℕ) (from to i : ℕ) → to ≤ from → from + i < length d → cur ≡ paste d to (drop from d) i
@@ -108,23 +110,27 @@ up-none d from to n =
 
 pub up-turn : (d cur : List ℕ) (from to n i : ℕ) → from ≤ to → 0 < i → i ≤ n → to + n ≤ length d
     → cur ≡ paste d (to + i) (drop (from + i) d) (n - i)
-    → set cur (to + (i - 1)) (getD cur (from + (i - 1)) 0) ≡ paste d (to + (i - 1)) (drop (from + (i - 1)) d) (n - (i - 1))
+    → set cur (to + (i - 1)) (getD cur (from + (i - 1)) 0)
+    ≡ paste d (to + (i - 1)) (drop (from + (i - 1)) d) (n - (i - 1))
 up-turn d cur from to n i hf hi hn hd e =
     let j = i - 1 in
     let ei : i ≡ j + 1 = omega arith in
-    let e′ : cur ≡ paste d (to + (j + 1)) (drop (from + (j + 1)) d) (n - (j + 1)) = e ∙ ap (λ (m : ℕ). paste d (to + m) (drop (from + m) d) (n - m)) ei in
+    let e′ : cur ≡ paste d (to + (j + 1)) (drop (from + (j + 1)) d) (n - (j + 1)) = e
+    ∙ ap (λ (m : ℕ). paste d (to + m) (drop (from + m) d) (n - m)) ei in
     rw e′ (ap (λ (v : ℕ). set (paste d (to + (j + 1)) (drop (from + (j + 1)) d) (n - (j + 1))) (to + j) v)
     (paste-below d (to + (j + 1)) (drop (from + (j + 1)) d) (n - (j + 1)) (from + j) (omega arith) (omega arith))
     ∙ move-more d from to n j hf (omega arith) hd)
 
-pub up-done : (d cur : List ℕ) (from to n i : ℕ) → i ≤ 0 → cur ≡ paste d (to + i) (drop (from + i) d) (n - i) → cur ≡ paste d to (drop from d) n
+pub up-done : (d cur : List ℕ) (from to n i : ℕ) → i ≤ 0 → cur ≡ paste d (to + i) (drop (from + i) d) (n - i)
+    → cur ≡ paste d to (drop from d) n
 up-done d cur from to n i h e =
     let e₁ : to + i ≡ to = omega arith in
     let e₂ : from + i ≡ from = omega arith in
     let e₃ : n - i ≡ n = omega arith in
     rw (← e₁, ← e₂, ← e₃) e
 
-pub clear-turn : (d cur : List ℕ) (from to i : ℕ) → from ≤ i → i < to → to ≤ length d → cur ≡ paste d from (replicate (to - from) 0) (i - from)
+pub clear-turn : (d cur : List ℕ) (from to i : ℕ) → from ≤ i → i < to → to ≤ length d
+    → cur ≡ paste d from (replicate (to - from) 0) (i - from)
     → set cur i 0 ≡ paste d from (replicate (to - from) 0) ((i + 1) - from)
 clear-turn d cur from to i h k hd e =
     let j = i - from in
@@ -150,7 +156,8 @@ drop-take (suc i) (suc j) [] = sym (take-nil (suc j - suc i))
 drop-take (suc i) (suc j) (x ∷ xs) = drop-take i j xs ∙ ap (λ (k : ℕ). take k (drop i xs)) (sym (suc-sub-suc j i))
 
 -- zeros, and zeros after them
-pub laid-twice : (n z : ℕ) (ws : List ℕ) → length ws + z ≤ n → ws ++ replicate z 0 ++ replicate (n - (length ws + z)) 0 ≡ laid n ws
+pub laid-twice : (n z : ℕ) (ws : List ℕ) → length ws + z ≤ n
+    → ws ++ replicate z 0 ++ replicate (n - (length ws + z)) 0 ≡ laid n ws
 unfolding laid
 laid-twice n z ws h =
     let e : z + (n - (length ws + z)) ≡ n - length ws = omega arith in
@@ -188,7 +195,8 @@ module _ (d ins L₁ L₂ L₃ : List ℕ) (used at cut : ℕ)
         ∙ sym (append-assoc (take at d ++ ins) tail rest)
         ∙ ap (λ (l : List ℕ). l ++ rest) (append-assoc (take at d) ins tail)
 
-    splice-long : length (take at d ++ (ins ++ take (used - (at + cut)) (drop (at + cut) d))) ≡ at + length ins + (used - (at + cut))
+    splice-long : length (take at d ++ (ins ++ take (used - (at + cut)) (drop (at + cut) d)))
+        ≡ at + length ins + (used - (at + cut))
     splice-long = simp (length-append, length-take, length-drop) (omega arith)
 
     splice-zero : at + length ins + (used - (at + cut)) ≤ length d

@@ -54,6 +54,7 @@ or-right true b e = absurd (true≢false e)
 or-right false b e = e
 
 -- one of two, by a test
-pub either : {A : Type 0} (P : A → Type 0) (t : Bool) (x y : A) → (t ≡ true → P x) → (t ≡ false → P y) → P (if t then x else y)
+pub either : {A : Type 0} (P : A → Type 0) (t : Bool) (x y : A) → (t ≡ true → P x) → (t ≡ false → P y)
+    → P (if t then x else y)
 either P true x y p q = p refl
 either P false x y p q = q refl

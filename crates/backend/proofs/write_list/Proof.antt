@@ -33,13 +33,16 @@ returns : tie.Need-returns
 returns c =
     let st = c .before .before .before .before .before .before .before .before in
     let a = st .args in
-    ill-formed (write (lentAt st) (opsIn (a .list))) (wholeList (a .lent) (now (a .entries)) (now (a .incoming)) (a .list)) (stateAt st) (sym (c .before .well-formed .ensures) ∙ not-true _ (c .if1 .taken))
+    ill-formed (write (lentAt st) (opsIn (a .list)))
+    (wholeList (a .lent) (now (a .entries)) (now (a .incoming)) (a .list)) (stateAt st)
+    (sym (c .before .well-formed .ensures) ∙ not-true _ (c .if1 .taken))
 
 returns-2 : tie.Need-returns-2
 returns-2 c =
     let e = c .before .before in
     let a = startOf e .args in
-    request-refused (a .lent) (now (a .entries)) (now (a .incoming)) (a .list) (stateAt (startOf e)) (okay e) (sym (c .before .request-formed .ensures) ∙ not-true _ (c .if2 .taken))
+    request-refused (a .lent) (now (a .entries)) (now (a .incoming)) (a .list) (stateAt (startOf e)) (okay e)
+    (sym (c .before .request-formed .ensures) ∙ not-true _ (c .if2 .taken))
 
 write-at-requires : tie.Need-write-at-requires
 write-at-requires c κs =

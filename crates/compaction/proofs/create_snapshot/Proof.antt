@@ -1,4 +1,5 @@
--- `compaction::create_snapshot` meets its contract: refusals 12 and 11, or what a creation from a well-formed log comes to.
+-- `compaction::create_snapshot` meets its contract: refusals 12 and 11, or what a creation from a well-formed log comes
+-- to.
 use mathlib.Core.Path.{_≡_, sym, ap, _∙_}
 use mathlib.Core.Bool.{Bool, true}
 use borrow.Author.Tests.{not-true, not-false, eqb-true}
@@ -28,13 +29,16 @@ okay e = sym (e .before .well-formed .ensures) ∙ not-false _ (e .if1 .left)
 returns : tie.Need-returns
 returns c =
     let st = c .before .before .before .before .before in
-    create-ill-formed (stateAt st) (st .args .idx .0) (now (st .args .out)) (eqb (length (now (st .args .out))) snapshotWords) (sym (c .before .well-formed .ensures) ∙ not-true _ (c .if1 .taken))
+    create-ill-formed (stateAt st) (st .args .idx .0) (now (st .args .out))
+    (eqb (length (now (st .args .out))) snapshotWords)
+    (sym (c .before .well-formed .ensures) ∙ not-true _ (c .if1 .taken))
 
 returns-2 : tie.Need-returns-2
 returns-2 c =
     let e = c .before in
     let st = startOf e in
-    create-malformed (stateAt st) (st .args .idx .0) (now (st .args .out)) (okay e) (eqb (length (now (st .args .out))) snapshotWords) (not-true _ (c .if2 .taken))
+    create-malformed (stateAt st) (st .args .idx .0) (now (st .args .out)) (okay e)
+    (eqb (length (now (st .args .out))) snapshotWords) (not-true _ (c .if2 .taken))
 
 create-at-requires : tie.Need-create-at-requires
 create-at-requires c κs =

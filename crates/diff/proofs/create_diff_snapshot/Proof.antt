@@ -25,13 +25,16 @@ okay e = sym (e .before .well-formed .ensures) ∙ not-false _ (e .if1 .left)
 returns : tie.Need-returns
 returns c =
     let st = c .before .before .before .before .before in
-    diff-ill-formed (stateAt st) (st .args .from .0) (now (st .args .out)) (eqb (length (now (st .args .out))) snapshotWords) (sym (c .before .well-formed .ensures) ∙ not-true _ (c .if1 .taken))
+    diff-ill-formed (stateAt st) (st .args .from .0) (now (st .args .out))
+    (eqb (length (now (st .args .out))) snapshotWords)
+    (sym (c .before .well-formed .ensures) ∙ not-true _ (c .if1 .taken))
 
 returns-2 : tie.Need-returns-2
 returns-2 c =
     let e = c .before in
     let st = startOf e in
-    diff-malformed (stateAt st) (st .args .from .0) (now (st .args .out)) (okay e) (eqb (length (now (st .args .out))) snapshotWords) (not-true _ (c .if2 .taken))
+    diff-malformed (stateAt st) (st .args .from .0) (now (st .args .out)) (okay e)
+    (eqb (length (now (st .args .out))) snapshotWords) (not-true _ (c .if2 .taken))
 
 diff-at-requires : tie.Need-diff-at-requires
 diff-at-requires c κs =
@@ -44,7 +47,9 @@ returns-3 c =
     let m = c .before .before in
     let f = m .before .before in
     let st = startOf (f .before) in
-    told-whole (stateAt st) (st .args .from .0) (now (st .args .out)) (m .diff-at .result) (m .diff-at .last .1 .1 .1 .1 .0) (eqb (length (now (st .args .out))) snapshotWords) (not-false _ (f .if2 .left)) (m .diff-at .ensures)
+    told-whole (stateAt st) (st .args .from .0) (now (st .args .out)) (m .diff-at .result)
+    (m .diff-at .last .1 .1 .1 .1 .0) (eqb (length (now (st .args .out))) snapshotWords)
+    (not-false _ (f .if2 .left)) (m .diff-at .ensures)
 
 pub create-diff-snapshot-spec : {M : Type 1} → statement M
 create-diff-snapshot-spec =

@@ -13,7 +13,8 @@ use Rattle.reading.proofs.get_entries_reply.Tie as tie
 returns : tie.Need-returns
 returns c =
     let a = c .before .before .before .before .args in
-    ill-formed-answer (getEntries (a .from .0) (a .to .0)) (raw (a .index) (now (a .log)) (now (a .snapshot))) (sym (c .before .well-formed .ensures) ∙ not-true _ (c .if1 .taken))
+    ill-formed-answer (getEntries (a .from .0) (a .to .0)) (raw (a .index) (now (a .log)) (now (a .snapshot)))
+    (sym (c .before .well-formed .ensures) ∙ not-true _ (c .if1 .taken))
 
 get-entries-reply-requires : tie.Need-get-entries-reply-requires
 get-entries-reply-requires c κs = ready-of _ (sym (c .before .well-formed .ensures) ∙ not-false _ (c .if1 .left))

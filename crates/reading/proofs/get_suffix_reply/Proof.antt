@@ -13,7 +13,8 @@ use Rattle.reading.proofs.get_suffix_reply.Tie as tie
 returns : tie.Need-returns
 returns c =
     let a = c .before .before .before .before .args in
-    ill-formed-answer (getSuffix (a .from .0)) (raw (a .index) (now (a .log)) (now (a .snapshot))) (sym (c .before .well-formed .ensures) ∙ not-true _ (c .if1 .taken))
+    ill-formed-answer (getSuffix (a .from .0)) (raw (a .index) (now (a .log)) (now (a .snapshot)))
+    (sym (c .before .well-formed .ensures) ∙ not-true _ (c .if1 .taken))
 
 get-suffix-reply-requires : tie.Need-get-suffix-reply-requires
 get-suffix-reply-requires c κs = ready-of _ (sym (c .before .well-formed .ensures) ∙ not-false _ (c .if1 .left))

@@ -13,7 +13,8 @@ use Rattle.reading.proofs.lookup.Tie as tie
 returns : tie.Need-returns
 returns c =
     let a = c .before .before .before .before .args in
-    ill-formed-answer (lookup (a .key)) (raw (a .index) (now (a .log)) (now (a .snapshot))) (sym (c .before .well-formed .ensures) ∙ not-true _ (c .if1 .taken))
+    ill-formed-answer (lookup (a .key)) (raw (a .index) (now (a .log)) (now (a .snapshot)))
+    (sym (c .before .well-formed .ensures) ∙ not-true _ (c .if1 .taken))
 
 look-requires : tie.Need-look-requires
 look-requires c κs = ready-of _ (sym (c .before .well-formed .ensures) ∙ not-false _ (c .if1 .left))

@@ -13,10 +13,12 @@ use Rattle.reading.proofs.read_decided_suffix_reply.Tie as tie
 returns : tie.Need-returns
 returns c =
     let a = c .before .before .before .before .args in
-    ill-formed-answer (readDecided (a .from .0)) (raw (a .index) (now (a .log)) (now (a .snapshot))) (sym (c .before .well-formed .ensures) ∙ not-true _ (c .if1 .taken))
+    ill-formed-answer (readDecided (a .from .0)) (raw (a .index) (now (a .log)) (now (a .snapshot)))
+    (sym (c .before .well-formed .ensures) ∙ not-true _ (c .if1 .taken))
 
 read-decided-suffix-reply-requires : tie.Need-read-decided-suffix-reply-requires
-read-decided-suffix-reply-requires c κs = ready-of _ (sym (c .before .well-formed .ensures) ∙ not-false _ (c .if1 .left))
+read-decided-suffix-reply-requires c κs =
+    ready-of _ (sym (c .before .well-formed .ensures) ∙ not-false _ (c .if1 .left))
 
 returns-2 : tie.Need-returns-2
 returns-2 c = search needs

@@ -14,7 +14,8 @@ use Rattle.reading.proofs.read_reply.Tie as tie
 returns : tie.Need-returns
 returns c =
     let a = c .before .before .before .before .args in
-    ill-formed-answer (read (boundOf (a .from)) (boundOf (a .to))) (raw (a .index) (now (a .log)) (now (a .snapshot))) (sym (c .before .well-formed .ensures) ∙ not-true _ (c .if1 .taken))
+    ill-formed-answer (read (boundOf (a .from)) (boundOf (a .to))) (raw (a .index) (now (a .log)) (now (a .snapshot)))
+    (sym (c .before .well-formed .ensures) ∙ not-true _ (c .if1 .taken))
 
 read-reply-requires : tie.Need-read-reply-requires
 read-reply-requires c κs = ready-of _ (sym (c .before .well-formed .ensures) ∙ not-false _ (c .if1 .left))

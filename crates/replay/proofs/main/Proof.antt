@@ -1,4 +1,5 @@
--- `replay::main` is safe and ends, and keeps where the program stands: at each turn some input has come, and its lines have been answered from a
+-- `replay::main` is safe and ends, and keeps where the program stands: at each turn some input has come, and its lines
+-- have been answered from a
 -- fresh log of batch size 0 on. The measure is the number of turns left.
 use Prim.Native.Nat.{ℕ, _≤_}
 use mathlib.Core.List.{List, [], _++_}

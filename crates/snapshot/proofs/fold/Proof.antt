@@ -31,7 +31,8 @@ returns-2 : tie.Need-returns-2
 returns-2 c =
     let e = c .before .before .before .before .before .before in
     let st = e .before .before .before .before in
-    c .before .before .before .fold-out .ensures ∙ fold-stands (now (st .args .entries)) (now (st .args .out)) (tested (e .before) true (not-false _ (e .if1 .left)))
+    c .before .before .before .fold-out .ensures
+    ∙ fold-stands (now (st .args .entries)) (now (st .args .out)) (tested (e .before) true (not-false _ (e .if1 .left)))
 
 pub fold-spec : {M : Type 1} → statement M
 fold-spec =

@@ -19,7 +19,8 @@ returns c = rw (sym (c .before .laid-out .ensures) ∙ not-true _ (c .if1 .taken
 keys-ascend-requires : tie.Need-keys-ascend-requires
 keys-ascend-requires c κs =
     let st = c .before .before .before in
-    let ok : storedIn snapshotWords (st .args .keys) (now (st .args .s)) ≡ true = sym (c .before .laid-out .ensures) ∙ not-false _ (c .if1 .left) in
+    let ok : storedIn snapshotWords (st .args .keys) (now (st .args .s)) ≡ true = sym (c .before .laid-out .ensures)
+    ∙ not-false _ (c .if1 .left) in
     let l = laid-of snapshotWords (st .args .keys) (now (st .args .s)) ok in
     omega (arith, l .fits, l .long)
 

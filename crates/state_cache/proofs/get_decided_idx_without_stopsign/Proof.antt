@@ -1,4 +1,5 @@
--- `state_cache::get_decided_idx_without_stopsign` meets its contract: refusal 12, or the decided index without the stop-sign.
+-- `state_cache::get_decided_idx_without_stopsign` meets its contract: refusal 12, or the decided index without the
+-- stop-sign.
 use mathlib.Core.Path.{_≡_, sym, _∙_}
 use mathlib.Core.Bool.{true}
 use borrow.Author.Tests.{not-true, not-false}

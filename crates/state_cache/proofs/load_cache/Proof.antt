@@ -14,13 +14,15 @@ use Rattle.state_cache.proofs.load_cache.Tie as tie
 returns : tie.Need-returns
 returns c =
     let st = c .before .before .before .before .before in
-    ill-formed reload true (raw (st .args .index) (now (st .args .log)) (now (st .args .snapshot))) (sym (c .before .well-formed .ensures) ∙ not-true _ (c .if1 .taken))
+    ill-formed reload true (raw (st .args .index) (now (st .args .log)) (now (st .args .snapshot)))
+    (sym (c .before .well-formed .ensures) ∙ not-true _ (c .if1 .taken))
 
 reload-requires : tie.Need-reload-requires
 reload-requires c κs =
     let e = c .before in
     let st = e .before .before .before .before .before in
-    ready-of (raw (st .args .index) (now (st .args .log)) (now (st .args .snapshot))) (sym (e .before .well-formed .ensures) ∙ not-false _ (e .if1 .left))
+    ready-of (raw (st .args .index) (now (st .args .log)) (now (st .args .snapshot)))
+    (sym (e .before .well-formed .ensures) ∙ not-false _ (e .if1 .left))
 
 returns-2 : tie.Need-returns-2
 returns-2 c = search needs

@@ -1,4 +1,5 @@
--- `sync::sync_log` meets its contract: refusals 12 and 11, then a sync without log part, or one with it, of a well-formed log.
+-- `sync::sync_log` meets its contract: refusals 12 and 11, then a sync without log part, or one with it, of a
+-- well-formed log.
 use mathlib.Core.Path.{_≡_, sym, ap, _∙_}
 use mathlib.Core.Bool.{Bool, true, false}
 use borrow.Author.Tests.{not-true, not-false}
@@ -27,10 +28,12 @@ firstOf f = f .before .before
 
 -- the request is in form, with its flag as it is then known
 asked : (f : tie.Else2) (held : Bool) → startOf (firstOf f) .args .held ≡ held
-    → requestFormed held (startOf (firstOf f) .args .log-sync) (now (startOf (firstOf f) .args .incoming)) (now (startOf (firstOf f) .args .suffix)) ≡ true
+    → requestFormed held (startOf (firstOf f) .args .log-sync) (now (startOf (firstOf f) .args .incoming))
+    (now (startOf (firstOf f) .args .suffix)) ≡ true
 asked f held q =
     let a = startOf (firstOf f) .args in
-    ap (λ (t : Bool). requestFormed t (a .log-sync) (now (a .incoming)) (now (a .suffix))) (sym q) ∙ sym (f .before .request-formed .ensures) ∙ not-false _ (f .if2 .left)
+    ap (λ (t : Bool). requestFormed t (a .log-sync) (now (a .incoming)) (now (a .suffix))) (sym q)
+    ∙ sym (f .before .request-formed .ensures) ∙ not-false _ (f .if2 .left)
 
 returns : tie.Need-returns
 returns c =
@@ -42,7 +45,8 @@ returns-2 : tie.Need-returns-2
 returns-2 c =
     let e = c .before .before in
     let a = startOf e .args in
-    ask-refused (stateAt (startOf e)) (okay e) (a .log-sync) (now (a .incoming)) (now (a .suffix)) (a .accepted-round) (a .decided-idx .0) (a .held) (sym (c .before .request-formed .ensures) ∙ not-true _ (c .if2 .taken))
+    ask-refused (stateAt (startOf e)) (okay e) (a .log-sync) (now (a .incoming)) (now (a .suffix)) (a .accepted-round)
+    (a .decided-idx .0) (a .held) (sym (c .before .request-formed .ensures) ∙ not-true _ (c .if2 .taken))
 
 round-at-requires : tie.Need-round-at-requires
 round-at-requires c κs =
@@ -55,7 +59,9 @@ returns-3 c =
     let f = h .before in
     let e = firstOf f in
     let a = startOf e .args in
-    ask-round (stateAt (startOf e)) (okay e) (a .log-sync) (now (a .incoming)) (now (a .suffix)) (a .accepted-round) (a .decided-idx .0) (a .held) (not-true _ (h .if3 .taken)) (asked f false (not-true _ (h .if3 .taken))) _ _ (c .round-at .ensures)
+    ask-round (stateAt (startOf e)) (okay e) (a .log-sync) (now (a .incoming)) (now (a .suffix)) (a .accepted-round)
+    (a .decided-idx .0) (a .held) (not-true _ (h .if3 .taken)) (asked f false (not-true _ (h .if3 .taken))) _ _
+    (c .round-at .ensures)
 
 sync-at-requires : tie.Need-sync-at-requires
 sync-at-requires c κs =
@@ -63,7 +69,8 @@ sync-at-requires c κs =
     let f = h .before in
     let e = firstOf f in
     let a = startOf e .args in
-    ask-syncs (stateAt (startOf e)) (okay e) (a .log-sync) (now (a .incoming)) (now (a .suffix)) (a .accepted-round) (a .decided-idx .0) (asked f true (not-false _ (h .if3 .left)))
+    ask-syncs (stateAt (startOf e)) (okay e) (a .log-sync) (now (a .incoming)) (now (a .suffix)) (a .accepted-round)
+    (a .decided-idx .0) (asked f true (not-false _ (h .if3 .left)))
 
 returns-4 : tie.Need-returns-4
 returns-4 c =
@@ -73,7 +80,8 @@ returns-4 c =
     let e = firstOf f in
     let a = startOf e .args in
     m .sync-at .ensures
-    ∙ ask-synced (stateAt (startOf e)) (okay e) (a .log-sync) (now (a .incoming)) (now (a .suffix)) (a .accepted-round) (a .decided-idx .0) (a .held) (not-false _ (h .if3 .left)) (asked f true (not-false _ (h .if3 .left)))
+    ∙ ask-synced (stateAt (startOf e)) (okay e) (a .log-sync) (now (a .incoming)) (now (a .suffix)) (a .accepted-round)
+    (a .decided-idx .0) (a .held) (not-false _ (h .if3 .left)) (asked f true (not-false _ (h .if3 .left)))
 
 pub sync-log-spec : {M : Type 1} → statement M
 sync-log-spec =

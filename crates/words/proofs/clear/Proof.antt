@@ -9,7 +9,8 @@ use Rattle.words.proofs.clear.Statement.{statement}
 use Rattle.words.proofs.clear.Tie as tie
 
 abbrev Inv-loop : tie.InvT-loop
-Inv-loop s₀ from to i₀ s i = (from ≤ i) × (i - from ≤ to - from) × (s ≡ paste s₀ from (replicate (to - from) 0) (i - from)) × (length s ≡ length s₀)
+Inv-loop s₀ from to i₀ s i = (from ≤ i) × (i - from ≤ to - from)
+    × (s ≡ paste s₀ from (replicate (to - from) 0) (i - from)) × (length s ≡ length s₀)
 
 abbrev μ-loop : tie.MeasureT-loop
 μ-loop s₀ from to i₀ s i = to - i

@@ -1,4 +1,5 @@
--- `words::move_down` meets its contract: after i turns the first i words from `from` on stand at `to`, and what was not passed is as it was.
+-- `words::move_down` meets its contract: after i turns the first i words from `from` on stand at `to`, and what was not
+-- passed is as it was.
 use mathlib.Core.Path.{_≡_, ap, _∙_}
 use Prim.Native.Nat.{ℕ, _≤_, _-_}
 use native.Mathlib.Omega.{arith}

@@ -23,7 +23,8 @@ loop-again c =
     let a = s .before .args in (
       omega arith,
       (
-        up-turn (a .s .now) (s .loop .s) (a .from) (a .to) (a .n) (s .loop .i) (omega arith) (omega arith) (omega arith) (omega arith) (s .loop .inv .1 .0),
+        up-turn (a .s .now) (s .loop .s) (a .from) (a .to) (a .n) (s .loop .i) (omega arith) (omega arith) (omega arith)
+            (omega arith) (s .loop .inv .1 .0),
         simp length-set (omega arith),
       ),
     )

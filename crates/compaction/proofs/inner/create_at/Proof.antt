@@ -22,7 +22,8 @@ startOf e = e .before .before .before .before .before .before .before
 abbrev passedOf : tie.After-target → tie.Else1
 passedOf k = k .before .before .before .before
 
-within : (k : tie.After-target) → k .target .result ≤ startOf (passedOf k) .args .index .compacted .0 + startOf (passedOf k) .args .index .retained
+within : (k : tie.After-target)
+    → k .target .result ≤ startOf (passedOf k) .args .index .compacted .0 + startOf (passedOf k) .args .index .retained
 within k =
     let st = startOf (passedOf k) in
     omega (arith, k .target .ensures, target-in (stateAt st) (st .pre .0 .okay) (some (st .args .idx .0)))
@@ -36,7 +37,8 @@ returns-2 : tie.Need-returns-2
 returns-2 c =
     let e = c .before .before .before in
     let st = startOf e in
-    create-above (stateAt st) (st .args .idx .0) (now (st .args .out)) (st .pre .0 .okay) (e .if1 .left) (sym (c .before .past-decided .ensures) ∙ c .if2 .taken)
+    create-above (stateAt st) (st .args .idx .0) (now (st .args .out)) (st .pre .0 .okay) (e .if1 .left)
+    (sym (c .before .past-decided .ensures) ∙ c .if2 .taken)
 
 target-requires : tie.Need-target-requires
 target-requires c κs = sound-small _ (startOf (c .before .before .before) .pre .0 .numbers)
@@ -60,7 +62,9 @@ returns-3 c =
     let e = passedOf k in
     let st = startOf e in
     c .before .before .fold-aside .ensures
-    ∙ create-folds (stateAt st) (st .args .idx .0) (now (st .args .out)) (st .pre .0 .okay) (e .if1 .left) (sym (k .before .before .past-decided .ensures) ∙ k .before .if2 .left) (k .target .result) (k .target .ensures) (within k)
+    ∙ create-folds (stateAt st) (st .args .idx .0) (now (st .args .out)) (st .pre .0 .okay) (e .if1 .left)
+    (sym (k .before .before .past-decided .ensures) ∙ k .before .if2 .left) (k .target .result) (k .target .ensures)
+    (within k)
 
 pub create-at-spec : {M : Type 1} → statement M
 create-at-spec =

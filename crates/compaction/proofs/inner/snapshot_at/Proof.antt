@@ -1,4 +1,5 @@
--- `compaction::inner::snapshot_at` meets its contract: by what becomes of the run's start, and by what the fold came to.
+-- `compaction::inner::snapshot_at` meets its contract: by what becomes of the run's start, and by what the fold came
+-- to.
 use mathlib.Core.Path.{refl}
 use denote.Ref.{now}
 use native.Mathlib.Omega.{arith}
@@ -24,7 +25,8 @@ startOf k = k .before .before .before .before .before .before
 abbrev told : tie.After-fold-over → tie.After-known-told2
 told f = f .before .before .before .before .before
 
-up : (k : tie.After-known-told2) → Up (uptoOf (startOf k .args .upto)) (startOf k .args .index) (k .before .way2 .given .0 .0)
+up : (k : tie.After-known-told2)
+    → Up (uptoOf (startOf k .args .upto)) (startOf k .args .index) (k .before .way2 .given .0 .0)
 up k = rw (k .before .way2 .given .1) at (k .before .before .before .reach-of .ensures)
 
 reach-of-requires : tie.Need-reach-of-requires
@@ -38,7 +40,8 @@ unfolding entriesAt allOf
 fold-over-requires c κs =
     let k = c .before .before .before .before in
     let st = startOf k in (
-      fold-needs (stateAt st) (st .pre .okay) _ (in-run (stateAt st) (st .pre .okay) (uptoOf (st .args .upto)) _ (up k)) (now (st .args .snapshot)) (st .pre .snapshot .laid .long),
+      fold-needs (stateAt st) (st .pre .okay) _ (in-run (stateAt st) (st .pre .okay) (uptoOf (st .args .upto)) _ (up k))
+          (now (st .args .snapshot)) (st .pre .snapshot .laid .long),
       record { inside = omega arith; sound = refl },
     )
 
@@ -59,7 +62,8 @@ returns-2 c =
     let f = c .before .before .before .before .before in
     let k = told f in
     let st = startOf k in
-    snapshot-over (stateAt st) (st .pre .okay) (uptoOf (st .args .upto)) _ (up k) (f .fold-over .result) (f .fold-over .last .0) (f .fold-over .ensures) _ (c .before .folded .given .1)
+    snapshot-over (stateAt st) (st .pre .okay) (uptoOf (st .args .upto)) _ (up k) (f .fold-over .result)
+    (f .fold-over .last .0) (f .fold-over .ensures) _ (c .before .folded .given .1)
 
 returns-3 : tie.Need-returns-3
 returns-3 c =
@@ -68,7 +72,9 @@ returns-3 c =
     let f = g .before .before .before .before in
     let k = told f in
     let st = startOf k in
-    snapshot-moves (stateAt st) (st .pre .okay) (uptoOf (st .args .upto)) _ (up k) (f .fold-over .result) (f .fold-over .last .0) (f .fold-over .ensures) _ (g .folded2 .given .1) (m .move-to .result) (m .move-to .last .1 .0) (m .move-to .ensures)
+    snapshot-moves (stateAt st) (st .pre .okay) (uptoOf (st .args .upto)) _ (up k) (f .fold-over .result)
+    (f .fold-over .last .0) (f .fold-over .ensures) _ (g .folded2 .given .1) (m .move-to .result)
+    (m .move-to .last .1 .0) (m .move-to .ensures)
 
 pub snapshot-at-spec : {M : Type 1} → statement M
 snapshot-at-spec =

@@ -19,7 +19,8 @@ returns-2 : tie.Need-returns-2
 returns-2 c =
     let d = c .before .before .before .before in
     let n = numbersIn (d .before .args .index) in
-    rw (d .log-decided .ensures) at (c .least .ensures) ∙ sym (target-least _ n) ∙ ap (λ (u : Upto). target (uptoOf u) n) (sym (c .before .before .upto .given .1))
+    rw (d .log-decided .ensures) at (c .least .ensures) ∙ sym (target-least _ n)
+    ∙ ap (λ (u : Upto). target (uptoOf u) n) (sym (c .before .before .upto .given .1))
 
 pub target-spec : {M : Type 1} → statement M
 target-spec =

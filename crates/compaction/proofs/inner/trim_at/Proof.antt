@@ -15,7 +15,8 @@ stateAt c = raw (c .args .index) (now (c .args .log)) (now (c .args .snapshot))
 abbrev startOf : tie.After-known-told2 → tie.Start
 startOf k = k .before .before .before .before .before .before
 
-up : (k : tie.After-known-told2) → Up (some (startOf k .args .idx .0)) (startOf k .args .index) (k .before .way2 .given .0 .0)
+up : (k : tie.After-known-told2)
+    → Up (some (startOf k .args .idx .0)) (startOf k .args .index) (k .before .way2 .given .0 .0)
 up k = rw (k .before .way2 .given .1) at (k .before .before .before .reach-of .ensures)
 
 reach-of-requires : tie.Need-reach-of-requires

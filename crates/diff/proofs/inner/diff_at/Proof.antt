@@ -37,9 +37,11 @@ fold-part-requires c κs =
     let m = c .before in
     let k = knownOf m in
     let st = startOf k in (
-      part-inside (stateAt k) (st .pre .0 .okay) (st .args .from .0) (k .log-decided .result) (k .log-decided .ensures) (m .before .if1 .taken) (m .least .result) (m .least .ensures),
+      part-inside (stateAt k) (st .pre .0 .okay) (st .args .from .0) (k .log-decided .result) (k .log-decided .ensures)
+          (m .before .if1 .taken) (m .least .result) (m .least .ensures),
       (
-        part-shows (stateAt k) (st .pre .0 .okay) (st .args .from .0) (k .log-decided .result) (k .log-decided .ensures) (m .before .if1 .taken) (m .least .result) (m .least .ensures),
+        part-shows (stateAt k) (st .pre .0 .okay) (st .args .from .0) (k .log-decided .result) (k .log-decided .ensures)
+            (m .before .if1 .taken) (m .least .result) (m .least .ensures),
         st .pre .1,
       ),
     )
@@ -58,7 +60,8 @@ returns-2 c =
     let e = c .before .before in
     let k = e .before .before in
     let st = startOf k in
-    diff-nothing (stateAt k) (st .args .from .0) (now (st .args .out)) (st .pre .0 .okay) (k .log-decided .result) (k .log-decided .ensures) (e .if1 .left) (not-true _ (c .if2 .taken))
+    diff-nothing (stateAt k) (st .args .from .0) (now (st .args .out)) (st .pre .0 .okay) (k .log-decided .result)
+    (k .log-decided .ensures) (e .if1 .left) (not-true _ (c .if2 .taken))
 
 sub-fold-aside : tie.Need-sub-fold-aside
 sub-fold-aside c =
@@ -70,7 +73,8 @@ fold-aside-requires : tie.Need-fold-aside-requires
 fold-aside-requires c κs =
     let k = leftOf (c .before) in
     let st = startOf k in
-    fold-needs (stateAt k) (st .pre .0 .okay) (k .log-decided .result) (decided-high (numbersIn (st .args .index)) (st .pre .0 .numbers) (k .log-decided .result) (k .log-decided .ensures)) (now (st .args .out)) (st .pre .1)
+    fold-needs (stateAt k) (st .pre .0 .okay) (k .log-decided .result)
+    (decided-high (numbersIn (st .args .index)) (st .pre .0 .numbers) (k .log-decided .result) (k .log-decided .ensures)) (now (st .args .out)) (st .pre .1)
 
 returns-3 : tie.Need-returns-3
 returns-3 c =

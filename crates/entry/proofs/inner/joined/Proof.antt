@@ -1,4 +1,5 @@
--- `entry::inner::joined` meets its contract: where the `or` is below 2^48 each place passed is in form, so that only the rest is asked.
+-- `entry::inner::joined` meets its contract: where the `or` is below 2^48 each place passed is in form, so that only
+-- the rest is asked.
 use borrow.Author.Needs.{needs}
 use Prim.Native.Nat.{ℕ, _+_, _-_, _≤_, _<_, suc}
 use mathlib.Core.Path.{_≡_, ap, _∙_}
@@ -20,13 +21,15 @@ use Rattle.entry.proofs.inner.joined.Statement.{statement}
 use Rattle.entry.proofs.inner.joined.Tie as tie
 
 abbrev Inv-loop : tie.InvT-loop
-Inv-loop s n all₀ i₀ all i = (i ≤ n) × (all < places → entriesFormed (drop i (entriesOf n s)) ≡ true → entriesFormed (entriesOf n s) ≡ true)
+Inv-loop s n all₀ i₀ all i = (i ≤ n)
+    × (all < places → entriesFormed (drop i (entriesOf n s)) ≡ true → entriesFormed (entriesOf n s) ≡ true)
 
 abbrev μ-loop : tie.MeasureT-loop
 μ-loop s n all₀ i₀ all i = n - i
 
 -- one place more is in form
-turn : (i : ℕ) (x : Change) (l : List Change) → drop i l ≡ x ∷ drop (suc i) l → changeFormed x ≡ true → entriesFormed (drop (i + 1) l) ≡ true → entriesFormed (drop i l) ≡ true
+turn : (i : ℕ) (x : Change) (l : List Change) → drop i l ≡ x ∷ drop (suc i) l → changeFormed x ≡ true
+    → entriesFormed (drop (i + 1) l) ≡ true → entriesFormed (drop i l) ≡ true
 turn i x l e f g = ap entriesFormed e ∙ all-cons changeFormed x (drop (suc i) l) f (rw (← add-one i) g)
 
 none-left : (l : List Change) (i : ℕ) → length l ≤ i → entriesFormed (drop i l) ≡ true

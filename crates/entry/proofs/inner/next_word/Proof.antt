@@ -17,7 +17,8 @@ returns c =
 returns-2 : tie.Need-returns-2
 returns-2 c =
     let w = c .before .args .w in
-    λ h. sym (said-formed w) ∙ ap (λ (t : Bool). t || ltb w places) (ne-eqb w lastWord (c .if1 .left)) ∙ lt-ltb w places (omega (arith, h))
+    λ h. sym (said-formed w) ∙ ap (λ (t : Bool). t || ltb w places) (ne-eqb w lastWord (c .if1 .left))
+    ∙ lt-ltb w places (omega (arith, h))
 
 pub next-word-spec : {M : Type 1} → statement M
 next-word-spec = tie.close (tie.spec returns (λ c. omega arith) returns-2)

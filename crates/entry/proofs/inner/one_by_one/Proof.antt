@@ -30,14 +30,16 @@ loop-again c =
     let es = entriesOf (a .n) (now (a .s)) in (
       omega arith,
       ap (λ (t : Bool). l .loop .ok && t && entriesFormed (drop (l .loop .i + 1) es)) (c .place-formed .ensures)
-          ∙ all-turn changeFormed es (l .loop .i) (l .loop .ok) _ (l .loop .inv .1) (changeAt (now (a .s)) (l .loop .i)) (entry-cons (l .loop .i) (a .n) (now (a .s)) (omega arith)),
+          ∙ all-turn changeFormed es (l .loop .i) (l .loop .ok) _ (l .loop .inv .1) (changeAt (now (a .s)) (l .loop .i))
+          (entry-cons (l .loop .i) (a .n) (now (a .s)) (omega arith)),
     )
 
 returns : tie.Need-returns Inv-loop μ-loop
 returns c =
     let l = c .before in
     let a = l .before .before .args in
-    all-end changeFormed (entriesOf (a .n) (now (a .s))) (l .loop .i) (l .loop .ok) _ (l .loop .inv .1) (omega (arith, entries-length changeCode (a .n) (now (a .s))))
+    all-end changeFormed (entriesOf (a .n) (now (a .s))) (l .loop .i) (l .loop .ok) _ (l .loop .inv .1)
+    (omega (arith, entries-length changeCode (a .n) (now (a .s))))
 
 pub one-by-one-spec : {M : Type 1} → statement M
 one-by-one-spec =

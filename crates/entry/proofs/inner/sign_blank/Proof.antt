@@ -1,4 +1,5 @@
--- `entry::inner::sign_blank` meets its contract: each callee says its own test; the arrays' lengths are known by their types.
+-- `entry::inner::sign_blank` meets its contract: each callee says its own test; the arrays' lengths are known by their
+-- types.
 use mathlib.Core.Path.{_≡_}
 use lib.ListN.{length}
 use borrow.Author.Tests.{eq-eqb}

@@ -1,4 +1,5 @@
--- `entry::inner::zero_bytes_from` meets its contract: the bytes passed and those that are left are together what is asked.
+-- `entry::inner::zero_bytes_from` meets its contract: the bytes passed and those that are left are together what is
+-- asked.
 use native.Mathlib.Omega.{arith}
 use Prim.Native.Nat.{_-_}
 use mathlib.Core.Path.{_≡_, refl}

@@ -12,7 +12,8 @@ returns-2 : tie.Need-returns-2
 returns-2 c = cc
 
 returns-3 : tie.Need-returns-3
-returns-3 c = c .refuse .ensures ∙ sym (ap (λ a. plain maybeNumber (maybeIndexSaid a)) (c .before .before .answer2 .given .1))
+returns-3 c = c .refuse .ensures
+    ∙ sym (ap (λ a. plain maybeNumber (maybeIndexSaid a)) (c .before .before .answer2 .given .1))
 
 pub accepted-idx-said-spec : {M : Type 1} → statement M
 accepted-idx-said-spec =

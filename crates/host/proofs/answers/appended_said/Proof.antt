@@ -12,7 +12,8 @@ returns-2 : tie.Need-returns-2
 returns-2 c = cc
 
 returns-3 : tie.Need-returns-3
-returns-3 c = c .refuse .ensures ∙ sym (ap (λ a. plain maybeFlushed (appendSaid a)) (c .before .before .answer2 .given .1))
+returns-3 c = c .refuse .ensures
+    ∙ sym (ap (λ a. plain maybeFlushed (appendSaid a)) (c .before .before .answer2 .given .1))
 
 pub appended-said-spec : {M : Type 1} → statement M
 appended-said-spec =

@@ -10,7 +10,8 @@ use Rattle.host.proofs.showing.copy_out.Tie as tie
 returns : tie.Need-returns
 returns c =
     let a = c .before .before .before .before .before .before .before .args in
-    rw (le-leb (length (now (a .part))) (length (now (a .out))) (c .before .before .before .before .if1 .taken)) (ap (copied (length (now (a .part)))) (c .before .before .copy-in .ensures))
+    rw (le-leb (length (now (a .part))) (length (now (a .out))) (c .before .before .before .before .if1 .taken))
+    (ap (copied (length (now (a .part)))) (c .before .before .copy-in .ensures))
 
 returns-2 : tie.Need-returns-2
 returns-2 c =

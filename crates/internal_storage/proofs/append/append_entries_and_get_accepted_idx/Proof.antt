@@ -1,4 +1,5 @@
--- `internal_storage::append::append_entries_and_get_accepted_idx` meets its contract: refusal 12, or what the append to a well-formed log comes to.
+-- `internal_storage::append::append_entries_and_get_accepted_idx` meets its contract: refusal 12, or what the append to
+-- a well-formed log comes to.
 use mathlib.Core.Path.{ap, sym, _∙_}
 use borrow.Author.Tests.{not-true, not-false}
 use denote.Ref.{now}
@@ -21,7 +22,8 @@ append-entries-and-get-accepted-idx-requires : tie.Need-append-entries-and-get-a
 append-entries-and-get-accepted-idx-requires c κs =
     let e = c .before in
     let st = e .before .before .before .before .before .before in
-    ready-of (raw (st .args .index) (now (st .args .log)) (now (st .args .snapshot))) (sym (e .before .well-formed .ensures) ∙ not-false _ (e .if1 .left))
+    ready-of (raw (st .args .index) (now (st .args .log)) (now (st .args .snapshot)))
+    (sym (e .before .well-formed .ensures) ∙ not-false _ (e .if1 .left))
 
 returns-2 : tie.Need-returns-2
 returns-2 c = search needs

@@ -1,4 +1,5 @@
--- `internal_storage::append::append_entries_without_batching` meets its contract: refusal 12, or what the append to a well-formed log comes to.
+-- `internal_storage::append::append_entries_without_batching` meets its contract: refusal 12, or what the append to a
+-- well-formed log comes to.
 use mathlib.Core.Path.{sym, _∙_}
 use borrow.Author.Tests.{not-true, not-false}
 use denote.Ref.{now}
@@ -14,13 +15,16 @@ use Rattle.internal_storage.proofs.append.append_entries_without_batchi
 returns : tie.Need-returns
 returns c =
     let st = c .before .before .before .before .before .before in
-    ill-formed (appendNow (entriesIn (now (st .args .entries)))) (wholeIn (now (st .args .entries))) (raw (st .args .index) (now (st .args .log)) (now (st .args .snapshot))) (sym (c .before .well-formed .ensures) ∙ not-true _ (c .if1 .taken))
+    ill-formed (appendNow (entriesIn (now (st .args .entries)))) (wholeIn (now (st .args .entries)))
+    (raw (st .args .index) (now (st .args .log)) (now (st .args .snapshot)))
+    (sym (c .before .well-formed .ensures) ∙ not-true _ (c .if1 .taken))
 
 append-entries-without-batching-requires : tie.Need-append-entries-without-batching-requires
 append-entries-without-batching-requires c κs =
     let e = c .before in
     let st = e .before .before .before .before .before .before in
-    ready-of (raw (st .args .index) (now (st .args .log)) (now (st .args .snapshot))) (sym (e .before .well-formed .ensures) ∙ not-false _ (e .if1 .left))
+    ready-of (raw (st .args .index) (now (st .args .log)) (now (st .args .snapshot)))
+    (sym (e .before .well-formed .ensures) ∙ not-false _ (e .if1 .left))
 
 returns-2 : tie.Need-returns-2
 returns-2 c = search needs

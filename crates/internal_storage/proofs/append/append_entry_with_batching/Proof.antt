@@ -1,4 +1,5 @@
--- `internal_storage::append::append_entry_with_batching` meets its contract: refusal 12, or what the append to a well-formed log comes to.
+-- `internal_storage::append::append_entry_with_batching` meets its contract: refusal 12, or what the append to a
+-- well-formed log comes to.
 use mathlib.Core.Path.{sym, _∙_}
 use mathlib.Core.List.{[], _∷_}
 use mathlib.Core.Bool.{true}
@@ -16,13 +17,16 @@ use Rattle.internal_storage.proofs.append.append_entry_with_batching.Ti
 returns : tie.Need-returns
 returns c =
     let st = c .before .before .before .before .before in
-    ill-formed (append (record { key = st .args .key; said = saidIs (st .args .said) } ∷ [])) true (raw (st .args .index) (now (st .args .log)) (now (st .args .snapshot))) (sym (c .before .well-formed .ensures) ∙ not-true _ (c .if1 .taken))
+    ill-formed (append (record { key = st .args .key; said = saidIs (st .args .said) } ∷ [])) true
+    (raw (st .args .index) (now (st .args .log)) (now (st .args .snapshot)))
+    (sym (c .before .well-formed .ensures) ∙ not-true _ (c .if1 .taken))
 
 append-entry-with-batching-requires : tie.Need-append-entry-with-batching-requires
 append-entry-with-batching-requires c κs =
     let e = c .before in
     let st = e .before .before .before .before .before in
-    ready-of (raw (st .args .index) (now (st .args .log)) (now (st .args .snapshot))) (sym (e .before .well-formed .ensures) ∙ not-false _ (e .if1 .left))
+    ready-of (raw (st .args .index) (now (st .args .log)) (now (st .args .snapshot)))
+    (sym (e .before .well-formed .ensures) ∙ not-false _ (e .if1 .left))
 
 returns-2 : tie.Need-returns-2
 returns-2 c = search needs

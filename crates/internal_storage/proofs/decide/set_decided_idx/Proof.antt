@@ -1,4 +1,5 @@
--- `internal_storage::decide::set_decided_idx` meets its contract: refusal 12, or what the call on a well-formed log comes to.
+-- `internal_storage::decide::set_decided_idx` meets its contract: refusal 12, or what the call on a well-formed log
+-- comes to.
 use mathlib.Core.Path.{sym, _∙_}
 use mathlib.Core.Bool.{true}
 use borrow.Author.Tests.{not-true, not-false}
@@ -14,7 +15,8 @@ use Rattle.internal_storage.proofs.decide.set_decided_idx.Tie as tie
 returns : tie.Need-returns
 returns c =
     let st = c .before .before .before .before in
-    ill-formed (decide (st .args .idx .0)) true (raw (st .args .index) (now (st .args .log)) (now (st .args .snapshot))) (sym (c .before .well-formed .ensures) ∙ not-true _ (c .if1 .taken))
+    ill-formed (decide (st .args .idx .0)) true (raw (st .args .index) (now (st .args .log)) (now (st .args .snapshot)))
+    (sym (c .before .well-formed .ensures) ∙ not-true _ (c .if1 .taken))
 
 set-decided-idx-requires : tie.Need-set-decided-idx-requires
 set-decided-idx-requires c κs = ready-of _ (sym (c .before .well-formed .ensures) ∙ not-false _ (c .if1 .left))

@@ -1,4 +1,5 @@
--- `internal_storage::flush::flush_batch_and_get_entries` meets its contract: refusal 12, or what the flush of a well-formed log comes to.
+-- `internal_storage::flush::flush_batch_and_get_entries` meets its contract: refusal 12, or what the flush of a
+-- well-formed log comes to.
 use mathlib.Core.Path.{sym, _∙_}
 use mathlib.Core.Bool.{true}
 use borrow.Author.Tests.{not-true, not-false}
@@ -14,10 +15,12 @@ use Rattle.internal_storage.proofs.flush.flush_batch_and_get_entries.Ti
 returns : tie.Need-returns
 returns c =
     let st = c .before .before .before .before in
-    ill-formed flushEntries true (raw (st .args .index) (now (st .args .log)) (now (st .args .snapshot))) (sym (c .before .well-formed .ensures) ∙ not-true _ (c .if1 .taken))
+    ill-formed flushEntries true (raw (st .args .index) (now (st .args .log)) (now (st .args .snapshot)))
+    (sym (c .before .well-formed .ensures) ∙ not-true _ (c .if1 .taken))
 
 flush-batch-and-get-entries-requires : tie.Need-flush-batch-and-get-entries-requires
-flush-batch-and-get-entries-requires c κs = ready-of _ (sym (c .before .well-formed .ensures) ∙ not-false _ (c .if1 .left))
+flush-batch-and-get-entries-requires c κs =
+    ready-of _ (sym (c .before .well-formed .ensures) ∙ not-false _ (c .if1 .left))
 
 returns-2 : tie.Need-returns-2
 returns-2 c = search needs

@@ -17,17 +17,21 @@ abbrev stateAt : tie.Start → Raw
 stateAt c = raw (c .args .index) (now (c .args .log)) (now (c .args .snapshot))
 
 -- no refusal applies
-pass : (e : tie.After-enum-told) → passes ≡ first (appendGuards (e .before .before .before .before .before .before .args .n) (numbersIn (e .before .before .before .before .before .before .args .index)))
+pass : (e : tie.After-enum-told)
+    → passes ≡ first (appendGuards (e .before .before .before .before .before .before .args .n) (numbersIn (e .before .before .before .before .before .before .args .index)))
 pass e = ap verdictOf (sym (e .enum-told .given .1)) ∙ e .before .before .check-append .ensures
 
-room : (e : tie.After-enum-told) → e .before .before .before .before .before .before .args .index .retained + e .before .before .before .before .before .before .args .index .batched + e .before .before .before .before .before .before .args .n ≤ entryRoom
-room e = append-room (e .before .before .before .before .before .before .args .n) (numbersIn (e .before .before .before .before .before .before .args .index)) (pass e)
+room : (e : tie.After-enum-told)
+    → e .before .before .before .before .before .before .args .index .retained + e .before .before .before .before .before .before .args .index .batched + e .before .before .before .before .before .before .args .n ≤ entryRoom
+room e = append-room (e .before .before .before .before .before .before .args .n)
+    (numbersIn (e .before .before .before .before .before .before .args .index)) (pass e)
 
 returns : tie.Need-returns
 returns c =
     let k = c .before .before .before in
     let st = k .before .before .before .before in
-    append-refused (stateAt st) (st .pre .ready .okay) (st .args .n) (now (st .args .entries)) (st .pre .fine) _ _ (ap verdictOf (sym (c .before .check .given .1)) ∙ k .check-append .ensures)
+    append-refused (stateAt st) (st .pre .ready .okay) (st .args .n) (now (st .args .entries)) (st .pre .fine) _ _
+    (ap verdictOf (sym (c .before .check .given .1)) ∙ k .check-append .ensures)
 
 add-used : tie.Need-add-used
 add-used c = omega (arith, room (c .before))

@@ -18,17 +18,21 @@ abbrev stateAt : tie.Start → Raw
 stateAt c = raw (c .args .index) (now (c .args .log)) (now (c .args .snapshot))
 
 -- no refusal applies
-pass : (e : tie.After-enum-told) → passes ≡ first (appendGuards (e .before .before .before .before .before .before .args .n) (numbersIn (e .before .before .before .before .before .before .args .index)))
+pass : (e : tie.After-enum-told)
+    → passes ≡ first (appendGuards (e .before .before .before .before .before .before .args .n) (numbersIn (e .before .before .before .before .before .before .args .index)))
 pass e = ap verdictOf (sym (e .enum-told .given .1)) ∙ e .before .before .check-append .ensures
 
-room : (e : tie.After-enum-told) → e .before .before .before .before .before .before .args .index .retained + e .before .before .before .before .before .before .args .index .batched + e .before .before .before .before .before .before .args .n ≤ entryRoom
-room e = append-room (e .before .before .before .before .before .before .args .n) (numbersIn (e .before .before .before .before .before .before .args .index)) (pass e)
+room : (e : tie.After-enum-told)
+    → e .before .before .before .before .before .before .args .index .retained + e .before .before .before .before .before .before .args .index .batched + e .before .before .before .before .before .before .args .n ≤ entryRoom
+room e = append-room (e .before .before .before .before .before .before .args .n)
+    (numbersIn (e .before .before .before .before .before .before .args .index)) (pass e)
 
 returns : tie.Need-returns
 returns c =
     let k = c .before .before .before in
     let st = k .before .before .before .before in
-    now-refused (stateAt st) (st .pre .ready .okay) (st .args .n) (now (st .args .entries)) (st .pre .fine) _ _ (ap verdictOf (sym (c .before .check .given .1)) ∙ k .check-append .ensures)
+    now-refused (stateAt st) (st .pre .ready .okay) (st .args .n) (now (st .args .entries)) (st .pre .fine) _ _
+    (ap verdictOf (sym (c .before .check .given .1)) ∙ k .check-append .ensures)
 
 add-used : tie.Need-add-used
 add-used c = omega (arith, room (c .before))
@@ -60,7 +64,8 @@ returns-2 c =
     let p = c .before .before .before .before in
     let e = p .before .before .before .before in
     let st = e .before .before .before .before .before .before in
-    now-run (stateAt st) (st .pre .ready .okay) (st .args .n) (now (st .args .entries)) (p .splice .last .0) (st .pre .whole) (p .splice .ensures) (st .pre .fine) (pass e) (c .accepted .result) (c .accepted .ensures)
+    now-run (stateAt st) (st .pre .ready .okay) (st .args .n) (now (st .args .entries)) (p .splice .last .0)
+    (st .pre .whole) (p .splice .ensures) (st .pre .fine) (pass e) (c .accepted .result) (c .accepted .ensures)
 
 pub append-now-at-spec : {M : Type 1} → statement M
 append-now-at-spec =

@@ -20,7 +20,8 @@ returns : tie.Need-returns
 unfolding appendGuards
 returns c =
     let a = c .before .before .args in
-    found {gs = appendGuards (a .n) (numbersIn (a .index))} {v = refuses 4 (c .before .accepted .result)} (stopping (c .if1 .taken) (c .before .accepted .ensures))
+    found {gs = appendGuards (a .n) (numbersIn (a .index))} {v = refuses 4 (c .before .accepted .result)}
+    (stopping (c .if1 .taken) (c .before .accepted .ensures))
 
 add-if2 : tie.Need-add-if2
 add-if2 c = omega (arith, c .before .accepted .ensures, c .before .before .pre .inside)
@@ -33,8 +34,10 @@ unfolding appendGuards
 returns-2 c =
     let k = c .before .before in
     let st = k .before in
-    let h : lastIndex < acceptedOf (numbersIn (st .args .index)) + st .args .index .batched + st .args .n = omega (arith, k .accepted .ensures, st .pre .inside, c .if2 .taken) in
-    found {gs = appendGuards (st .args .n) (numbersIn (st .args .index))} {v = refuses 9 (k .accepted .result)} (passing (c .before .if1 .left) (stopping (lt-ltb _ _ h) (k .accepted .ensures)))
+    let h : lastIndex < acceptedOf (numbersIn (st .args .index)) + st .args .index .batched + st .args .n = omega
+    (arith, k .accepted .ensures, st .pre .inside, c .if2 .taken) in
+    found {gs = appendGuards (st .args .n) (numbersIn (st .args .index))} {v = refuses 9 (k .accepted .result)}
+    (passing (c .before .if1 .left) (stopping (lt-ltb _ _ h) (k .accepted .ensures)))
 
 add-if3 : tie.Need-add-if3
 add-if3 c = omega (arith, c .before .before .before .before .pre .room)
@@ -47,18 +50,22 @@ unfolding appendGuards
 returns-3 c =
     let k = c .before .before .before .before in
     let st = k .before in
-    let h : acceptedOf (numbersIn (st .args .index)) + st .args .index .batched + st .args .n ≤ lastIndex = omega (arith, k .accepted .ensures, st .pre .inside, c .before .before .if2 .left) in
+    let h : acceptedOf (numbersIn (st .args .index)) + st .args .index .batched + st .args .n ≤ lastIndex = omega
+    (arith, k .accepted .ensures, st .pre .inside, c .before .before .if2 .left) in
     let g : entryRoom < st .args .index .retained + st .args .index .batched + st .args .n = omega (arith, st .pre .room, c .if3 .taken) in
-    found {gs = appendGuards (st .args .n) (numbersIn (st .args .index))} {v = refuses 1 0} (passing (c .before .before .before .if1 .left) (passing (le-ltb _ _ h) (stopping (lt-ltb _ _ g) refl)))
+    found {gs = appendGuards (st .args .n) (numbersIn (st .args .index))} {v = refuses 1 0}
+    (passing (c .before .before .before .if1 .left) (passing (le-ltb _ _ h) (stopping (lt-ltb _ _ g) refl)))
 
 returns-4 : tie.Need-returns-4
 unfolding appendGuards
 returns-4 c =
     let k = c .before .before .before .before in
     let st = k .before in
-    let h : acceptedOf (numbersIn (st .args .index)) + st .args .index .batched + st .args .n ≤ lastIndex = omega (arith, k .accepted .ensures, st .pre .inside, c .before .before .if2 .left) in
+    let h : acceptedOf (numbersIn (st .args .index)) + st .args .index .batched + st .args .n ≤ lastIndex = omega
+    (arith, k .accepted .ensures, st .pre .inside, c .before .before .if2 .left) in
     let g : st .args .index .retained + st .args .index .batched + st .args .n ≤ entryRoom = omega (arith, st .pre .room, c .if3 .left) in
-    found {gs = appendGuards (st .args .n) (numbersIn (st .args .index))} {v = passes} (passing (c .before .before .before .if1 .left) (passing (le-ltb _ _ h) (passing (le-ltb _ _ g) clear-all)))
+    found {gs = appendGuards (st .args .n) (numbersIn (st .args .index))} {v = passes}
+    (passing (c .before .before .before .if1 .left) (passing (le-ltb _ _ h) (passing (le-ltb _ _ g) clear-all)))
 
 pub check-append-spec : {M : Type 1} → statement M
 check-append-spec =

@@ -19,7 +19,8 @@ returns c =
     let st = c .before .before .before .before in
     let a = st .args in
     let x = raw (a .index) (now (a .log)) (now (a .snapshot)) in
-    ap (spanSays (now (a .log))) (c .between .ensures) ∙ suffix-answer x (st .pre) (a .from .0) _ (c .before .end .ensures)
+    ap (spanSays (now (a .log))) (c .between .ensures)
+    ∙ suffix-answer x (st .pre) (a .from .0) _ (c .before .end .ensures)
 
 pub get-suffix-reply-spec : {M : Type 1} → statement M
 get-suffix-reply-spec = tie.close (tie.spec end-requires between-requires returns)

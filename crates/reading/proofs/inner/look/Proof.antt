@@ -37,7 +37,8 @@ newest-at-requires : tie.Need-newest-at-requires
 newest-at-requires c κs =
     let e = c .before in
     let st = e .before .before .before in
-    look-inside (raw (st .args .index) (now (st .args .log)) (now (st .args .snapshot))) (st .pre) (st .args .key) (e .log-decided .result) (e .log-decided .ensures)
+    look-inside (raw (st .args .index) (now (st .args .log)) (now (st .args .snapshot))) (st .pre) (st .args .key)
+    (e .log-decided .result) (e .log-decided .ensures)
 
 look-up-requires : tie.Need-look-up-requires
 look-up-requires c κs =
@@ -52,7 +53,8 @@ returns c =
     let n : NewestIs (st .args .key) (d .log-decided .result - st .args .index .compacted .0) (now (st .args .log)) Nowhere =
     rw (c .before .enum-told .given .1) at (e .newest-at .ensures) in
     c .look-up .ensures
-    ∙ look-snapshot (raw (st .args .index) (now (st .args .log)) (now (st .args .snapshot))) (st .pre) (st .args .key) (d .log-decided .result) (d .log-decided .ensures) (n .says)
+    ∙ look-snapshot (raw (st .args .index) (now (st .args .log)) (now (st .args .snapshot))) (st .pre) (st .args .key)
+    (d .log-decided .result) (d .log-decided .ensures) (n .says)
 
 said-at-requires : tie.Need-said-at-requires
 said-at-requires c κs =
@@ -67,7 +69,8 @@ returns-2 c =
     let st = d .before .before .before in
     c .found-of .ensures
     ∙ ap (λ (x : Said). replied (placeOf (some x))) (c .before .said-at .ensures)
-    ∙ look-said (raw (st .args .index) (now (st .args .log)) (now (st .args .snapshot))) (st .pre) (st .args .key) (d .log-decided .result) (d .log-decided .ensures) _ (newest-is e .says)
+    ∙ look-said (raw (st .args .index) (now (st .args .log)) (now (st .args .snapshot))) (st .pre) (st .args .key)
+    (d .log-decided .result) (d .log-decided .ensures) _ (newest-is e .says)
 
 pub look-spec : {M : Type 1} → statement M
 look-spec =

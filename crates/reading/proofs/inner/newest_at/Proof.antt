@@ -23,19 +23,23 @@ one e =
     let a = l .before .before .args in
     newest-back (a .n) (now (a .log)) (a .key) (l .loop .i) (l .loop .inv) (l .loop .i - 1) (omega arith) (e .if2 .left)
 
-two : (e : tie.Else3 Inv-loop μ-loop) → Still (e .before .before .before .before .before) (e .before .before .before .before .before .loop .i - 2)
+two : (e : tie.Else3 Inv-loop μ-loop)
+    → Still (e .before .before .before .before .before) (e .before .before .before .before .before .loop .i - 2)
 two e =
     let l = e .before .before .before .before .before in
     let a = l .before .before .args in
     newest-back (a .n) (now (a .log)) (a .key) (l .loop .i - 1) (one (e .before .before)) (l .loop .i - 2) (omega arith) (e .if3 .left)
 
-three : (e : tie.Else4 Inv-loop μ-loop) → Still (e .before .before .before .before .before .before .before) (e .before .before .before .before .before .before .before .loop .i - 3)
+three : (e : tie.Else4 Inv-loop μ-loop)
+    → Still (e .before .before .before .before .before .before .before) (e .before .before .before .before .before .before .before .loop .i - 3)
 three e =
     let l = e .before .before .before .before .before .before .before in
     let a = l .before .before .args in
     newest-back (a .n) (now (a .log)) (a .key) (l .loop .i - 2) (two (e .before .before)) (l .loop .i - 3) (omega arith) (e .if4 .left)
 
-four : (e : tie.Else5 Inv-loop μ-loop) → Still (e .before .before .before .before .before .before .before .before .before) (e .before .before .before .before .before .before .before .before .before .loop .i - 4)
+four : (e : tie.Else5 Inv-loop μ-loop)
+    → Still (e .before .before .before .before .before .before .before .before .before)
+    (e .before .before .before .before .before .before .before .before .before .loop .i - 4)
 four e =
     let l = e .before .before .before .before .before .before .before .before .before in
     let a = l .before .before .args in

@@ -14,7 +14,9 @@ use borrow.Author.Needs.{needs}
 use Rattle.reading.proofs.inner.read_at.Statement.{statement}
 use Rattle.reading.proofs.inner.read_at.Tie as tie
 
-held : (e : tie.After-known-told) → entryIs (numbersIn (e .before .before .before .before .before .args .index)) (e .before .before .before .before .before .args .to - 1) (e .before .kind .given .0 .0)
+held : (e : tie.After-known-told)
+    → entryIs (numbersIn (e .before .before .before .before .before .args .index))
+    (e .before .before .before .before .before .args .to - 1) (e .before .kind .given .0 .0)
 held e =
     let k = e .before .before .before in
     let a = k .before .before .args in
@@ -57,7 +59,8 @@ returns-3 c =
     let f = e .before .before .before .before in
     let a = f .before .args in
     let h : entryIs (numbersIn (a .index)) (a .to - 1) Compacted = rw (m .before .enum-told2 .given .1) at (held e) in
-    ap Run (c .no-entries .ensures ∙ ap runOfNone (m .compacted-marker .ensures)) ∙ case-marker (a .index) (a .from) (a .to) (f .if1 .left) h
+    ap Run (c .no-entries .ensures ∙ ap runOfNone (m .compacted-marker .ensures))
+    ∙ case-marker (a .index) (a .from) (a .to) (f .if1 .left) h
 
 returns-4 : tie.Need-returns-4
 returns-4 c = search needs

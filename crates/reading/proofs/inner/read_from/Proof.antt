@@ -11,7 +11,9 @@ use borrow.Author.Needs.{needs}
 use Rattle.reading.proofs.inner.read_from.Statement.{statement}
 use Rattle.reading.proofs.inner.read_from.Tie as tie
 
-held : (e : tie.After-known-told) → entryIs (numbersIn (e .before .before .before .before .args .index)) (e .before .before .before .before .args .from) (e .before .kind .given .0 .0)
+held : (e : tie.After-known-told)
+    → entryIs (numbersIn (e .before .before .before .before .args .index))
+    (e .before .before .before .before .args .from) (e .before .kind .given .0 .0)
 held e =
     let k = e .before .before .before in
     let a = k .before .args in
@@ -32,7 +34,9 @@ returns-2 c =
     let st = e .before .before .before .before in
     let a = st .args in
     ap Run (c .no-entries .ensures)
-    ∙ case-run (a .index) (a .from) (a .to) (st .pre .1 .0) (st .pre .1 .1) (held-below (numbersIn (a .index)) (a .from) (e .before .kind .given .0 .0) (held e)) true (le-leb _ _ (c .before .if1 .taken))
+    ∙ case-run (a .index) (a .from) (a .to) (st .pre .1 .0) (st .pre .1 .1)
+    (held-below (numbersIn (a .index)) (a .from) (e .before .kind .given .0 .0) (held e)) true
+    (le-leb _ _ (c .before .if1 .taken))
 
 run-of-requires : tie.Need-run-of-requires
 run-of-requires c κs = (c .before .before .before .before .before .pre .0, held (c .before))
@@ -43,7 +47,9 @@ returns-3 c =
     let st = e .before .before .before .before in
     let a = st .args in
     ap Run (c .run-of .ensures)
-    ∙ case-run (a .index) (a .from) (a .to) (st .pre .1 .0) (st .pre .1 .1) (held-below (numbersIn (a .index)) (a .from) (e .before .kind .given .0 .0) (held e)) false (lt-leb _ _ (c .before .if1 .left))
+    ∙ case-run (a .index) (a .from) (a .to) (st .pre .1 .0) (st .pre .1 .1)
+    (held-below (numbersIn (a .index)) (a .from) (e .before .kind .given .0 .0) (held e)) false
+    (lt-leb _ _ (c .before .if1 .left))
 
 pub read-from-spec : {M : Type 1} → statement M
 read-from-spec =

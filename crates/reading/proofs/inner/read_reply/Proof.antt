@@ -50,7 +50,8 @@ returns-2 c =
     let a = st .args in
     let x = raw (a .index) (now (a .log)) (now (a .snapshot)) in
     ap (readSaid x) (c .read-at .ensures)
-    ∙ read-answer x (st .pre) (boundOf (a .from)) (boundOf (a .to)) _ _ (l .accepted .result) (bounds (b .before) false (b .if1 .left)) (f .start-at .ensures) (s .stop-at .ensures) (l .accepted .ensures)
+    ∙ read-answer x (st .pre) (boundOf (a .from)) (boundOf (a .to)) _ _ (l .accepted .result)
+    (bounds (b .before) false (b .if1 .left)) (f .start-at .ensures) (s .stop-at .ensures) (l .accepted .ensures)
 
 pub read-reply-spec : {M : Type 1} → statement M
 read-reply-spec =

@@ -1,4 +1,5 @@
--- `reading::inner::stop_at` meets its contract: by the bound's case; the sum fits, since the bound is not the last word.
+-- `reading::inner::stop_at` meets its contract: by the bound's case; the sum fits, since the bound is not the last
+-- word.
 use native.Mathlib.Omega.{arith}
 use mathlib.Core.Path.{_≡_, sym, ap, _∙_}
 use mathlib.Core.Bool.{false}
@@ -15,7 +16,8 @@ use Rattle.reading.proofs.inner.stop_at.Tie as tie
 add-result : tie.Need-add-result
 add-result c =
     let k = c .before .before .b .given in
-    let e : eqb (k .0 .0 .0) lastWord ≡ false = sym (ap (λ (b : Bound). stopPast (boundOf b)) (k .1)) ∙ c .before .before .before .before .pre in
+    let e : eqb (k .0 .0 .0) lastWord ≡ false = sym (ap (λ (b : Bound). stopPast (boundOf b)) (k .1))
+    ∙ c .before .before .before .before .pre in
     omega (arith, eqb-false (k .0 .0 .0) lastWord e)
 
 returns : tie.Need-returns

@@ -14,7 +14,8 @@ returns : tie.Need-returns
 returns c = sym (ap (λ (x : IndexAnswer). acceptedText (indexSaid x)) (c .before .answer .given .1))
 
 returns-2 : tie.Need-returns-2
-returns-2 c = ap (λ (n : ℕ). lineOf (Refused n)) (c .number .ensures) ∙ sym (ap (λ (x : IndexAnswer). acceptedText (indexSaid x)) (c .before .before .answer2 .given .1))
+returns-2 c = ap (λ (n : ℕ). lineOf (Refused n)) (c .number .ensures)
+    ∙ sym (ap (λ (x : IndexAnswer). acceptedText (indexSaid x)) (c .before .before .answer2 .given .1))
 
 pub accepted-line-spec : {M : Type 1} → statement M
 accepted-line-spec =

@@ -17,7 +17,8 @@ returns-2 : tie.Need-returns-2
 returns-2 c = sym (ap (λ (x : Appended). appendedText (appendSaid x)) (c .before .answer .given .1))
 
 returns-3 : tie.Need-returns-3
-returns-3 c = ap (λ (n : ℕ). lineOf (Refused n)) (c .number .ensures) ∙ sym (ap (λ (x : Appended). appendedText (appendSaid x)) (c .before .before .answer2 .given .1))
+returns-3 c = ap (λ (n : ℕ). lineOf (Refused n)) (c .number .ensures)
+    ∙ sym (ap (λ (x : Appended). appendedText (appendSaid x)) (c .before .before .answer2 .given .1))
 
 pub appended-line-spec : {M : Type 1} → statement M
 appended-line-spec =

@@ -11,19 +11,22 @@ use Rattle.replay.proofs.answer.carry_out.Tie as tie
 returns : tie.Need-returns
 returns c =
     let a = c .before .before .before .before .before .before .before .before .before .before .before .before .args in
-    c .before .before .before .before .batch .ensures ∙ sym (ap (λ (x : Command). answering x (raw (a .index) (now (a .log)) (now (a .snapshot)))) (c .before .before .before .before .before .before .before .before .command .given .1))
+    c .before .before .before .before .batch .ensures
+    ∙ sym (ap (λ (x : Command). answering x (raw (a .index) (now (a .log)) (now (a .snapshot)))) (c .before .before .before .before .before .before .before .before .command .given .1))
 
 returns-2 : tie.Need-returns-2
 unfolding answering
 returns-2 c =
     let a = c .before .before .before .before .before .before .before .before .before .before .args in
-    c .before .before .append .ensures ∙ sym (ap (λ (x : Command). answering x (raw (a .index) (now (a .log)) (now (a .snapshot)))) (c .before .before .before .before .before .before .command2 .given .1))
+    c .before .before .append .ensures
+    ∙ sym (ap (λ (x : Command). answering x (raw (a .index) (now (a .log)) (now (a .snapshot)))) (c .before .before .before .before .before .before .command2 .given .1))
 
 returns-3 : tie.Need-returns-3
 unfolding answering
 returns-3 c =
     let a = c .before .before .before .before .before .before .before .before .before .before .args in
-    c .before .before .append2 .ensures ∙ sym (ap (λ (x : Command). answering x (raw (a .index) (now (a .log)) (now (a .snapshot)))) (c .before .before .before .before .before .before .command3 .given .1))
+    c .before .before .append2 .ensures
+    ∙ sym (ap (λ (x : Command). answering x (raw (a .index) (now (a .log)) (now (a .snapshot)))) (c .before .before .before .before .before .before .command3 .given .1))
 
 returns-4 : tie.Need-returns-4
 returns-4 c =
@@ -43,7 +46,8 @@ returns-6 c =
 returns-7 : tie.Need-returns-7
 returns-7 c =
     let a = c .before .before .before .before .before .before .before .before .before .before .before .before .args in
-    c .before .before .before .before .snap .ensures ∙ sym (ap (λ (x : Command). answering x (raw (a .index) (now (a .log)) (now (a .snapshot)))) (c .before .before .before .before .before .before .before .before .command6 .given .1))
+    c .before .before .before .before .snap .ensures
+    ∙ sym (ap (λ (x : Command). answering x (raw (a .index) (now (a .log)) (now (a .snapshot)))) (c .before .before .before .before .before .before .before .before .command6 .given .1))
 
 returns-8 : tie.Need-returns-8
 returns-8 c =
@@ -53,7 +57,8 @@ returns-8 c =
 returns-9 : tie.Need-returns-9
 returns-9 c =
     let a = c .before .before .before .before .before .before .before .before .before .before .args in
-    c .before .before .trim .ensures ∙ sym (ap (λ (x : Command). answering x (raw (a .index) (now (a .log)) (now (a .snapshot)))) (c .before .before .before .before .before .before .command8 .given .1))
+    c .before .before .trim .ensures
+    ∙ sym (ap (λ (x : Command). answering x (raw (a .index) (now (a .log)) (now (a .snapshot)))) (c .before .before .before .before .before .before .command8 .given .1))
 
 returns-10 : tie.Need-returns-10
 unfolding answering

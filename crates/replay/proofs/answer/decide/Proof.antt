@@ -13,7 +13,8 @@ unfolding answering
 returns c =
     let a = c .before .before .before .before .before .args in
     let to = c .before .before .set-decided-idx in
-    tells settledText _ (settled (to .result .answer)) (raw (to .result .index) (now (a .log)) (now (a .snapshot))) _ (to .ensures) (c .settled-line .ensures)
+    tells settledText _ (settled (to .result .answer)) (raw (to .result .index) (now (a .log)) (now (a .snapshot))) _
+    (to .ensures) (c .settled-line .ensures)
 
 pub decide-spec : {M : Type 1} → statement M
 decide-spec = tie.close (tie.spec (λ c κs. search needs) (λ c κs. search needs) returns)

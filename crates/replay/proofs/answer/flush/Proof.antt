@@ -13,7 +13,8 @@ unfolding answering
 returns c =
     let a = c .before .before .before .before .before .args in
     let to = c .before .before .flush-batch in
-    tells acceptedText _ (indexSaid (to .result .answer)) (raw (to .result .index) (now (a .log)) (now (a .snapshot))) _ (to .ensures) (c .accepted-line .ensures)
+    tells acceptedText _ (indexSaid (to .result .answer)) (raw (to .result .index) (now (a .log)) (now (a .snapshot))) _
+    (to .ensures) (c .accepted-line .ensures)
 
 pub flush-spec : {M : Type 1} → statement M
 flush-spec = tie.close (tie.spec (λ c κs. search needs) (λ c κs. search needs) returns)

@@ -14,7 +14,8 @@ returns : tie.Need-returns
 returns c = sym (ap (λ (x : Settled). settledText (settled x)) (c .enum-told .given .1))
 
 returns-2 : tie.Need-returns-2
-returns-2 c = ap (λ (n : ℕ). lineOf (Refused n)) (c .number .ensures) ∙ sym (ap (λ (x : Settled). settledText (settled x)) (c .before .before .answer .given .1))
+returns-2 c = ap (λ (n : ℕ). lineOf (Refused n)) (c .number .ensures)
+    ∙ sym (ap (λ (x : Settled). settledText (settled x)) (c .before .before .answer .given .1))
 
 pub settled-line-spec : {M : Type 1} → statement M
 settled-line-spec =

@@ -11,7 +11,8 @@ returns : tie.Need-returns
 unfolding answering
 returns c =
     let to = c .before .before .before .before .before .before .try-snapshot in
-    tells settledText _ (settled (to .result .answer)) (raw (to .result .index) (to .last .1 .0) (to .last .1 .1 .0)) _ (to .ensures) (c .settled-line .ensures)
+    tells settledText _ (settled (to .result .answer)) (raw (to .result .index) (to .last .1 .0) (to .last .1 .1 .0)) _
+    (to .ensures) (c .settled-line .ensures)
 
 pub snap-spec : {M : Type 1} → statement M
 snap-spec =

@@ -13,7 +13,8 @@ unfolding answering
 returns c =
     let a = c .before .before .before .before .before .before .before .before .args in
     let to = c .before .before .before .before .try-trim in
-    tells settledText _ (settled (to .result .answer)) (raw (to .result .index) (to .last .1 .0) (now (a .snapshot))) _ (to .ensures) (c .settled-line .ensures)
+    tells settledText _ (settled (to .result .answer)) (raw (to .result .index) (to .last .1 .0) (now (a .snapshot))) _
+    (to .ensures) (c .settled-line .ensures)
 
 pub trim-spec : {M : Type 1} → statement M
 trim-spec = tie.close (tie.spec (λ c κs. search needs) (λ c κs. search needs) (λ c. search needs) returns)

@@ -30,7 +30,8 @@ returns c =
     let came = come (a .st .held .over) (a .st .held .len) (now (a .line)) in
     let answered =
     done .ensures .1
-    ∙ ap (λ (k : Command). after (take (room .result) (now (a .out))) (answering k x)) (c .before .before .before .before .before .before .before .before .before .before .before .command-of .ensures)
+    ∙ ap (λ (k : Command). after (take (room .result) (now (a .out))) (answering k x))
+    (c .before .before .before .before .before .before .before .before .before .before .before .command-of .ensures)
     ∙ ap (λ (n : ℕ). after (take n (now (a .out))) (answering (meaning came) x)) (room .ensures) in
     ((omega arith, omega (arith, done .ensures .0, room .ensures, next-low lastStart (a .st .used))), λ (ls : Lines) st. finished ls x came (a .st .used) (now (a .out)) st _ _ (now (a .line)) answered)
 

@@ -19,7 +19,8 @@ use Rattle.replay.proofs.feed.take_part.Tie as tie
 abbrev Inv-loop : tie.InvT-loop
 Inv-loop part line₀ log₀ snapshot₀ out₀ s₀ at₀ line log snapshot out s at =
     ((at ≤ length part + 1) × (s .held .len ≤ length line) × (s .used ≤ outRoom) × (length out ≡ outRoom) × (length log ≡ logWords) × (length line ≡ inputLine)
-    × (length line ≡ length line₀) × (length log ≡ length log₀) × (length snapshot ≡ length snapshot₀) × (length out ≡ length out₀))
+    × (length line ≡ length line₀) × (length log ≡ length log₀) × (length snapshot ≡ length snapshot₀)
+    × (length out ≡ length out₀))
     × ((ls : Lines) → Reached ls (raw (s₀ .index) log₀ snapshot₀) (come (s₀ .held .over) (s₀ .held .len) line₀) (take (s₀ .used) out₀)
     → Reached (linesFrom ls (take at part)) (raw (s .index) log snapshot) (come (s .held .over) (s .held .len) line) (take (s .used) out))
 
@@ -32,11 +33,13 @@ loop-holds c = (omega arith, λ (ls : Lines) st. st)
 
 add-at : tie.Need-add-at Inv-loop μ-loop
 add-at c =
-    let g = simp (length-take, length-drop) at (c .before .before .before .before .before .before .before .before .before .before .before .before .before .before .gap .ensures .0 .0) in
+    let g = simp (length-take, length-drop) at
+    (c .before .before .before .before .before .before .before .before .before .before .before .before .before .before .gap .ensures .0 .0) in
     omega (arith, g, c .before .before .before .before .before .before .before .before .before .before .before .before .before .before .before .before .before .loop .inv .0, c .before .before .before .before .before .before .before .before .before .before .before .before .before .before .before .before .loop-test .taken, c .before .before .before .before .before .before .before .before .before .before .before .before .before .before .before .before .before .before .before .before .before .before .before .good .0)
 
 loop-less : tie.Need-loop-less Inv-loop μ-loop
-loop-less c = let g = simp (length-take, length-drop) at (c .before .before .before .before .before .before .before .before .before .before .before .before .before .before .gap .ensures .0 .0) in omega (arith, g, c .before .before .before .before .before .before .before .before .before .before .before .before .before .before .before .before .before .loop .inv .0)
+loop-less c = let g = simp (length-take, length-drop) at
+    (c .before .before .before .before .before .before .before .before .before .before .before .before .before .before .gap .ensures .0 .0) in omega (arith, g, c .before .before .before .before .before .before .before .before .before .before .before .before .before .before .before .before .before .loop .inv .0)
 
 loop-again : tie.Need-loop-again Inv-loop μ-loop
 loop-again c =

@@ -38,14 +38,16 @@ put-run-requires : tie.Need-put-run-requires
 put-run-requires c κs = omega (arith, few (c .before .before .before .before .before .before .before .before .before .before .before), c .before .before .before .before .before .before .before .put-line .ensures .0, c .before .before .before .before .before .before .before .put-line .kept, c .before .before .before .put-marker .ensures .0, c .before .before .before .put-marker .kept, c .before .before .before .before .before .before .before .before .before .before .before .before .before .before .pre)
 
 put-stop-requires : tie.Need-put-stop-requires
-put-stop-requires c κs = omega (arith, few (c .before .before .before .before .before .before .before .before .before .before .before .before .before .before .before), c .before .before .before .before .before .before .before .before .before .before .before .put-line .ensures .0, c .before .before .before .before .before .before .before .before .before .before .before .put-line .kept, c .before .before .before .before .before .before .before .put-marker .ensures .0, c .before .before .before .before .before .before .before .put-marker .kept, c .before .before .before .before .before .before .before .before .before .before .before .before .before .before .before .before .before .before .pre, c .before .before .before .put-run .ensures .0, c .before .before .before .put-run .kept)
+put-stop-requires c κs = omega
+    (arith, few (c .before .before .before .before .before .before .before .before .before .before .before .before .before .before .before), c .before .before .before .before .before .before .before .before .before .before .before .put-line .ensures .0, c .before .before .before .before .before .before .before .before .before .before .before .put-line .kept, c .before .before .before .before .before .before .before .put-marker .ensures .0, c .before .before .before .before .before .before .before .put-marker .kept, c .before .before .before .before .before .before .before .before .before .before .before .before .before .before .before .before .before .before .pre, c .before .before .before .put-run .ensures .0, c .before .before .before .put-run .kept)
 
 returns : tie.Need-returns
 returns c =
     let e = c .before .before .before .before .before .before .before .before .before .before .before .before .before .before .before .before .before .before in
     let a = e .before .before .before .args in (
       omega (arith, few (c .before .before .before .before .before .before .before .before .before .before .before .before .before .before .before .before .before .before), c .before .before .before .before .before .before .before .before .before .before .before .before .before .before .put-line .ensures .0, c .before .before .before .before .before .before .before .before .before .before .before .before .before .before .put-line .kept, c .before .before .before .before .before .before .before .before .before .before .put-marker .ensures .0, c .before .before .before .before .before .before .before .before .before .before .put-marker .kept, c .before .before .before .before .before .before .before .before .before .before .before .before .before .before .before .before .before .before .before .before .before .pre, c .before .before .before .before .before .before .put-run .ensures .0, c .before .before .put-stop .ensures .0),
-      λ (snapshot : List ℕ). shown-is (take (a .at) (now (a .out))) (a .run) (a .index) (now (a .log)) snapshot (now (e .entries-of .result)) (c .before .before .before .before .before .before .before .before .before .before .before .before .before .before .before .before .before .lines-of-marker .result) _ (e .entries-of .ensures .0) (c .before .before .before .before .before .before .before .before .before .before .before .before .before .before .before .before .before .lines-of-marker .ensures snapshot) (ap (λ (k : ℕ). c .before .before .before .before .before .before .before .before .before .before .before .before .before .before .before .before .before .lines-of-marker .result + length (now (e .entries-of .result)) / 2 + k) (c .before .before .before .before .before .before .before .before .before .before .before .before .before .before .before .before .one-if .ensures)) (c .before .before .before .before .before .before .before .before .before .before .before .before .before .before .put-line .ensures .1) (c .before .before .before .before .before .before .before .before .before .before .put-marker .ensures .1 snapshot) (c .before .before .before .before .before .before .put-run .ensures .1) (c .before .before .put-stop .ensures .1),
+      λ (snapshot : List ℕ). shown-is (take (a .at) (now (a .out))) (a .run) (a .index) (now (a .log)) snapshot
+          (now (e .entries-of .result)) (c .before .before .before .before .before .before .before .before .before .before .before .before .before .before .before .before .before .lines-of-marker .result) _ (e .entries-of .ensures .0) (c .before .before .before .before .before .before .before .before .before .before .before .before .before .before .before .before .before .lines-of-marker .ensures snapshot) (ap (λ (k : ℕ). c .before .before .before .before .before .before .before .before .before .before .before .before .before .before .before .before .before .lines-of-marker .result + length (now (e .entries-of .result)) / 2 + k) (c .before .before .before .before .before .before .before .before .before .before .before .before .before .before .before .before .one-if .ensures)) (c .before .before .before .before .before .before .before .before .before .before .before .before .before .before .put-line .ensures .1) (c .before .before .before .before .before .before .before .before .before .before .put-marker .ensures .1 snapshot) (c .before .before .before .before .before .before .put-run .ensures .1) (c .before .before .put-stop .ensures .1),
     )
 
 pub put-shown-spec : {M : Type 1} → statement M

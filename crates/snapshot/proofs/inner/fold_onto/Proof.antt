@@ -11,7 +11,8 @@ use Rattle.snapshot.proofs.inner.fold_onto.Statement.{statement}
 use Rattle.snapshot.proofs.inner.fold_onto.Tie as tie
 
 abbrev Inv-loop : tie.InvT-loop
-Inv-loop s₀ kept entries n keys₀ i₀ s keys i = (i ≤ n) × Sofar (length s₀) (foldOnto (entriesOf kept s₀) (take i (entriesOf n entries))) s keys
+Inv-loop s₀ kept entries n keys₀ i₀ s keys i =
+    (i ≤ n) × Sofar (length s₀) (foldOnto (entriesOf kept s₀) (take i (entriesOf n entries))) s keys
 
 abbrev μ-loop : tie.MeasureT-loop
 μ-loop s₀ kept entries n keys₀ i₀ s keys i = n - i
@@ -33,7 +34,9 @@ returns c =
     let t = q .before .before .before in
     let l = t .before in
     let a = l .before .before .before in
-    fold-refused (length (now (a .args .s))) (entriesOf (a .args .kept) (now (a .args .s))) (a .args .n) (now (a .args .entries)) (a .pre .1) (l .loop .i) (l .loop .s) (l .loop .keys) (l .loop .inv .1) (t .loop-test .taken) (q .put .result) (q .put .last .0) (q .put .ensures) _ (c .enum-told .given .1)
+    fold-refused (length (now (a .args .s))) (entriesOf (a .args .kept) (now (a .args .s))) (a .args .n)
+    (now (a .args .entries)) (a .pre .1) (l .loop .i) (l .loop .s) (l .loop .keys) (l .loop .inv .1)
+    (t .loop-test .taken) (q .put .result) (q .put .last .0) (q .put .ensures) _ (c .enum-told .given .1)
 
 loop-again : tie.Need-loop-again Inv-loop μ-loop
 loop-again c =
@@ -47,7 +50,9 @@ returns-2 : tie.Need-returns-2 Inv-loop μ-loop
 returns-2 c =
     let l = c .before in
     let a = l .before .before .before in
-    fold-done (length (now (a .args .s))) (entriesOf (a .args .kept) (now (a .args .s))) (a .args .n) (now (a .args .entries)) (a .pre .1) (l .loop .i) (l .loop .s) (l .loop .keys) (l .loop .inv .1) (c .loop-test .left)
+    fold-done (length (now (a .args .s))) (entriesOf (a .args .kept) (now (a .args .s))) (a .args .n)
+    (now (a .args .entries)) (a .pre .1) (l .loop .i) (l .loop .s) (l .loop .keys) (l .loop .inv .1)
+    (c .loop-test .left)
 
 pub fold-onto-spec : {M : Type 1} → statement M
 fold-onto-spec =

@@ -14,7 +14,8 @@ returns : tie.Need-returns
 returns c =
     let f = c .before .before .before .before in
     let st = f .before .before .before .before .before in
-    out-refused (st .args .kept) (now (st .args .scratch)) (st .args .n) (now (st .args .entries)) (now (st .args .out)) (st .pre) (f .fold-onto .result) (f .fold-onto .last .0) (f .fold-onto .ensures) _ (c .enum-told .given .1)
+    out-refused (st .args .kept) (now (st .args .scratch)) (st .args .n) (now (st .args .entries)) (now (st .args .out))
+    (st .pre) (f .fold-onto .result) (f .fold-onto .last .0) (f .fold-onto .ensures) _ (c .enum-told .given .1)
 
 returns-2 : tie.Need-returns-2
 returns-2 c =

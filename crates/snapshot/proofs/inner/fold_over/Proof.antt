@@ -16,26 +16,32 @@ startOf f = f .before .before .before .before .before .before .before .before .b
 
 -- the scratch words are the snapshot's
 folded-is : (f : tie.After-fold-onto)
-    → FoldIs (length (now (startOf f .args .snapshot))) (foldOnto (entriesOf (startOf f .args .kept) (now (startOf f .args .snapshot))) (entriesOf (startOf f .args .n) (now (startOf f .args .entries)))) (f .fold-onto .result) (f .fold-onto .last .0)
+    → FoldIs (length (now (startOf f .args .snapshot)))
+    (foldOnto (entriesOf (startOf f .args .kept) (now (startOf f .args .snapshot))) (entriesOf (startOf f .args .n) (now (startOf f .args .entries)))) (f .fold-onto .result) (f .fold-onto .last .0)
 folded-is f = rw (f .before .before .before .copy-words .ensures) at (f .fold-onto .ensures)
 
 fold-onto-requires : tie.Need-fold-onto-requires
 fold-onto-requires c κs =
     let st = c .before .before .before .before .before .before .before .before in
-    rw (c .before .before .copy-words .ensures) (aside-needs (st .args .kept) (now (st .args .snapshot)) (st .args .n) (now (st .args .entries)) (now (st .args .snapshot)) (st .pre .0))
+    rw (c .before .before .copy-words .ensures)
+    (aside-needs (st .args .kept) (now (st .args .snapshot)) (st .args .n) (now (st .args .entries)) (now (st .args .snapshot)) (st .pre .0))
 
 returns : tie.Need-returns
 returns c =
     let f = c .before .before .before in
     let st = startOf f in
-    twice-refused (st .args .kept) (now (st .args .snapshot)) (st .args .n) (now (st .args .entries)) (st .args .m) (now (st .args .more)) (st .pre .0) (st .pre .1) (f .fold-onto .result) (f .fold-onto .last .0) (folded-is f) _ (c .enum-told .given .1)
+    twice-refused (st .args .kept) (now (st .args .snapshot)) (st .args .n) (now (st .args .entries)) (st .args .m)
+    (now (st .args .more)) (st .pre .0) (st .pre .1) (f .fold-onto .result) (f .fold-onto .last .0) (folded-is f) _
+    (c .enum-told .given .1)
 
 fold-out-requires : tie.Need-fold-out-requires
 fold-out-requires c κs =
     let g = c .before .before .before in
     let f = g .before .before .before in
     let st = startOf f in
-    twice-next (st .args .kept) (now (st .args .snapshot)) (st .args .n) (now (st .args .entries)) (st .args .m) (now (st .args .more)) (st .pre .0) (st .pre .1) (f .fold-onto .result) (f .fold-onto .last .0) (folded-is f) _ (g .r .given .1)
+    twice-next (st .args .kept) (now (st .args .snapshot)) (st .args .n) (now (st .args .entries)) (st .args .m)
+    (now (st .args .more)) (st .pre .0) (st .pre .1) (f .fold-onto .result) (f .fold-onto .last .0) (folded-is f) _
+    (g .r .given .1)
 
 returns-2 : tie.Need-returns-2
 returns-2 c =
@@ -44,7 +50,9 @@ returns-2 c =
     let f = g .before .before .before in
     let st = startOf f in
     o .fold-out .ensures
-    ∙ twice-folds (st .args .kept) (now (st .args .snapshot)) (st .args .n) (now (st .args .entries)) (st .args .m) (now (st .args .more)) (st .pre .0) (st .pre .1) (f .fold-onto .result) (f .fold-onto .last .0) (folded-is f) _ (g .r .given .1)
+    ∙ twice-folds (st .args .kept) (now (st .args .snapshot)) (st .args .n) (now (st .args .entries)) (st .args .m)
+    (now (st .args .more)) (st .pre .0) (st .pre .1) (f .fold-onto .result) (f .fold-onto .last .0) (folded-is f) _
+    (g .r .given .1)
 
 pub fold-over-spec : {M : Type 1} → statement M
 fold-over-spec =

@@ -1,4 +1,5 @@
--- `snapshot::inner::keys_ascend` meets its contract: the entries passed and those that are left are together what is asked.
+-- `snapshot::inner::keys_ascend` meets its contract: the entries passed and those that are left are together what is
+-- asked.
 use native.Mathlib.Omega.{arith}
 use Prim.Native.Nat.{_≤_, _-_}
 use mathlib.Core.Path.{_≡_, refl}

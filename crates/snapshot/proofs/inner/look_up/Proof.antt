@@ -31,7 +31,8 @@ returns-2 c =
     let st = f .before .before in
     c .found-of .ensures
     ∙ ap (λ (x : Said). replied (placeOf (some x))) (c .before .said-at .ensures)
-    ∙ ap (λ (o : Option Said). replied (placeOf o)) (look-at (st .args .n) (now (st .args .s)) (st .args .key) _ (sym (e .before .spot .given .1) ∙ f .search .ensures))
+    ∙ ap (λ (o : Option Said). replied (placeOf o))
+    (look-at (st .args .n) (now (st .args .s)) (st .args .key) _ (sym (e .before .spot .given .1) ∙ f .search .ensures))
 
 pub look-up-spec : {M : Type 1} → statement M
 look-up-spec =

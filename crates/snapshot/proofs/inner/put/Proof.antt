@@ -25,7 +25,8 @@ returns : tie.Need-returns
 returns c =
     let k = c .before .before .before .before in
     let st = k .before .before .before .before .before in
-    put-full (now (st .args .s)) (st .args .n) (now (st .args .item)) (st .pre .0) (st .pre .1) _ (sym (c .before .before .spot2 .given .1) ∙ k .search .ensures) _ (c .if1 .taken)
+    put-full (now (st .args .s)) (st .args .n) (now (st .args .item)) (st .pre .0) (st .pre .1) _
+    (sym (c .before .before .spot2 .given .1) ∙ k .search .ensures) _ (c .if1 .taken)
 
 mul-splice-2 : tie.Need-mul-splice-2
 mul-splice-2 c =
@@ -37,7 +38,8 @@ splice-requires-2 : tie.Need-splice-requires-2
 splice-requires-2 c κs =
     let k = c .before .before .before .before .before in
     let st = k .before .before .before .before .before in
-    let i = before-inside (now (st .args .s)) (st .args .n) (now (st .args .item)) (st .pre .0) (st .pre .1) _ (sym (c .before .before .before .spot2 .given .1) ∙ k .search .ensures) in
+    let i = before-inside (now (st .args .s)) (st .args .n) (now (st .args .item)) (st .pre .0) (st .pre .1) _
+    (sym (c .before .before .before .spot2 .given .1) ∙ k .search .ensures) in
     (omega arith, (omega arith, (omega arith, st .pre .0 .laid .zeros)))
 
 returns-2 : tie.Need-returns-2

@@ -23,7 +23,8 @@ returns : tie.Need-returns
 returns c =
     let k = c .before .before .before in
     let st = k .before .before .before .before .before .before .before in
-    reload-runs (raw (st .args .index) (now (st .args .log)) (now (st .args .snapshot))) (st .pre .okay) (k .cut-out .last .0) (k .cut-out .ensures) (c .accepted .result) (c .accepted .ensures)
+    reload-runs (raw (st .args .index) (now (st .args .log)) (now (st .args .snapshot))) (st .pre .okay)
+    (k .cut-out .last .0) (k .cut-out .ensures) (c .accepted .result) (c .accepted .ensures)
 
 pub reload-spec : {M : Type 1} → statement M
 reload-spec =

@@ -12,7 +12,8 @@ returns : tie.Need-returns
 returns c =
     let k = c .before .before in
     let a = k .before .before .args in
-    ap (λ (t : Bool). t && (a .index .«snapshot_held» || eqb (a .index .keys) 0)) (k .snapshot-formed .ensures) ∙ sym (snapshot-tests (a .index) (now (a .snapshot)))
+    ap (λ (t : Bool). t && (a .index .«snapshot_held» || eqb (a .index .keys) 0)) (k .snapshot-formed .ensures)
+    ∙ sym (snapshot-tests (a .index) (now (a .snapshot)))
 
 pub snapshot-held-formed-spec : {M : Type 1} → statement M
 snapshot-held-formed-spec = tie.close (tie.spec (λ c κs. search needs) returns)

@@ -31,7 +31,8 @@ abbrev numbersAt : tie.After-stop-decided → Numbers
 numbersAt k = numbersIn (startOf k .args .index)
 
 abbrev guardsAt : tie.After-stop-decided → List Guard
-guardsAt k = let a = startOf k .args in partNumberGuards (a .decided-idx .0) (numbersBy (a .log-sync) (a .n)) (numbersAt k)
+guardsAt k = let a = startOf k .args in
+    partNumberGuards (a .decided-idx .0) (numbersBy (a .log-sync) (a .n)) (numbersAt k)
 
 abbrev Left : ℕ → tie.After-stop-decided → Type 0
 Left i k = first (guardsAt k) ≡ first (drop i (guardsAt k))
@@ -96,7 +97,8 @@ left5 e = left4 (e .before .before) ∙ first-goes-on 9 _ _ _ (indexed e)
 few : (m : tie.After-kept-of) → m .kept-of .result ≤ numbersAt (from5 (m .before)) .retained
 few m =
     let k = from5 (m .before) in
-    kept-few (startOf k .args .log-sync .«sync_idx» .0) (numbersAt k) _ _ (m .kept-of .result) (askedAt k .is-plain .ensures) (m .kept-of .ensures) (inside (m .before .before .before .before))
+    kept-few (startOf k .args .log-sync .«sync_idx» .0) (numbersAt k) _ _ (m .kept-of .result)
+    (askedAt k .is-plain .ensures) (m .kept-of .ensures) (inside (m .before .before .before .before))
 
 left6 : (e : tie.Else6) → Left 6 (from6 e)
 unfolding partNumberGuards
@@ -114,7 +116,8 @@ left7 e =
 
 returns : tie.Need-returns
 unfolding partNumberGuards
-returns c = let k = c .before in found {gs = guardsAt k} (stopping (sym (k .stop-decided .ensures) ∙ c .if1 .taken) (k .before .before .before .accepted .ensures))
+returns c = let k = c .before in
+    found {gs = guardsAt k} (stopping (sym (k .stop-decided .ensures) ∙ c .if1 .taken) (k .before .before .before .accepted .ensures))
 
 returns-2 : tie.Need-returns-2
 unfolding partNumberGuards

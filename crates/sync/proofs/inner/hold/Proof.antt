@@ -35,7 +35,8 @@ fold-over-requires : tie.Need-fold-over-requires
 fold-over-requires c κs =
     let k = c .before .before in
     let st = startOf k in (
-      fold-needs (stateAt st) (st .pre .0 .okay) (k .log-decided .result) (decided-high (numbersIn (st .args .index)) (st .pre .0 .numbers) (k .log-decided .result) (k .log-decided .ensures)) (now (st .args .snapshot)) (st .pre .0 .snapshot .laid .long),
+      fold-needs (stateAt st) (st .pre .0 .okay) (k .log-decided .result)
+          (decided-high (numbersIn (st .args .index)) (st .pre .0 .numbers) (k .log-decided .result) (k .log-decided .ensures)) (now (st .args .snapshot)) (st .pre .0 .snapshot .laid .long),
       held-shows (st .args .keys) (now (st .args .incoming)) (st .pre .1 (ap plainBy (k .before .enum-told3 .given .1))),
     )
 
@@ -49,7 +50,8 @@ returns-2 c =
     let w = c .before .before in
     let t = w .before .before in
     let st = t .before .before .before .before .before in
-    hold-complete (st .args .kind) (stateAt st) (st .pre .0) (st .args .keys) (now (st .args .incoming)) (t .enum-told2 .given .1) (st .pre .1 (ap plainBy (t .enum-told2 .given .1))) _ (w .copy-words .ensures)
+    hold-complete (st .args .kind) (stateAt st) (st .pre .0) (st .args .keys) (now (st .args .incoming))
+    (t .enum-told2 .given .1) (st .pre .1 (ap plainBy (t .enum-told2 .given .1))) _ (w .copy-words .ensures)
 
 returns-3 : tie.Need-returns-3
 returns-3 c =
@@ -57,7 +59,8 @@ returns-3 c =
     let k = f .before .before .before in
     let st = startOf k in
     f .fold-over .ensures
-    ∙ hold-delta (st .args .kind) (stateAt st) (st .pre .0) (st .args .keys) (now (st .args .incoming)) (k .before .enum-told3 .given .1) (k .log-decided .result) (k .log-decided .ensures)
+    ∙ hold-delta (st .args .kind) (stateAt st) (st .pre .0) (st .args .keys) (now (st .args .incoming))
+    (k .before .enum-told3 .given .1) (k .log-decided .result) (k .log-decided .ensures)
 
 pub hold-spec : {M : Type 1} → statement M
 hold-spec =

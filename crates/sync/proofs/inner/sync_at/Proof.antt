@@ -45,14 +45,18 @@ holdOf m = m .before .before .before .before .before .before .before
 -- the record that the suffix is put into is the marked one
 
 took : (m : tie.After-take-suffix) → let st = startOf (toldOf (holdOf m)) in
-    Taken (st .args .log-sync) (length (now (st .args .suffix)) / width) (m .before .before .before .r2 .given .0 .0) (marked (st .args .accepted-round) (st .args .decided-idx .0) (st .args .index)) (now (st .args .log)) (now (st .args .suffix)) (m .take-suffix .result) (m .take-suffix .last .1 .0)
+    Taken (st .args .log-sync) (length (now (st .args .suffix)) / width) (m .before .before .before .r2 .given .0 .0)
+    (marked (st .args .accepted-round) (st .args .decided-idx .0) (st .args .index)) (now (st .args .log))
+    (now (st .args .suffix)) (m .take-suffix .result) (m .take-suffix .last .1 .0)
 took m = rw (markOf (holdOf m) .mark .ensures) at (m .take-suffix .ensures)
 
 returns : tie.Need-returns
 returns c =
     let k = c .before .before .before in
     let st = k .before .before .before .before .before in
-    sync-refused (stateAt st) (st .args .log-sync) (now (st .args .incoming)) (now (st .args .suffix)) (st .pre) (st .args .accepted-round) (st .args .decided-idx .0) _ _ (ap verdictOf (sym (c .before .check .given .1)) ∙ k .check-sync .ensures)
+    sync-refused (stateAt st) (st .args .log-sync) (now (st .args .incoming)) (now (st .args .suffix)) (st .pre)
+    (st .args .accepted-round) (st .args .decided-idx .0) _ _
+    (ap verdictOf (sym (c .before .check .given .1)) ∙ k .check-sync .ensures)
 
 take-suffix-requires : tie.Need-take-suffix-requires
 take-suffix-requires c κs =
@@ -66,14 +70,17 @@ accepted-requires c κs =
     let m = c .before .before in
     let t = toldOf (holdOf m) in
     let st = startOf t in
-    fits-small (stateAt st) (st .args .log-sync) (now (st .args .incoming)) (now (st .args .suffix)) (st .pre) (st .args .accepted-round) (st .args .decided-idx .0) (pass t) _ (m .take-suffix .result) (took m .index)
+    fits-small (stateAt st) (st .args .log-sync) (now (st .args .incoming)) (now (st .args .suffix)) (st .pre)
+    (st .args .accepted-round) (st .args .decided-idx .0) (pass t) _ (m .take-suffix .result) (took m .index)
 
 returns-2 : tie.Need-returns-2
 returns-2 c =
     let h = c .before .before .before .before .before in
     let t = toldOf h in
     let st = startOf t in
-    sync-over (stateAt st) (st .args .log-sync) (now (st .args .incoming)) (now (st .args .suffix)) (st .pre) (st .args .accepted-round) (st .args .decided-idx .0) (pass t) (h .hold .result) (h .hold .last .1 .1 .0) (h .hold .ensures) _ (c .before .r .given .1)
+    sync-over (stateAt st) (st .args .log-sync) (now (st .args .incoming)) (now (st .args .suffix)) (st .pre)
+    (st .args .accepted-round) (st .args .decided-idx .0) (pass t) (h .hold .result) (h .hold .last .1 .1 .0)
+    (h .hold .ensures) _ (c .before .r .given .1)
 
 returns-3 : tie.Need-returns-3
 returns-3 c =
@@ -81,7 +88,10 @@ returns-3 c =
     let h = holdOf m in
     let t = toldOf h in
     let st = startOf t in
-    sync-stands (stateAt st) (st .args .log-sync) (now (st .args .incoming)) (now (st .args .suffix)) (st .pre) (st .args .accepted-round) (st .args .decided-idx .0) (pass t) (h .hold .result) (h .hold .last .1 .1 .0) (h .hold .ensures) _ (m .before .before .before .r2 .given .1) (m .take-suffix .result) (m .take-suffix .last .1 .0) (took m) (c .accepted .result) (c .accepted .ensures)
+    sync-stands (stateAt st) (st .args .log-sync) (now (st .args .incoming)) (now (st .args .suffix)) (st .pre)
+    (st .args .accepted-round) (st .args .decided-idx .0) (pass t) (h .hold .result) (h .hold .last .1 .1 .0)
+    (h .hold .ensures) _ (m .before .before .before .r2 .given .1) (m .take-suffix .result)
+    (m .take-suffix .last .1 .0) (took m) (c .accepted .result) (c .accepted .ensures)
 
 pub sync-at-spec : {M : Type 1} → statement M
 sync-at-spec =

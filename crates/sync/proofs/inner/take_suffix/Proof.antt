@@ -13,7 +13,9 @@ startOf k = k .before .before .before .before .before .before
 few : (k : tie.After-kept-of) → k .kept-of .result ≤ startOf k .args .index .retained
 few k =
     let st = startOf k in
-    kept-few (st .args .log-sync) (st .args .n) (st .args .keys) (st .args .index) (now (st .args .log)) (now (st .args .suffix)) (st .pre) (k .before .is-plain .result) (k .before .is-plain .ensures) (k .kept-of .result) (k .kept-of .ensures)
+    kept-few (st .args .log-sync) (st .args .n) (st .args .keys) (st .args .index) (now (st .args .log))
+    (now (st .args .suffix)) (st .pre) (k .before .is-plain .result) (k .before .is-plain .ensures)
+    (k .kept-of .result) (k .kept-of .ensures)
 
 mul-splice-2 : tie.Need-mul-splice-2
 mul-splice-2 c =
@@ -34,7 +36,9 @@ splice-requires : tie.Need-splice-requires
 splice-requires c κs =
     let k = c .before .before .before .before .before in
     let st = startOf k in
-    splice-needs (st .args .log-sync) (st .args .n) (st .args .keys) (st .args .index) (now (st .args .log)) (now (st .args .suffix)) (st .pre) (k .before .is-plain .result) (k .before .is-plain .ensures) (k .kept-of .result) (k .kept-of .ensures)
+    splice-needs (st .args .log-sync) (st .args .n) (st .args .keys) (st .args .index) (now (st .args .log))
+    (now (st .args .suffix)) (st .pre) (k .before .is-plain .result) (k .before .is-plain .ensures)
+    (k .kept-of .result) (k .kept-of .ensures)
 
 add-next : tie.Need-add-next
 add-next c =
@@ -48,7 +52,10 @@ returns c =
     let g = w .before .before .before .before in
     let k = g .before .before in
     let st = startOf k in
-    taken (st .args .log-sync) (st .args .n) (st .args .keys) (st .args .index) (now (st .args .log)) (now (st .args .suffix)) (st .pre) (k .before .is-plain .result) (k .before .is-plain .ensures) (k .kept-of .result) (k .kept-of .ensures) (g .before .start-of .result) (g .before .start-of .ensures) (g .sign-if .result) (g .sign-if .ensures) _ (w .splice .ensures)
+    taken (st .args .log-sync) (st .args .n) (st .args .keys) (st .args .index) (now (st .args .log))
+    (now (st .args .suffix)) (st .pre) (k .before .is-plain .result) (k .before .is-plain .ensures)
+    (k .kept-of .result) (k .kept-of .ensures) (g .before .start-of .result) (g .before .start-of .ensures)
+    (g .sign-if .result) (g .sign-if .ensures) _ (w .splice .ensures)
 
 pub take-suffix-spec : {M : Type 1} → statement M
 take-suffix-spec =

@@ -1,4 +1,5 @@
--- `text::inner::number` meets its contract: the digits that are left make of the number already read what the whole makes of none.
+-- `text::inner::number` meets its contract: the digits that are left make of the number already read what the whole
+-- makes of none.
 use Prim.Native.Nat.{_≤_, _<_, _-_, _^_}
 use mathlib.Core.Path.{_≡_, sym, _∙_}
 use mathlib.Core.Logic.{⊎-elim}

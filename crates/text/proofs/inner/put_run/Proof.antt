@@ -1,4 +1,5 @@
--- `text::inner::put_run` meets its contract: the lines that are put and those of the entries that are left make the whole.
+-- `text::inner::put_run` meets its contract: the lines that are put and those of the entries that are left make the
+-- whole.
 use Prim.Native.Nat.{ℕ, _≤_, _+_, _-_, _*_}
 use mathlib.Core.Path.{_≡_, refl, ap, _∙_}
 use mathlib.Core.List.{List, _++_, append-nil}
@@ -15,7 +16,9 @@ use Rattle.text.proofs.inner.put_run.Statement.{statement}
 use Rattle.text.proofs.inner.put_run.Tie as tie
 
 abbrev Inv-loop : tie.InvT-loop
-Inv-loop out₀ at entries n decided o₀ i₀ out o i = (i ≤ n) × (o ≤ at + outputLine * i) × (length out ≡ length out₀) × (take o out ++ entryLines (decided - i) (drop i (entriesOf n entries)) ≡ take at out₀ ++ entryLines decided (entriesOf n entries))
+Inv-loop out₀ at entries n decided o₀ i₀ out o i =
+    (i ≤ n) × (o ≤ at + outputLine * i) × (length out ≡ length out₀)
+    × (take o out ++ entryLines (decided - i) (drop i (entriesOf n entries)) ≡ take at out₀ ++ entryLines decided (entriesOf n entries))
 
 abbrev μ-loop : tie.MeasureT-loop
 μ-loop out₀ at entries n decided o₀ i₀ out o i = n - i
@@ -38,7 +41,10 @@ loop-again c =
       omega arith,
       omega arith,
       omega arith,
-      turn (take (l .loop .o) (l .loop .out)) (line (changeAt ws i .said)) (entryLines (a .decided - i) (drop i es)) (entryLines (a .decided - (i + 1)) (drop (i + 1) es)) (take (a .at) (now (a .out)) ++ entryLines (a .decided) es) (p .put-entry .ensures .1 ∙ ap (λ (x : Said). take (l .loop .o) (l .loop .out) ++ line x) (p .before .said-at .ensures)) (lines-next (a .decided) (a .n) ws i (omega arith)) (l .loop .inv .3),
+      turn (take (l .loop .o) (l .loop .out)) (line (changeAt ws i .said)) (entryLines (a .decided - i) (drop i es))
+          (entryLines (a .decided - (i + 1)) (drop (i + 1) es))
+          (take (a .at) (now (a .out)) ++ entryLines (a .decided) es)
+          (p .put-entry .ensures .1 ∙ ap (λ (x : Said). take (l .loop .o) (l .loop .out) ++ line x) (p .before .said-at .ensures)) (lines-next (a .decided) (a .n) ws i (omega arith)) (l .loop .inv .3),
     )
 
 returns : tie.Need-returns Inv-loop μ-loop

@@ -25,7 +25,8 @@ stateAt c = raw (c .args .index) (now (c .args .log)) (now (c .args .snapshot))
 -- the sum as it is judged: compacted, the retained entries, and the stop-sign and the batch after them
 past : (p : tie.After-past-last) → let x = p .before .before .before .before .before .args .index in
     p .past-last .result ≡ ltb lastIndex (acceptedOf (numbersIn x) + x .batched)
-past p = let x = p .before .before .before .before .before .args .index in past-sum x (p .before .one-if .result) (p .before .one-if .ensures) _ (p .past-last .ensures)
+past p = let x = p .before .before .before .before .before .args .index in
+    past-sum x (p .before .one-if .result) (p .before .one-if .ensures) _ (p .past-last .ensures)
 
 add-more : tie.Need-add-more
 add-more c =
@@ -42,13 +43,15 @@ returns c =
     let p = c .before in
     let k = p .before .before in
     let st = k .before .before .before in
-    last-past (numbersIn (st .args .before)) (st .args .start) (stateAt st) (st .pre .0) (k .accepted .result) (k .accepted .ensures) (sym (past p) ∙ c .if1 .taken)
+    last-past (numbersIn (st .args .before)) (st .args .start) (stateAt st) (st .pre .0) (k .accepted .result)
+    (k .accepted .ensures) (sym (past p) ∙ c .if1 .taken)
 
 returns-2 : tie.Need-returns-2
 returns-2 c =
     let e = c .before .before in
     let st = e .before .before .before .before .before .before in
-    last-apart (numbersIn (st .args .before)) (st .args .start) (stateAt st) (st .pre .0) (sym (past (e .before)) ∙ e .if1 .left) (ne-eqb _ _ (c .if2 .taken))
+    last-apart (numbersIn (st .args .before)) (st .args .start) (stateAt st) (st .pre .0)
+    (sym (past (e .before)) ∙ e .if1 .left) (ne-eqb _ _ (c .if2 .taken))
 
 numbers-formed-requires : tie.Need-numbers-formed-requires
 numbers-formed-requires c κs =
@@ -61,7 +64,9 @@ returns-3 c =
     let w = c .before in
     let e = w .before .before .before in
     let st = e .before .before .before .before .before .before in
-    last-unformed (numbersIn (st .args .before)) (st .args .start) (stateAt st) (st .pre .0) (sym (past (e .before)) ∙ e .if1 .left) (sym (formed-numbers (stateAt st) (st .pre .0)) ∙ sym (w .numbers-formed .ensures) ∙ not-true _ (c .if3 .taken))
+    last-unformed (numbersIn (st .args .before)) (st .args .start) (stateAt st) (st .pre .0)
+    (sym (past (e .before)) ∙ e .if1 .left)
+    (sym (formed-numbers (stateAt st) (st .pre .0)) ∙ sym (w .numbers-formed .ensures) ∙ not-true _ (c .if3 .taken))
 
 returns-4 : tie.Need-returns-4
 returns-4 c =
@@ -69,7 +74,9 @@ returns-4 c =
     let d = w .before in
     let e = d .before .before in
     let st = e .before .before .before .before .before .before in
-    last-stands (numbersIn (st .args .before)) (st .args .start) (stateAt st) (st .pre .0) (sym (past (e .before)) ∙ e .if1 .left) (d .if2 .left) (sym (formed-numbers (stateAt st) (st .pre .0)) ∙ sym (w .numbers-formed .ensures) ∙ not-false _ (c .if3 .left))
+    last-stands (numbersIn (st .args .before)) (st .args .start) (stateAt st) (st .pre .0)
+    (sym (past (e .before)) ∙ e .if1 .left) (d .if2 .left)
+    (sym (formed-numbers (stateAt st) (st .pre .0)) ∙ sym (w .numbers-formed .ensures) ∙ not-false _ (c .if3 .left))
 
 pub judge-last-spec : {M : Type 1} → statement M
 judge-last-spec =

@@ -1,4 +1,5 @@
--- `backend::inner::list::run_ops` meets its contract: what is left of the list, from the state so far, comes to what the whole list does.
+-- `backend::inner::list::run_ops` meets its contract: what is left of the list, from the state so far, comes to what
+-- the whole list does.
 use Prim.Native.Nat.{_-_, _≤_}
 use mathlib.Core.Path.{_≡_, sym, _∙_}
 use mathlib.Core.List.{map}
@@ -21,7 +22,8 @@ abbrev Inv-loop : tie.InvT-loop
 Inv-loop before log₀ snapshot₀ entries incoming lent n ops start₀ index₀ i₀ log snapshot start index i =
     (i ≤ n) × (Kept (raw index log snapshot)
     × Left (numbersIn before) (lentOf lent entries incoming) (drop i (map opOf (take n ops))) (midstOf start (raw index log snapshot))
-    (asked (raw before log₀ snapshot₀) (lentOf lent entries incoming) (map opOf (take n ops))) (end (raw before log₀ snapshot₀) (lentOf lent entries incoming) (map opOf (take n ops))))
+    (asked (raw before log₀ snapshot₀) (lentOf lent entries incoming) (map opOf (take n ops)))
+    (end (raw before log₀ snapshot₀) (lentOf lent entries incoming) (map opOf (take n ops))))
 
 abbrev μ-loop : tie.MeasureT-loop
 μ-loop before log₀ snapshot₀ entries incoming lent n ops start₀ index₀ i₀ log snapshot start index i = n - i
@@ -57,7 +59,10 @@ step-requires c κs =
         sound-small (numbersIn (a .before)) (st .pre .ready .numbers),
         (
           st .pre .lends,
-          is-supplied (numbersIn (a .before)) (lentAt st) (a .list .ops) (a .list .count) (st .pre .few) (eight st) (asked (stateAt st) (lentAt st) (opsIn (a .list))) (end (stateAt st) (lentAt st) (opsIn (a .list))) (midstOf (v .start) (raw (v .index) (v .log) (v .snapshot))) (v .i) (v .inv .1 .1) (c .before .before .before .loop-test .taken)
+          is-supplied (numbersIn (a .before)) (lentAt st) (a .list .ops) (a .list .count) (st .pre .few) (eight st)
+              (asked (stateAt st) (lentAt st) (opsIn (a .list))) (end (stateAt st) (lentAt st) (opsIn (a .list)))
+              (midstOf (v .start) (raw (v .index) (v .log) (v .snapshot))) (v .i) (v .inv .1 .1)
+              (c .before .before .before .loop-test .taken)
               (ops-supplied (lentAt st) (opsIn (a .list)) (st .pre .okay)),
         ),
       ),
@@ -101,8 +106,12 @@ loop-again c =
     let m = midstOf (v .start) (raw (v .index) (v .log) (v .snapshot)) in (
       omega (arith, t .loop-test .taken),
       (
-        turn-held n (lentAt st) (a .list .ops) (a .list .count) (st .pre .few) (eight st) k z m (v .i) (v .inv .1 .1) (t .loop-test .taken) (p .step .result) (p .step .last .1 .1 .1 .0) (p .step .last .1 .1 .1 .1 .0) (p .step .ensures) (c .before .enum-told .given .1),
-        turn-left n (lentAt st) (a .list .ops) (a .list .count) (st .pre .few) (eight st) k z m (v .i) (v .inv .1 .1) (t .loop-test .taken) (p .step .result) (p .step .last .1 .1 .1 .0) (p .step .last .1 .1 .1 .1 .0) (p .step .ensures) (c .before .enum-told .given .1),
+        turn-held n (lentAt st) (a .list .ops) (a .list .count) (st .pre .few) (eight st) k z m (v .i) (v .inv .1 .1)
+            (t .loop-test .taken) (p .step .result) (p .step .last .1 .1 .1 .0) (p .step .last .1 .1 .1 .1 .0)
+            (p .step .ensures) (c .before .enum-told .given .1),
+        turn-left n (lentAt st) (a .list .ops) (a .list .count) (st .pre .few) (eight st) k z m (v .i) (v .inv .1 .1)
+            (t .loop-test .taken) (p .step .result) (p .step .last .1 .1 .1 .0) (p .step .last .1 .1 .1 .1 .0)
+            (p .step .ensures) (c .before .enum-told .given .1),
       ),
     )
 

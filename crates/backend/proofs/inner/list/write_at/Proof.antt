@@ -34,11 +34,13 @@ copied p = p .before .before .before .before
 abbrev left : tie.After-run-ops → Raw
 left p = raw (p .run-ops .result .index) (p .run-ops .last .1 .0) (p .run-ops .last .1 .1 .0)
 
-ran : (p : tie.After-run-ops) → Wrote (stateAt (startOf (copied p))) (lentAt (startOf (copied p))) (opsIn (startOf (copied p) .args .list)) (p .run-ops .result .answer) (left p)
+ran : (p : tie.After-run-ops) → Wrote (stateAt (startOf (copied p))) (lentAt (startOf (copied p)))
+    (opsIn (startOf (copied p) .args .list)) (p .run-ops .result .answer) (left p)
 ran p =
     let k = copied p in
     let st = startOf k in
-    wrote-copy (st .args .before) (now (st .args .log)) (firstCopy k .copy-words .last .1 .0) (now (st .args .snapshot)) (k .copy-words2 .last .1 .0) (firstCopy k .copy-words .ensures) (k .copy-words2 .ensures)
+    wrote-copy (st .args .before) (now (st .args .log)) (firstCopy k .copy-words .last .1 .0) (now (st .args .snapshot))
+    (k .copy-words2 .last .1 .0) (firstCopy k .copy-words .ensures) (k .copy-words2 .ensures)
     (lentAt st) (opsIn (st .args .list)) (p .run-ops .result .answer) (left p) (p .run-ops .ensures)
 
 stood : (e : tie.After-enum-told) → Ready (left (e .before .before .before .before .before))
@@ -50,14 +52,17 @@ run-ops-requires : tie.Need-run-ops-requires
 run-ops-requires c κs =
     let k = c .before .before .before in
     let st = startOf k in
-    listed-copy (st .args .before) (now (st .args .log)) (firstCopy k .copy-words .last .1 .0) (now (st .args .snapshot)) (k .copy-words2 .last .1 .0) (firstCopy k .copy-words .ensures) (k .copy-words2 .ensures)
+    listed-copy (st .args .before) (now (st .args .log)) (firstCopy k .copy-words .last .1 .0)
+    (now (st .args .snapshot)) (k .copy-words2 .last .1 .0) (firstCopy k .copy-words .ensures)
+    (k .copy-words2 .ensures)
     (st .args .lent) (now (st .args .entries)) (now (st .args .incoming)) (st .args .list) (st .pre)
 
 returns : tie.Need-returns
 returns c =
     let p = c .before .before .before .before .before .before in
     let st = startOf (copied p) in
-    write-refused (stateAt st) (lentAt st) (opsIn (st .args .list)) (st .pre .ready .okay) (st .pre .okay) (p .run-ops .result .answer) (left p) (ran p) _ (c .before .answer .given .1)
+    write-refused (stateAt st) (lentAt st) (opsIn (st .args .list)) (st .pre .ready .okay) (st .pre .okay)
+    (p .run-ops .result .answer) (left p) (ran p) _ (c .before .answer .given .1)
 
 copy-words-requires-3 : tie.Need-copy-words-requires-3
 copy-words-requires-3 c κs =
@@ -77,7 +82,8 @@ returns-2 c =
     let p = e .before .before .before .before .before in
     let st = startOf (copied p) in
     ap₂ (λ (l s : List ℕ). outcome (replied tt) (raw (p .run-ops .result .index) l s)) (k3 .copy-words3 .ensures) (k4 .copy-words4 .ensures)
-    ∙ write-stands (stateAt st) (lentAt st) (opsIn (st .args .list)) (st .pre .ready .okay) (st .pre .okay) (p .run-ops .result .answer) (left p) (ran p) (e .enum-told .given .1)
+    ∙ write-stands (stateAt st) (lentAt st) (opsIn (st .args .list)) (st .pre .ready .okay) (st .pre .okay)
+    (p .run-ops .result .answer) (left p) (ran p) (e .enum-told .given .1)
 
 pub write-at-spec : {M : Type 1} → statement M
 write-at-spec =

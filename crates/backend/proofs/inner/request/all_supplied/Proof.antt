@@ -1,4 +1,5 @@
--- `backend::inner::request::all_supplied` meets its contract: the operations passed and those that are left are together what is asked.
+-- `backend::inner::request::all_supplied` meets its contract: the operations passed and those that are left are
+-- together what is asked.
 use Prim.Native.Nat.{_-_, _≤_}
 use mathlib.Core.Path.{_≡_, refl}
 use mathlib.Core.Bool.{_&&_}
@@ -40,7 +41,9 @@ returns c =
     let l = c .before in
     let st = l .before .before in
     let a = st .args in
-    all-end (supplied (lentOf (a .lent) [] [])) (map opOf (take (a .list .count) (a .list .ops))) (l .loop .i) (l .loop .ok) _ (l .loop .inv .1) (omega (arith, ops-length (a .list .ops) (a .list .count) (st .pre) (eight st), c .loop-test .left))
+    all-end (supplied (lentOf (a .lent) [] [])) (map opOf (take (a .list .count) (a .list .ops))) (l .loop .i)
+    (l .loop .ok) _ (l .loop .inv .1)
+    (omega (arith, ops-length (a .list .ops) (a .list .count) (st .pre) (eight st), c .loop-test .left))
 
 pub all-supplied-spec : {M : Type 1} → statement M
 all-supplied-spec =

@@ -1,4 +1,5 @@
--- `backend::inner::step::put_on_prefix` meets its contract: refusal 7 on either side of the run, then as at a place of the run.
+-- `backend::inner::step::put_on_prefix` meets its contract: refusal 7 on either side of the run, then as at a place of
+-- the run.
 use denote.Ref.{now}
 use Rattle.state_cache.specs.State.{Raw, raw, numbersIn}
 use Rattle.backend.proofs.Goings.{prefix-outside, prefix-inside, prefix-goes}
@@ -13,7 +14,9 @@ returns : tie.Need-returns
 returns c =
     let k = c .before .before in
     let st = k .before .before .before .before .before in
-    prefix-outside (st .args .start) (stateAt st) (st .pre .0) (numbersIn (st .args .before)) (st .args .from .0) (k .above .result) (k .above .ensures) (now (st .args .entries)) (now (st .args .log)) (k .before .end .result) (k .before .end .ensures) (c .if1 .taken)
+    prefix-outside (st .args .start) (stateAt st) (st .pre .0) (numbersIn (st .args .before)) (st .args .from .0)
+    (k .above .result) (k .above .ensures) (now (st .args .entries)) (now (st .args .log)) (k .before .end .result)
+    (k .before .end .ensures) (c .if1 .taken)
 
 put-at-requires : tie.Need-put-at-requires
 put-at-requires c κs =
@@ -28,7 +31,9 @@ returns-2 c =
     let e = p .before .before in
     let k = e .before .before in
     let st = k .before .before .before .before .before in
-    prefix-goes (st .args .start) (stateAt st) (st .pre .0) (numbersIn (st .args .before)) (st .args .from .0) (k .above .result) (k .above .ensures) (now (st .args .entries)) (p .put-at .last .1 .1 .0) (p .put-at .result) (e .if1 .left) (p .put-at .ensures)
+    prefix-goes (st .args .start) (stateAt st) (st .pre .0) (numbersIn (st .args .before)) (st .args .from .0)
+    (k .above .result) (k .above .ensures) (now (st .args .entries)) (p .put-at .last .1 .1 .0) (p .put-at .result)
+    (e .if1 .left) (p .put-at .ensures)
 
 pub put-on-prefix-spec : {M : Type 1} → statement M
 put-on-prefix-spec =

@@ -43,14 +43,18 @@ returns c =
     let p = c .before .before in
     let e = p .before .before .before in
     let st = e .before .before .before .before .before .before .before .before in
-    goes-of (numbersAt st) (lentAt st) (midstAt st) (st .args .o) AppendEntries (p .put-at .result) (p .put-at .last .1 .1 .0) (now (st .args .snapshot)) (e .enum-told .given .1) (append-goes (st .args .start) (stateAt st) (st .pre .0) (numbersAt st) (lentAt st) (p .put-at .result) (p .put-at .last .1 .1 .0) (p .put-at .ensures))
+    goes-of (numbersAt st) (lentAt st) (midstAt st) (st .args .o) AppendEntries (p .put-at .result)
+    (p .put-at .last .1 .1 .0) (now (st .args .snapshot)) (e .enum-told .given .1)
+    (append-goes (st .args .start) (stateAt st) (st .pre .0) (numbersAt st) (lentAt st) (p .put-at .result) (p .put-at .last .1 .1 .0) (p .put-at .ensures))
 
 returns-2 : tie.Need-returns-2
 returns-2 c =
     let p = c .before .before in
     let e = p .before .before .before in
     let st = e .before .before .before .before .before .before .before .before in
-    goes-of (numbersAt st) (lentAt st) (midstAt st) (st .args .o) AppendOnPrefix (p .put-on-prefix .result) (p .put-on-prefix .last .1 .1 .1 .0) (now (st .args .snapshot)) (e .enum-told2 .given .1) (on-prefix-goes (st .args .start) (stateAt st) (st .pre .0) (numbersAt st) (lentAt st) (now (st .args .entries)) (st .args .o .index .0) (p .put-on-prefix .result) (p .put-on-prefix .last .1 .1 .1 .0) refl (p .put-on-prefix .ensures))
+    goes-of (numbersAt st) (lentAt st) (midstAt st) (st .args .o) AppendOnPrefix (p .put-on-prefix .result)
+    (p .put-on-prefix .last .1 .1 .1 .0) (now (st .args .snapshot)) (e .enum-told2 .given .1)
+    (on-prefix-goes (st .args .start) (stateAt st) (st .pre .0) (numbersAt st) (lentAt st) (now (st .args .entries)) (st .args .o .index .0) (p .put-on-prefix .result) (p .put-on-prefix .last .1 .1 .1 .0) refl (p .put-on-prefix .ensures))
 
 returns-3 : tie.Need-returns-3
 returns-3 c =
@@ -85,7 +89,9 @@ returns-7 c =
     let p = c .before .before in
     let e = p .before .before .before in
     let st = e .before .before .before .before .before .before .before .before in
-    goes-of (numbersAt st) (lentAt st) (midstAt st) (st .args .o) Trim (p .trim-to .result) (p .trim-to .last .1 .1 .0) (now (st .args .snapshot)) (e .enum-told7 .given .1) (trimmed-goes (st .args .start) (stateAt st) (st .pre .0) (numbersAt st) (lentAt st) (st .args .o .index .0) (p .trim-to .result) (p .trim-to .last .1 .1 .0) (p .trim-to .ensures))
+    goes-of (numbersAt st) (lentAt st) (midstAt st) (st .args .o) Trim (p .trim-to .result) (p .trim-to .last .1 .1 .0)
+    (now (st .args .snapshot)) (e .enum-told7 .given .1)
+    (trimmed-goes (st .args .start) (stateAt st) (st .pre .0) (numbersAt st) (lentAt st) (st .args .o .index .0) (p .trim-to .result) (p .trim-to .last .1 .1 .0) (p .trim-to .ensures))
 
 returns-8 : tie.Need-returns-8
 returns-8 c =

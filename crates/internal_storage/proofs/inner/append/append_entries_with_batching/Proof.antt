@@ -17,7 +17,8 @@ returns : tie.Need-returns
 unfolding malformed
 returns c =
     let st = c .before .before .before .before .before in
-    slice-refused (append (entriesIn (now (st .args .entries)))) (now (st .args .entries)) (stateAt st) refl (st .pre .okay) (sym (c .before .entries-formed .ensures) ∙ not-true _ (c .if1 .taken))
+    slice-refused (append (entriesIn (now (st .args .entries)))) (now (st .args .entries)) (stateAt st) refl
+    (st .pre .okay) (sym (c .before .entries-formed .ensures) ∙ not-true _ (c .if1 .taken))
 
 append-at-requires : tie.Need-append-at-requires
 append-at-requires c κs =
@@ -30,7 +31,8 @@ returns-2 c =
     let p = c .before .before in
     let f = p .before .before in
     let st = f .before .before .before .before .before in
-    p .append-at .ensures ∙ slice-run (append (entriesIn (now (st .args .entries)))) (now (st .args .entries)) (stateAt st) (sym (f .before .entries-formed .ensures) ∙ not-false _ (f .if1 .left))
+    p .append-at .ensures ∙ slice-run (append (entriesIn (now (st .args .entries)))) (now (st .args .entries))
+    (stateAt st) (sym (f .before .entries-formed .ensures) ∙ not-false _ (f .if1 .left))
 
 pub append-entries-with-batching-spec : {M : Type 1} → statement M
 append-entries-with-batching-spec =

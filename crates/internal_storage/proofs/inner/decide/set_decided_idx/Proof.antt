@@ -17,7 +17,8 @@ returns c =
     let st = c .before .before .before in
     let i = st .args .idx .0 in
     let x = raw (st .args .index) (now (st .args .log)) (now (st .args .snapshot)) in
-    numbers-run x (st .pre .okay) (decide i) (decideGuards i) refl refl tt _ (λ q. (refl, decided-stands x (st .pre .okay) i)) _ _ (c .decide-at .ensures)
+    numbers-run x (st .pre .okay) (decide i) (decideGuards i) refl refl tt _
+    (λ q. (refl, decided-stands x (st .pre .okay) i)) _ _ (c .decide-at .ensures)
 
 pub set-decided-idx-spec : {M : Type 1} → statement M
 set-decided-idx-spec = tie.close (tie.spec decide-at-requires returns)

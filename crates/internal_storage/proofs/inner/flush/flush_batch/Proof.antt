@@ -15,7 +15,8 @@ returns : tie.Need-returns
 returns c =
     let f = c .before in
     let st = f .before .before .before in
-    flush-run (raw (st .args .index) (now (st .args .log)) (now (st .args .snapshot))) (st .pre .okay) (c .accepted .result) (f .flush .result) (f .flush .ensures) (c .accepted .ensures)
+    flush-run (raw (st .args .index) (now (st .args .log)) (now (st .args .snapshot))) (st .pre .okay)
+    (c .accepted .result) (f .flush .result) (f .flush .ensures) (c .accepted .ensures)
 
 pub flush-batch-spec : {M : Type 1} → statement M
 flush-batch-spec = tie.close (tie.spec flush-requires accepted-requires returns)

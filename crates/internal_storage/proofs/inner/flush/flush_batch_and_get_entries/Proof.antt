@@ -16,7 +16,8 @@ returns : tie.Need-returns
 returns c =
     let f = c .before in
     let st = f .before .before .before in
-    flush-entries-run (raw (st .args .index) (now (st .args .log)) (now (st .args .snapshot))) (st .pre .okay) (appendSaid (f .flush-answer .result)) (c .flush .result) (f .flush-answer .ensures) (c .flush .ensures)
+    flush-entries-run (raw (st .args .index) (now (st .args .log)) (now (st .args .snapshot))) (st .pre .okay)
+    (appendSaid (f .flush-answer .result)) (c .flush .result) (f .flush-answer .ensures) (c .flush .ensures)
 
 pub flush-batch-and-get-entries-spec : {M : Type 1} → statement M
 flush-batch-and-get-entries-spec = tie.close (tie.spec flush-answer-requires flush-requires returns)

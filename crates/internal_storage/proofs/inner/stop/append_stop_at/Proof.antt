@@ -26,7 +26,9 @@ returns : tie.Need-returns
 unfolding appendStopGuards
 returns c =
     let a = c .before .before .args in
-    told-by (appendStopGuards (numbersIn (a .index))) (flushSays (a .index)) (withStop true (a .ss) (allFlushed (a .index))) (a .index) (refuses 4 (c .before .accepted .result)) (stopping (c .if1 .taken) (c .before .accepted .ensures))
+    told-by (appendStopGuards (numbersIn (a .index))) (flushSays (a .index))
+    (withStop true (a .ss) (allFlushed (a .index))) (a .index) (refuses 4 (c .before .accepted .result))
+    (stopping (c .if1 .taken) (c .before .accepted .ensures))
 
 add-if2 : tie.Need-add-if2
 add-if2 c = omega (arith, c .before .accepted .ensures, c .before .before .pre .inside)
@@ -40,7 +42,9 @@ returns-2 c =
     let k = c .before .before in
     let a = k .before .args in
     let h : lastIndex < acceptedOf (numbersIn (a .index)) + a .index .batched + 1 = omega (arith, k .accepted .ensures, c .if2 .taken) in
-    told-by (appendStopGuards (numbersIn (a .index))) (flushSays (a .index)) (withStop true (a .ss) (allFlushed (a .index))) (a .index) (refuses 9 (k .accepted .result)) (passing (c .before .if1 .left) (stopping (lt-ltb _ _ h) (k .accepted .ensures)))
+    told-by (appendStopGuards (numbersIn (a .index))) (flushSays (a .index))
+    (withStop true (a .ss) (allFlushed (a .index))) (a .index) (refuses 9 (k .accepted .result))
+    (passing (c .before .if1 .left) (stopping (lt-ltb _ _ h) (k .accepted .ensures)))
 
 flush-answer-requires : tie.Need-flush-answer-requires
 flush-answer-requires c κs = c .before .before .before .pre
@@ -55,8 +59,11 @@ returns-3 c =
     let k = e .before .before in
     let a = k .before .args in
     let h : acceptedOf (numbersIn (a .index)) + a .index .batched + 1 ≤ lastIndex = omega (arith, k .accepted .ensures, e .if2 .left) in
-    ap₂ (λ (x : Answer (Option Flushed)) (y : IndexRecord). indexed x (withStop true (a .ss) y)) (c .before .flush-answer .ensures) (c .flush .ensures)
-    ∙ told-by (appendStopGuards (numbersIn (a .index))) (flushSays (a .index)) (withStop true (a .ss) (allFlushed (a .index))) (a .index) passes (passing (e .before .if1 .left) (passing (le-ltb _ _ h) clear-all))
+    ap₂ (λ (x : Answer (Option Flushed)) (y : IndexRecord). indexed x (withStop true (a .ss) y))
+    (c .before .flush-answer .ensures) (c .flush .ensures)
+    ∙ told-by (appendStopGuards (numbersIn (a .index))) (flushSays (a .index))
+    (withStop true (a .ss) (allFlushed (a .index))) (a .index) passes
+    (passing (e .before .if1 .left) (passing (le-ltb _ _ h) clear-all))
 
 pub append-stop-at-spec : {M : Type 1} → statement M
 append-stop-at-spec =

@@ -28,7 +28,10 @@ returns-2 : tie.Need-returns-2
 returns-2 c =
     let f = c .before in
     let st = f .before .before .before .before in
-    append-stop-run (stateAt st) (st .pre .okay) (st .args .ss) (sym (f .before .sign-formed .ensures) ∙ not-false _ (f .if1 .left)) (appendSaid (c .append-stop-at .result .answer)) (c .append-stop-at .result .index) (c .append-stop-at .ensures)
+    append-stop-run (stateAt st) (st .pre .okay) (st .args .ss)
+    (sym (f .before .sign-formed .ensures) ∙ not-false _ (f .if1 .left))
+    (appendSaid (c .append-stop-at .result .answer)) (c .append-stop-at .result .index)
+    (c .append-stop-at .ensures)
 
 pub append-stopsign-spec : {M : Type 1} → statement M
 append-stopsign-spec = tie.close (tie.spec (λ c κs. search needs) returns append-stop-at-requires returns-2)

@@ -26,14 +26,20 @@ unfolding setStopGuards
 returns c =
     let k = c .before .before in
     let a = k .before .args in
-    told-by (setStopGuards (a .held) (numbersIn (a .index))) (acceptedOf (numbersIn (withStop (a .held) (a .ss) (a .index)))) (withStop (a .held) (a .ss) (a .index)) (a .index) (refuses 4 (k .accepted .result)) (stopping (sym (c .before .stop-decided .ensures) ∙ c .if1 .taken) (k .accepted .ensures))
+    told-by (setStopGuards (a .held) (numbersIn (a .index)))
+    (acceptedOf (numbersIn (withStop (a .held) (a .ss) (a .index)))) (withStop (a .held) (a .ss) (a .index))
+    (a .index) (refuses 4 (k .accepted .result))
+    (stopping (sym (c .before .stop-decided .ensures) ∙ c .if1 .taken) (k .accepted .ensures))
 
 returns-2 : tie.Need-returns-2
 unfolding setStopGuards
 returns-2 c =
     let d = c .before .before in
     let a = d .before .before .args in
-    told-by (setStopGuards (a .held) (numbersIn (a .index))) (acceptedOf (numbersIn (withStop (a .held) (a .ss) (a .index)))) (withStop (a .held) (a .ss) (a .index)) (a .index) (refuses 10 (a .index .batched)) (passing (sym (d .stop-decided .ensures) ∙ c .before .if1 .left) (stopping (c .if2 .taken) refl))
+    told-by (setStopGuards (a .held) (numbersIn (a .index)))
+    (acceptedOf (numbersIn (withStop (a .held) (a .ss) (a .index)))) (withStop (a .held) (a .ss) (a .index))
+    (a .index) (refuses 10 (a .index .batched))
+    (passing (sym (d .stop-decided .ensures) ∙ c .before .if1 .left) (stopping (c .if2 .taken) refl))
 
 accepted-requires-2 : tie.Need-accepted-requires-2
 accepted-requires-2 c κs =
@@ -60,8 +66,12 @@ returns-3 c =
     let d = k .before .before .before in
     let p = d .before in
     let a = p .before .args in
-    let h : lastIndex < acceptedOf (numbersIn (withStop (a .held) (a .ss) (a .index))) + a .index .batched = omega (arith, k .accepted2 .ensures, c .if3 .taken) in
-    told-by (setStopGuards (a .held) (numbersIn (a .index))) (acceptedOf (numbersIn (withStop (a .held) (a .ss) (a .index)))) (withStop (a .held) (a .ss) (a .index)) (a .index) (refuses 9 (p .accepted .result)) (passing (sym (d .stop-decided .ensures) ∙ k .before .before .if1 .left) (passing (k .before .if2 .left) (stopping (lt-ltb _ _ h) (p .accepted .ensures))))
+    let h : lastIndex < acceptedOf (numbersIn (withStop (a .held) (a .ss) (a .index))) + a .index .batched = omega
+    (arith, k .accepted2 .ensures, c .if3 .taken) in
+    told-by (setStopGuards (a .held) (numbersIn (a .index)))
+    (acceptedOf (numbersIn (withStop (a .held) (a .ss) (a .index)))) (withStop (a .held) (a .ss) (a .index))
+    (a .index) (refuses 9 (p .accepted .result))
+    (passing (sym (d .stop-decided .ensures) ∙ k .before .before .if1 .left) (passing (k .before .if2 .left) (stopping (lt-ltb _ _ h) (p .accepted .ensures))))
 
 returns-4 : tie.Need-returns-4
 unfolding setStopGuards acceptedOf endOf
@@ -70,7 +80,8 @@ returns-4 c =
     let d = k .before .before .before in
     let p = d .before in
     let a = p .before .args in
-    let h : acceptedOf (numbersIn (withStop (a .held) (a .ss) (a .index))) + a .index .batched ≤ lastIndex = omega (arith, k .accepted2 .ensures, c .if3 .left) in
+    let h : acceptedOf (numbersIn (withStop (a .held) (a .ss) (a .index))) + a .index .batched ≤ lastIndex = omega
+    (arith, k .accepted2 .ensures, c .if3 .left) in
     rw (k .accepted2 .ensures)
     (told-by (setStopGuards (a .held) (numbersIn (a .index))) (acceptedOf (numbersIn (withStop (a .held) (a .ss) (a .index)))) (withStop (a .held) (a .ss) (a .index)) (a .index) passes (passing (sym (d .stop-decided .ensures) ∙ k .before .before .if1 .left) (passing (k .before .if2 .left) (passing (le-ltb _ _ h) clear-all))))
 

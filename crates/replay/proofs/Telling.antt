@@ -47,12 +47,12 @@ pub snapshot-line : (i keys : ℕ) (snapshot : List ℕ)
 snapshot-line i keys snapshot = ap (λ (n : ℕ). lineOf (Snapshot i n)) (sym (entries-length changeCode keys snapshot))
 
 -- a part of a log is no longer than the log
-pub part-few : (first count : ℕ) (ws : List ℕ) → length ws ≡ 2048 → length (part first count ws) ≤ 2048
+pub part-few : (first count : ℕ) (ws : List ℕ) → length (part first count ws) ≤ length ws
 unfolding part
-part-few first count ws e = go (leb ((first + count) * width) (length ws))
+part-few first count ws = go (leb ((first + count) * width) (length ws))
   where
-    go : (b : Bool) → length (if b then take (count * width) (drop (first * width) ws) else []) ≤ 2048
-    go true = simp (length-take, length-drop) (omega (arith, e))
+    go : (b : Bool) → length (if b then take (count * width) (drop (first * width) ws) else []) ≤ length ws
+    go true = simp (length-take, length-drop) (omega arith)
     go false = omega arith
 
 -- the lines one after another

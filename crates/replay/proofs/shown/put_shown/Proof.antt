@@ -5,6 +5,7 @@ use mathlib.Core.Path.{ap}
 use mathlib.Core.List.{List, []}
 use denote.Ref.{now}
 use lib.ListN.{length, take}
+use Rattle.entry.specs.Limits.{logWords}
 use Rattle.model.specs.Log.{given}
 use Rattle.reading.specs.Replies.{markerSaid}
 use Rattle.replay.proofs.Telling.{one-few, part-few, shown-is}
@@ -22,9 +23,9 @@ use Rattle.text.proofs.inner.put_line.Reads as put-line-reads
 use Rattle.text.proofs.inner.put_run.Reads as put-run-reads
 
 -- the entries shown are at most the log's
-few : (c : lts.After-entries-of (entries-of-reads.Asked, entries-of-reads.Learnt, lines-of-marker-reads.Asked, lines-of-marker-reads.Learnt, one-if-reads.Asked, one-if-reads.Learnt, put-line-reads.Asked, put-line-reads.Learnt, put-marker-reads.Asked, put-marker-reads.Learnt, put-run-reads.Asked, put-run-reads.Learnt, put-stop-reads.Asked, put-stop-reads.Learnt) reads.Pre reads.Post) → length (now (c .entries-of .result)) ≤ 2048
+few : (c : lts.After-entries-of (entries-of-reads.Asked, entries-of-reads.Learnt, lines-of-marker-reads.Asked, lines-of-marker-reads.Learnt, one-if-reads.Asked, one-if-reads.Learnt, put-line-reads.Asked, put-line-reads.Learnt, put-marker-reads.Asked, put-marker-reads.Learnt, put-run-reads.Asked, put-run-reads.Learnt, put-stop-reads.Asked, put-stop-reads.Learnt) reads.Pre reads.Post) → length (now (c .entries-of .result)) ≤ logWords
 few c = let a = c .before .before .before .args in
-    rw (c .entries-of .ensures .0) (part-few (a .run .first) (a .run .count) (now (a .log)) (c .before .before .before .pre .1))
+    rw (c .entries-of .ensures .0) (omega (arith, part-few (a .run .first) (a .run .count) (now (a .log)), c .before .before .before .pre .1))
 
 add-lines : tie.Need-add-lines
 add-lines c = let m = c .lines-of-marker .ensures [] in

@@ -35,17 +35,17 @@ use Rattle.model.specs.Numbers.{Numbers, endOf}
 use Rattle.model.specs.Log.{given, ifGiven, retaining, withRun as logWithRun}
 use Rattle.model.specs.Backend.{Op, appendEntries, appendOnPrefix, setDecided, setCompacted, trim, setPromise, setRound, setSign, setSnapshot, Lent, supplied, Midst, step, stepGuards}
 use Rattle.state_cache.specs.State.{Raw, raw, signHeld, logOf}
-use Rattle.state_cache.specs.Inner.{withEntries, withStop, withDecided, withPromise, withRun}
+use Rattle.state_cache.specs.Inner.{withEntries, withStop, withDecided, withPromise}
 use Rattle.state_cache.specs.declared.IndexRecord.{IndexRecord}
 use Rattle.state_cache.specs.declared.Settled.{Settled}
 use Rattle.state_cache.specs.declared.Settled.the-variants.{Done, Refused}
 use Rattle.backend.specs.declared.Op.{Op as CodeOp}
 use Rattle.backend.specs.declared.OpKind.{OpKind}
-use Rattle.backend.specs.declared.OpKind.the-variants.{SetStopsign, SetSnapshot}
 use Rattle.backend.specs.declared.Lent.{Lent as CodeLent}
 use Rattle.backend.specs.declared.inner.step.Stepped.{Stepped}
 use Rattle.backend.specs.Ops.{ofKind, opOf, lentOf, incomingFormed}
-use Rattle.backend.specs.Inner.{midstOf, Kept, rejoined, roomGuards, Goes, Lends, onlyEntries, askedKeys, askedWords}
+use Rattle.backend.specs.Inner.{midstOf, Kept, rejoined, roomGuards, Goes, Steps, Lends, onlyEntries, askedKeys}
+use Rattle.backend.specs.Inner.{askedWords, withRound, withCompacted, withSnapshot}
 use Rattle.backend.proofs.Amid.{kept-count, batch-count, put-log, put-held, trim-log, trim-held}
 
 abbrev stepped : Settled → ℕ → IndexRecord → Stepped
@@ -83,26 +83,15 @@ goes-as gs gs′ next next′ s log snapshot e p g = record {
 
 pub goes-of : (n : Numbers) (l : Lent) (m : Midst) (o : CodeOp) (k : OpKind) (s : Stepped) (log snapshot : List ℕ)
     → o .kind ≡ k
-    → Goes (stepGuards n l (ofKind k o) m) (step l (ofKind k o) m) s log snapshot
-    → Goes (stepGuards n l (opOf o) m) (step l (opOf o) m) s log snapshot
+    → Steps n l (ofKind k o) m s log snapshot
+    → Steps n l (opOf o) m s log snapshot
 goes-of n l m o k s log snapshot e g =
     let p : ofKind k o ≡ opOf o = ap (λ (j : OpKind). ofKind j o) (sym e) in
     goes-as _ _ _ _ s log snapshot (ap (λ (q : Op). first (stepGuards n l q m)) p) (ap (λ (q : Op). step l q m) p) g
 
-abbrev withRound : Ballot → IndexRecord → IndexRecord
-withRound b x = record {
-  «batch_size» = x .«batch_size»;
-  retained = x .retained;
-  batched = x .batched;
-  compacted = x .compacted;
-  decided = x .decided;
-  promise = x .promise;
-  «accepted_round» = b;
-  «snapshot_held» = x .«snapshot_held»;
-  keys = x .keys;
-  «stop_held» = x .«stop_held»;
-  stop = x .stop;
-}
+pub is-supplied : (l : Lent) (o : CodeOp) (k : OpKind) → o .kind ≡ k → supplied l (opOf o) ≡ true
+    → supplied l (ofKind k o) ≡ true
+is-supplied l o k e q = ap (λ (j : OpKind). supplied l (ofKind j o)) (sym e) ∙ q
 
 -- no stop-sign, and no snapshot
 blank-none : signBlank noSign ≡ true
@@ -176,7 +165,7 @@ module _ (start : ℕ) (r : Raw) (h : Kept r) where
             ltb-same (r .index .retained) kept (start + length (logOf r .run .retained)) i (λ k. omega (arith, counted)) (λ k. omega (arith, counted))
 
     pub prefix-outside : (end : ℕ) → end ≡ endOf n → beside ≡ true
-        → Goes (stepGuards n l (appendOnPrefix i) m) (step l (appendOnPrefix i) m)
+        → Steps n l (appendOnPrefix i) m
         (stepped (Refused (OutsideRun (record { 0 = end }))) start (r .index)) words (r .snapshot)
     unfolding stepGuards
     prefix-outside end p e =
@@ -189,7 +178,7 @@ module _ (start : ℕ) (r : Raw) (h : Kept r) where
 
     pub prefix-goes : (s : Stepped) → beside ≡ false
         → Goes (roomGuards kept (length (entriesIn entries)) m) (rejoined kept (entriesIn entries) m) s words (r .snapshot)
-        → Goes (stepGuards n l (appendOnPrefix i) m) (step l (appendOnPrefix i) m) s words (r .snapshot)
+        → Steps n l (appendOnPrefix i) m s words (r .snapshot)
     unfolding stepGuards step
     prefix-goes s e g =
         goes-as _ _ _ _ s words (r .snapshot)
@@ -217,7 +206,7 @@ module _ (start : ℕ) (r : Raw) (h : Kept r) where
   module _ (n : Numbers) (l : Lent) where
     pub append-goes : (s : Stepped) (words : List ℕ)
         → Goes (roomGuards (r .index .retained) (length (l .entries)) m) (rejoined (r .index .retained) (l .entries) m) s words (r .snapshot)
-        → Goes (stepGuards n l appendEntries m) (step l appendEntries m) s words (r .snapshot)
+        → Steps n l appendEntries m s words (r .snapshot)
     unfolding stepGuards step logOf
     append-goes s words g =
         goes-as _ _ _ _ s words (r .snapshot)
@@ -226,27 +215,27 @@ module _ (start : ℕ) (r : Raw) (h : Kept r) where
         g
 
     pub on-prefix-goes : (entries : List ℕ) (i : ℕ) (s : Stepped) (words : List ℕ) → l .entries ≡ entriesIn entries
-        → Goes (stepGuards n (onlyEntries entries) (appendOnPrefix i) m) (step (onlyEntries entries) (appendOnPrefix i) m) s words (r .snapshot)
-        → Goes (stepGuards n l (appendOnPrefix i) m) (step l (appendOnPrefix i) m) s words (r .snapshot)
+        → Steps n (onlyEntries entries) (appendOnPrefix i) m s words (r .snapshot)
+        → Steps n l (appendOnPrefix i) m s words (r .snapshot)
     unfolding stepGuards step
     on-prefix-goes entries i s words e g = rw e g
 
     pub promise-goes : (b : Ballot)
-        → Goes (stepGuards n l (setPromise b) m) (step l (setPromise b) m) (stepped Done start (withPromise b (r .index))) (r .log) (r .snapshot)
+        → Steps n l (setPromise b) m (stepped Done start (withPromise b (r .index))) (r .log) (r .snapshot)
     unfolding stepGuards step logOf first signHeld
     promise-goes b =
         goes-done [] (step l (setPromise b) m) start (withPromise b (r .index)) (r .log) (r .snapshot) refl refl
         (record { log = h .log; snapshot = h .snapshot; none-held = h .none-held; sign = h .sign })
 
     pub decided-goes : (i : LogIndex)
-        → Goes (stepGuards n l (setDecided (i .0)) m) (step l (setDecided (i .0)) m)
+        → Steps n l (setDecided (i .0)) m
         (stepped Done start (withDecided i (r .index))) (r .log) (r .snapshot)
     unfolding stepGuards step logOf first signHeld
     decided-goes i =
         goes-done [] (step l (setDecided (i .0)) m) start (withDecided i (r .index)) (r .log) (r .snapshot) refl refl
         (record { log = h .log; snapshot = h .snapshot; none-held = h .none-held; sign = h .sign })
 
-    pub round-goes : (b : Ballot) → Goes (stepGuards n l (setRound b) m) (step l (setRound b) m)
+    pub round-goes : (b : Ballot) → Steps n l (setRound b) m
         (stepped Done start (withRound b (r .index))) (r .log) (r .snapshot)
     unfolding stepGuards step logOf first signHeld
     round-goes b =
@@ -254,18 +243,18 @@ module _ (start : ℕ) (r : Raw) (h : Kept r) where
         (record { log = h .log; snapshot = h .snapshot; none-held = h .none-held; sign = h .sign })
 
     pub compacted-goes : (i : LogIndex)
-        → Goes (stepGuards n l (setCompacted (i .0)) m) (step l (setCompacted (i .0)) m)
-        (stepped Done start (withRun i (r .index .retained) (r .index .«snapshot_held») (r .index .keys) (r .index))) (r .log) (r .snapshot)
+        → Steps n l (setCompacted (i .0)) m
+        (stepped Done start (withCompacted i (r .index))) (r .log) (r .snapshot)
     unfolding stepGuards step logOf first signHeld
     compacted-goes i =
         goes-done [] (step l (setCompacted (i .0)) m) start
-        (withRun i (r .index .retained) (r .index .«snapshot_held») (r .index .keys) (r .index)) (r .log)
+        (withCompacted i (r .index)) (r .log)
         (r .snapshot) refl refl
         (record { log = h .log; snapshot = h .snapshot; none-held = h .none-held; sign = h .sign })
 
     pub trimmed-goes : (i : ℕ) (s : Stepped) (words : List ℕ)
         → Goes [] (step (onlyEntries []) (trim i) m) s words (r .snapshot)
-        → Goes (stepGuards n l (trim i) m) (step l (trim i) m) s words (r .snapshot)
+        → Steps n l (trim i) m s words (r .snapshot)
     unfolding stepGuards step
     trimmed-goes i s words g = g
 
@@ -274,8 +263,8 @@ module _ (start : ℕ) (r : Raw) (h : Kept r) where
     abbrev lent : Lent
     lent = lentOf b entries incoming
 
-    sign-goes : (t : Bool) → supplied lent (setSign t) ≡ true
-        → Goes (stepGuards n lent (setSign t) m) (step lent (setSign t) m)
+    pub sign-goes : (t : Bool) → supplied lent (setSign t) ≡ true
+        → Steps n lent (setSign t) m
         (stepped Done start (withStop t (signIf t (b .stop)) (r .index))) (r .log) (r .snapshot)
     unfolding stepGuards step first
     sign-goes t e =
@@ -298,13 +287,13 @@ module _ (start : ℕ) (r : Raw) (h : Kept r) where
         fine true false e q = absurd (true≢false (sym e))
         fine false u e q = blank-none
 
-    snapshot-goes : (t : Bool) → supplied lent (setSnapshot t) ≡ true
-        → Goes (stepGuards n lent (setSnapshot t) m) (step lent (setSnapshot t) m)
-        (stepped Done start (withRun (r .index .compacted) (r .index .retained) t (askedKeys t (b .keys)) (r .index))) (r .log) (askedWords t incoming)
+    pub snapshot-goes : (t : Bool) → supplied lent (setSnapshot t) ≡ true
+        → Steps n lent (setSnapshot t) m
+        (stepped Done start (withSnapshot t (askedKeys t (b .keys)) (r .index))) (r .log) (askedWords t incoming)
     unfolding stepGuards step first
     snapshot-goes t e =
         goes-done [] (step lent (setSnapshot t) m) start
-        (withRun (r .index .compacted) (r .index .retained) t (askedKeys t (b .keys)) (r .index)) (r .log)
+        (withSnapshot t (askedKeys t (b .keys)) (r .index)) (r .log)
         (askedWords t incoming) refl
         (unfold logOf in ap (λ (g : Option (List Change)). record { start = start; log = record { run = record { compacted = logOf r .run .compacted; retained = logOf r .run .retained; held = g }; tail = logOf r .tail; marks = logOf r .marks } })
         (set t (b .«snapshot_lent») e))
@@ -327,26 +316,3 @@ module _ (start : ℕ) (r : Raw) (h : Kept r) where
         kept : (t : Bool) → (t || eqb (askedKeys t (b .keys)) 0) ≡ true
         kept true = refl
         kept false = refl
-
-    -- as the code leaves them
-    module _ (o : CodeOp) where
-      is-supplied : (k : OpKind) → o .kind ≡ k → supplied lent (opOf o) ≡ true → supplied lent (ofKind k o) ≡ true
-      is-supplied k e q = ap (λ (j : OpKind). supplied lent (ofKind j o)) (sym e) ∙ q
-
-      pub sign-done : o .kind ≡ SetStopsign → supplied lent (opOf o) ≡ true → (g : StopSign)
-          → g ≡ signIf (o .given) (b .stop)
-          → Goes (stepGuards n lent (opOf o) m) (step lent (opOf o) m) (stepped Done start (withStop (o .given) g (r .index))) (r .log) (r .snapshot)
-      sign-done e q g p =
-          goes-of n lent m o SetStopsign (stepped Done start (withStop (o .given) g (r .index))) (r .log) (r .snapshot) e
-          (rw p (sign-goes (o .given) (is-supplied SetStopsign e q)))
-
-      pub snapshot-done : o .kind ≡ SetSnapshot → supplied lent (opOf o) ≡ true → (k : ℕ) (words : List ℕ)
-          → k ≡ askedKeys (o .given) (b .keys) → words ≡ askedWords (o .given) incoming
-          → Goes (stepGuards n lent (opOf o) m) (step lent (opOf o) m)
-          (stepped Done start (withRun (r .index .compacted) (r .index .retained) (o .given) k (r .index)))
-          (r .log) words
-      snapshot-done e q k words p w =
-          goes-of n lent m o SetSnapshot
-          (stepped Done start (withRun (r .index .compacted) (r .index .retained) (o .given) k (r .index)))
-          (r .log) words e
-          (rw (p, w) (snapshot-goes (o .given) (is-supplied SetSnapshot e q)))

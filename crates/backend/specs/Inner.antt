@@ -13,11 +13,14 @@ use Rattle.entry.specs.Change.{Change, entriesIn, sliceFormed, Laid}
 use Rattle.entry.specs.Sign.{signFormed}
 use Rattle.entry.specs.Guards.{Guard, guard, first, replied, settle}
 use Rattle.snapshot.specs.Inner.{Holds}
+use Rattle.model.specs.Numbers.{Numbers}
 use Rattle.model.specs.Log.{ifGiven, retaining, noBallot}
-use Rattle.model.specs.Backend.{Op, Lent, opsFormed, Midst, onRun, writeGuards, listWritten}
+use Rattle.model.specs.Backend.{Op, Lent, opsFormed, Midst, onRun, stepGuards, step, writeGuards, listWritten}
 use Rattle.state_cache.specs.State.{Raw, raw, signHeld, formed, logOf}
-use Rattle.state_cache.specs.Inner.{Ready}
+use Rattle.state_cache.specs.Inner.{Ready, withRun}
 use Rattle.state_cache.specs.Run.{settled}
+use Rattle.entry.specs.declared.Ballot.{Ballot}
+use Rattle.entry.specs.declared.LogIndex.{LogIndex}
 use Rattle.state_cache.specs.declared.IndexRecord.{IndexRecord}
 use Rattle.state_cache.specs.declared.Settled.{Settled}
 use Rattle.state_cache.specs.declared.Settled.the-variants.{Done}
@@ -38,6 +41,28 @@ askedKeys given n = if given then n else 0
 
 abbrev pub askedWords : Bool → List ℕ → List ℕ
 askedWords given ws = if given then ws else replicate snapshotWords 0
+
+-- a record with what an operation sets: those that no other call sets alone
+abbrev pub withRound : Ballot → IndexRecord → IndexRecord
+withRound b x = record {
+  «batch_size» = x .«batch_size»;
+  retained = x .retained;
+  batched = x .batched;
+  compacted = x .compacted;
+  decided = x .decided;
+  promise = x .promise;
+  «accepted_round» = b;
+  «snapshot_held» = x .«snapshot_held»;
+  keys = x .keys;
+  «stop_held» = x .«stop_held»;
+  stop = x .stop;
+}
+
+abbrev pub withCompacted : LogIndex → IndexRecord → IndexRecord
+withCompacted i x = withRun i (x .retained) (x .«snapshot_held») (x .keys) x
+
+abbrev pub withSnapshot : Bool → ℕ → IndexRecord → IndexRecord
+withSnapshot held n x = withRun (x .compacted) (x .retained) held n x
 
 -- the run's start, and the log that the record and the words stand for
 abbrev pub midstOf : ℕ → Raw → Midst
@@ -67,6 +92,9 @@ pub record Goes (gs : List Guard) (next : Midst) (s : Stepped) (log snapshot : L
   pub verdict : settled (s .answer) ≡ settle (first gs) tt
   pub after : settled (s .answer) ≡ replied tt
       → (midstOf (s .start) (raw (s .index) log snapshot) ≡ next) × Kept (raw (s .index) log snapshot)
+
+abbrev pub Steps : Numbers → Lent → Op → Midst → Stepped → List ℕ → List ℕ → Type 0
+Steps n l o m s log snapshot = Goes (stepGuards n l o m) (step l o m) s log snapshot
 
 -- what is known of the parts that are lent beside a list in form
 pub record Lends (b : CodeLent) (entries incoming : List ℕ) : Type 0 where

@@ -2,8 +2,11 @@
 use super::super::Lent;
 use super::super::Op;
 use super::super::OpKind;
+use entry::Ballot;
 use entry::LogIndex;
 use entry::Refusal;
+use entry::StopSign;
+use entry::inner::sign_if;
 use state_cache::IndexRecord;
 use state_cache::Settled;
 ghost use mathlib.Core.Path.{_≡_};
@@ -13,12 +16,12 @@ ghost use Prim.Native.Nat.{_≤_};
 ghost use lib.ListN.{length};
 ghost use Rattle.entry.specs.Limits.{snapshotWords};
 ghost use Rattle.entry.specs.Change.{entriesIn, sliceFormed};
-ghost use Rattle.model.specs.Backend.{appendOnPrefix, trim, supplied, stepGuards, step};
+ghost use Rattle.model.specs.Backend.{appendOnPrefix, trim, supplied, step};
 ghost use Rattle.state_cache.specs.State.{raw, numbersIn};
-ghost use Rattle.state_cache.specs.Inner.{Small};
+ghost use Rattle.state_cache.specs.Inner.{Small, withPromise, withDecided, withStop};
 ghost use Rattle.backend.specs.Ops.{opOf, lentOf};
-ghost use Rattle.backend.specs.Inner.{onlyEntries, askedKeys, askedWords, midstOf, Kept, doneAt, rejoined};
-ghost use Rattle.backend.specs.Inner.{roomGuards, Goes, Lends};
+ghost use Rattle.backend.specs.Inner.{onlyEntries, askedKeys, askedWords, withRound, withCompacted, withSnapshot};
+ghost use Rattle.backend.specs.Inner.{midstOf, Kept, doneAt, rejoined, roomGuards, Goes, Steps, Lends};
 
 // A list's state after an operation, and the start of the run, which may not be compacted.
 pub struct Stepped {
@@ -91,11 +94,8 @@ fn put_on_prefix(
     requires { ⌜ Kept (raw index (now log) (now snapshot)) ⌝ }
     requires { ⌜ Small (numbersIn before) ⌝ }
     requires { ⌜ sliceFormed (now entries) ≡ true ⌝ }
-    ensures { λ r. ⌜ Goes
-        (stepGuards (numbersIn before) (onlyEntries (now (entries .entry))) (appendOnPrefix (from .0))
-        (midstOf start (raw index (now (log .entry)) (now (snapshot .entry)))))
-        (step (onlyEntries (now (entries .entry))) (appendOnPrefix (from .0))
-        (midstOf start (raw index (now (log .entry)) (now (snapshot .entry)))))
+    ensures { λ r. ⌜ Steps (numbersIn before) (onlyEntries (now (entries .entry))) (appendOnPrefix (from .0))
+        (midstOf start (raw index (now (log .entry)) (now (snapshot .entry))))
         r (now (log .exit)) (now (snapshot .entry)) ⌝ }
 {
     let end = state_cache::inner::end(before);
@@ -138,6 +138,57 @@ fn keys_if(given: bool, keys: usize) -> usize
     if given { keys } else { 0 }
 }
 
+// The record with one field, or what belongs together, set.
+fn with_promise(index: IndexRecord, ballot: Ballot) -> IndexRecord
+    ensures { λ r. ⌜ r ≡ withPromise ballot index ⌝ }
+{
+    let mut next = index;
+    next.promise = ballot;
+    next
+}
+
+fn with_decided(index: IndexRecord, idx: LogIndex) -> IndexRecord
+    ensures { λ r. ⌜ r ≡ withDecided idx index ⌝ }
+{
+    let mut next = index;
+    next.decided = idx;
+    next
+}
+
+fn with_round(index: IndexRecord, ballot: Ballot) -> IndexRecord
+    ensures { λ r. ⌜ r ≡ withRound ballot index ⌝ }
+{
+    let mut next = index;
+    next.accepted_round = ballot;
+    next
+}
+
+fn with_compacted(index: IndexRecord, idx: LogIndex) -> IndexRecord
+    ensures { λ r. ⌜ r ≡ withCompacted idx index ⌝ }
+{
+    let mut next = index;
+    next.compacted = idx;
+    next
+}
+
+fn with_stop(index: IndexRecord, held: bool, stop: StopSign) -> IndexRecord
+    ensures { λ r. ⌜ r ≡ withStop held stop index ⌝ }
+{
+    let mut next = index;
+    next.stop_held = held;
+    next.stop = stop;
+    next
+}
+
+fn with_snapshot(index: IndexRecord, held: bool, keys: usize) -> IndexRecord
+    ensures { λ r. ⌜ r ≡ withSnapshot held keys index ⌝ }
+{
+    let mut next = index;
+    next.snapshot_held = held;
+    next.keys = keys;
+    next
+}
+
 // The snapshot's words: those that are lent, or zeros.
 fn write_snapshot(snapshot: &mut [u64], given: bool, incoming: &[u64])
     requires { ⌜ length (now snapshot) ≡ snapshotWords ⌝ }
@@ -167,48 +218,27 @@ pub fn step(
     requires { ⌜ Small (numbersIn before) ⌝ }
     requires { ⌜ Lends lent (now entries) (now incoming) ⌝ }
     requires { ⌜ supplied (lentOf lent (now entries) (now incoming)) (opOf o) ≡ true ⌝ }
-    ensures { λ r. ⌜ Goes
-        (stepGuards (numbersIn before) (lentOf lent (now (entries .entry)) (now (incoming .entry))) (opOf o)
-        (midstOf start (raw index (now (log .entry)) (now (snapshot .entry)))))
-        (step (lentOf lent (now (entries .entry)) (now (incoming .entry))) (opOf o)
-        (midstOf start (raw index (now (log .entry)) (now (snapshot .entry)))))
+    ensures { λ r. ⌜ Steps (numbersIn before) (lentOf lent (now (entries .entry)) (now (incoming .entry))) (opOf o)
+        (midstOf start (raw index (now (log .entry)) (now (snapshot .entry))))
         r (now (log .exit)) (now (snapshot .exit)) ⌝ }
 {
     let kind = o.kind;
     let idx = o.index;
     let ballot = o.ballot;
     let given = o.given;
-    let mut next = index;
     match kind {
         OpKind::AppendEntries => put_at(start, index, log, snapshot, index.retained, entries),
         OpKind::AppendOnPrefix => put_on_prefix(before, start, index, log, snapshot, idx, entries),
-        OpKind::SetPromise => {
-            next.promise = ballot;
-            done(start, next)
-        }
-        OpKind::SetDecidedIndex => {
-            next.decided = idx;
-            done(start, next)
-        }
-        OpKind::SetAcceptedRound => {
-            next.accepted_round = ballot;
-            done(start, next)
-        }
-        OpKind::SetCompactedIdx => {
-            next.compacted = idx;
-            done(start, next)
-        }
+        OpKind::SetPromise => done(start, with_promise(index, ballot)),
+        OpKind::SetDecidedIndex => done(start, with_decided(index, idx)),
+        OpKind::SetAcceptedRound => done(start, with_round(index, ballot)),
+        OpKind::SetCompactedIdx => done(start, with_compacted(index, idx)),
         OpKind::Trim => trim_to(start, index, log, snapshot, idx),
-        OpKind::SetStopsign => {
-            next.stop = entry::inner::sign_if(given, lent.stop);
-            next.stop_held = given;
-            done(start, next)
-        }
+        OpKind::SetStopsign => done(start, with_stop(index, given, sign_if(given, lent.stop))),
         OpKind::SetSnapshot => {
             write_snapshot(snapshot, given, incoming);
-            next.keys = keys_if(given, lent.keys);
-            next.snapshot_held = given;
-            done(start, next)
+            let keys = keys_if(given, lent.keys);
+            done(start, with_snapshot(index, given, keys))
         }
     }
 }

@@ -43,8 +43,6 @@ use Rattle.reading.specs.Replies.{boundOf, readSaid, partShown, partShownAt}
 use Rattle.reading.specs.declared.Bound.{Bound}
 use Rattle.reading.proofs.Bound as E
 use Rattle.reading.proofs.Bound.Laws as E′
-use Rattle.reading.proofs.ReadReply as S
-use Rattle.reading.proofs.ReadReply.Laws as S′
 use types.Kit.{Given, ‵, raw, _⊛_, ⋆, some, later, given, _$_, _∵_, !, qed, by, move, drop, use1, use2, split, join, pick, learn, rewrite, fsplit, fjoin, suffices, frame, await, done}
 use types.Part.{whole, sub, look-in}
 use types.Run.{look, init, forget, stop, fld, from, load, of-opd, and-then, no-more, assigns, land, returns, enter, alloc1, alloc0, params1, pass1, pass0, free1, free0}

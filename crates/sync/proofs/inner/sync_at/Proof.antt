@@ -13,13 +13,6 @@ use Rattle.sync.proofs.Syncing.{sync-refused, fits, fits-small, sync-ov
 use borrow.Author.Needs.{needs}
 use Rattle.sync.proofs.inner.sync_at.Statement.{statement}
 use Rattle.sync.proofs.inner.sync_at.Tie as tie
-use Rattle.sync.proofs.inner.sync_at.Reads as reads
-use Rattle.sync.proofs.inner.sync_at.Lts as lts
-use Rattle.state_cache.proofs.inner.accepted.Reads as accepted-reads
-use Rattle.sync.proofs.inner.check_sync.Reads as check-sync-reads
-use Rattle.sync.proofs.inner.hold.Reads as hold-reads
-use Rattle.sync.proofs.inner.mark.Reads as mark-reads
-use Rattle.sync.proofs.inner.take_suffix.Reads as take-suffix-reads
 
 abbrev stateAt : tie.Start → Raw
 stateAt c = raw (c .args .index) (now (c .args .log)) (now (c .args .snapshot))

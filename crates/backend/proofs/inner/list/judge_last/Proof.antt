@@ -12,12 +12,6 @@ use Rattle.backend.proofs.Lasts.{past-sum, formed-numbers, last-past, l
 use borrow.Author.Needs.{needs}
 use Rattle.backend.proofs.inner.list.judge_last.Statement.{statement}
 use Rattle.backend.proofs.inner.list.judge_last.Tie as tie
-use Rattle.backend.proofs.inner.list.judge_last.Reads as reads
-use Rattle.backend.proofs.inner.list.judge_last.Lts as lts
-use Rattle.state_cache.proofs.inner.accepted.Reads as accepted-reads
-use Rattle.state_cache.proofs.inner.numbers_formed.Reads as numbers-formed-reads
-use Rattle.state_cache.proofs.inner.one_if.Reads as one-if-reads
-use Rattle.state_cache.proofs.inner.past_last.Reads as past-last-reads
 
 abbrev stateAt : tie.Start → Raw
 stateAt c = raw (c .args .index) (now (c .args .log)) (now (c .args .snapshot))

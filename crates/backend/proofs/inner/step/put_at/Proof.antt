@@ -6,10 +6,6 @@ use Rattle.backend.proofs.Goings.{put-refused, put-goes}
 use borrow.Author.Needs.{needs}
 use Rattle.backend.proofs.inner.step.put_at.Statement.{statement}
 use Rattle.backend.proofs.inner.step.put_at.Tie as tie
-use Rattle.backend.proofs.inner.step.put_at.Reads as reads
-use Rattle.backend.proofs.inner.step.put_at.Lts as lts
-use Rattle.backend.proofs.inner.step.done.Reads as done-reads
-use Rattle.words.proofs.splice.Reads as splice-reads
 
 abbrev stateAt : tie.Start → Raw
 stateAt c = raw (c .args .index) (now (c .args .log)) (now (c .args .snapshot))

@@ -5,13 +5,6 @@ use Rattle.backend.proofs.Goings.{trim-goes}
 use borrow.Author.Needs.{needs}
 use Rattle.backend.proofs.inner.step.trim_to.Statement.{statement}
 use Rattle.backend.proofs.inner.step.trim_to.Tie as tie
-use Rattle.backend.proofs.inner.step.trim_to.Reads as reads
-use Rattle.backend.proofs.inner.step.trim_to.Lts as lts
-use Rattle.backend.proofs.inner.step.done.Reads as done-reads
-use Rattle.state_cache.proofs.inner.above.Reads as above-reads
-use Rattle.state_cache.proofs.inner.larger.Reads as larger-reads
-use Rattle.state_cache.proofs.inner.least.Reads as least-reads
-use Rattle.words.proofs.cut_out.Reads as cut-out-reads
 
 cut-out-requires : tie.Need-cut-out-requires
 cut-out-requires c κs =

@@ -1,10 +1,16 @@
-// The library from a program: two runs of changes are folded, the folds are merged, and keys are looked up; then a
-// log takes an entry, which is decided and looked up.
+// The library from a program: the entries of two logs are folded, the folds are merged, and keys are looked up; then
+// a log takes an entry, which is decided and looked up.
 use entry::BlockPlace;
 use entry::LogIndex;
 use entry::Said;
+use reading::Bound;
 use snapshot::Folded;
 use snapshot::Found;
+use state_cache::IndexRecord;
+
+type LogWords = [u64; entry::LOG_WORDS];
+
+type SnapshotWords = [u64; entry::SNAPSHOT_WORDS];
 
 // How many keys a fold or a merge wrote; none where it was refused.
 fn keys(folded: Folded) -> usize {
@@ -45,33 +51,95 @@ fn print_found(found: Found) {
     io::write_all(1, b"\n");
 }
 
+// A fresh log, whatever its words held.
+fn started(log: &mut LogWords, held: &mut SnapshotWords) -> IndexRecord {
+    let started = state_cache::fresh(0, log, held);
+    started.index
+}
+
+// The log with one entry more.
+fn appended(
+    index: IndexRecord,
+    log: &mut LogWords,
+    held: &SnapshotWords,
+    key: u64,
+    said: Said,
+) -> IndexRecord {
+    let added = internal_storage::append_entry_with_batching(index, log, held, key, said);
+    added.index
+}
+
+// The entries of a log, as a read shows them, folded to a snapshot.
+fn folded(
+    index: IndexRecord,
+    log: &LogWords,
+    held: &SnapshotWords,
+    out: &mut SnapshotWords,
+) -> Folded {
+    let reply = reading::read_reply(index, log, held, Bound::Unbounded, Bound::Unbounded);
+    let entries = reading::entries_shown(log, reply);
+    snapshot::fold(entries, out)
+}
+
+// The two folds in one.
+fn merged(
+    a: &SnapshotWords,
+    first: Folded,
+    b: &SnapshotWords,
+    second: Folded,
+    out: &mut SnapshotWords,
+) -> Folded {
+    snapshot::merge(a, keys(first), b, keys(second), out)
+}
+
+fn decided(
+    index: IndexRecord,
+    log: &LogWords,
+    held: &SnapshotWords,
+    upto: LogIndex,
+) -> IndexRecord {
+    let moved = internal_storage::set_decided_idx(index, log, held, upto);
+    moved.index
+}
+
+fn print_find(words: &SnapshotWords, count: usize, key: u64) {
+    print_found(snapshot::find(words, count, key));
+}
+
+fn print_lookup(index: IndexRecord, log: &LogWords, held: &SnapshotWords, key: u64) {
+    print_found(reading::lookup(index, log, held, key));
+}
+
 fn main() {
-    // An entry is a key and a place: 9 at 100, 4 at 200, then 9 removed. Then 4 at 300 and 7 at 700.
-    let first = [9, 100, 4, 200, 9, entry::REMOVED];
-    let second = [4, 300, 7, 700];
+    let mut log = [0u64; entry::LOG_WORDS];
+    let mut held = [0u64; entry::SNAPSHOT_WORDS];
     let mut a = [0u64; entry::SNAPSHOT_WORDS];
     let mut b = [0u64; entry::SNAPSHOT_WORDS];
     let mut both = [0u64; entry::SNAPSHOT_WORDS];
-    let first_fold = snapshot::fold(&first, &mut a);
-    let second_fold = snapshot::fold(&second, &mut b);
-    let merged = snapshot::merge(&a, keys(first_fold), &b, keys(second_fold), &mut both);
+    // Key 9 at place 100, 4 at 200, then 9 removed.
+    let mut index = started(&mut log, &mut held);
+    index = appended(index, &mut log, &held, 9, Said::Place(BlockPlace(100)));
+    index = appended(index, &mut log, &held, 4, Said::Place(BlockPlace(200)));
+    index = appended(index, &mut log, &held, 9, Said::Removed);
+    let first_fold = folded(index, &log, &held, &mut a);
+    // In a second log, 4 at 300 and 7 at 700.
+    index = started(&mut log, &mut held);
+    index = appended(index, &mut log, &held, 4, Said::Place(BlockPlace(300)));
+    index = appended(index, &mut log, &held, 7, Said::Place(BlockPlace(700)));
+    let second_fold = folded(index, &log, &held, &mut b);
+    let both_fold = merged(&a, first_fold, &b, second_fold, &mut both);
     print_folded(first_fold);
     print_folded(second_fold);
-    print_folded(merged);
-    let n = keys(merged);
-    print_found(snapshot::find(&both, n, 4));
-    print_found(snapshot::find(&both, n, 7));
-    print_found(snapshot::find(&both, n, 9));
-    print_found(snapshot::find(&both, 513, 4));
-    let mut log = [0u64; entry::LOG_WORDS];
-    let mut held = [0u64; entry::SNAPSHOT_WORDS];
-    let started = state_cache::fresh(0, &mut log, &mut held);
-    let start = started.index;
-    let said = Said::Place(BlockPlace(100));
-    let added = internal_storage::append_entry_with_batching(start, &mut log, &held, 9, said);
-    let appended = added.index;
-    let known = internal_storage::set_decided_idx(appended, &log, &held, LogIndex(1));
-    let index = known.index;
-    print_found(reading::lookup(appended, &log, &held, 9));
-    print_found(reading::lookup(index, &log, &held, 9));
+    print_folded(both_fold);
+    let n = keys(both_fold);
+    print_find(&both, n, 4);
+    print_find(&both, n, 7);
+    print_find(&both, n, 9);
+    print_find(&both, entry::KEYS + 1, 4);
+    // An entry is found once it is decided.
+    index = started(&mut log, &mut held);
+    index = appended(index, &mut log, &held, 9, Said::Place(BlockPlace(100)));
+    print_lookup(index, &log, &held, 9);
+    index = decided(index, &log, &held, LogIndex(1));
+    print_lookup(index, &log, &held, 9);
 }

@@ -24,7 +24,7 @@ pub extern "C" fn kotuseraw_ballot_eq(a: Ballot, b: Ballot) -> bool
     a.eq(b)
 }
 
-// Whether an entry's second word is in form: a place below 2^48, or removed.
+// Whether a word may be what an entry says of its key: a place below 2^48, or removed.
 #[no_mangle]
 pub extern "C" fn kotuseraw_place_formed(w: u64) -> bool
     ensures { λ r. ⌜ r ≡ wordFormed w ⌝ }
@@ -32,7 +32,7 @@ pub extern "C" fn kotuseraw_place_formed(w: u64) -> bool
     entry::place_formed(w)
 }
 
-// Whether an entry slice is in form: no odd word, and every entry in form.
+// Whether an entry slice is in form: whole entries, and each in form.
 #[no_mangle]
 pub extern "C" fn kotuseraw_entries_formed(s: &[u64]) -> bool
     ensures { λ r. ⌜ r ≡ sliceFormed (now (s .entry)) ⌝ }

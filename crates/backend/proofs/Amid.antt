@@ -1,13 +1,9 @@
 -- The log's words in the midst of a list, whatever the numbers are: another run before the same batch.
-use Prim.Native.Nat.{ℕ, _+_, _-_, _*_, _/_, _≤_, min}
-use mathlib.Core.Path.{_≡_, refl, sym, ap, _∙_}
-use mathlib.Core.Bool.{true}
-use mathlib.Core.List.{List, [], _++_, append-assoc}
-use native.Mathlib.Omega.{arith}
-use lib.ListN.{length, take, drop, replicate, length-append, length-take, length-drop, length-replicate, drop-of-length-le}
-use lib.Seq.{take-all, paste}
-use Rattle.words.specs.Words.{laid, spliced}
-use Rattle.words.specs.Coded.{wordsOf}
+use Rattle.words.proofs.Prelude.{arith, _≡_, refl, sym, ap, _∙_, ℕ, _+_, _-_, _*_, _/_, _≤_, min, true, List, []}
+use Rattle.words.proofs.Prelude.{append-assoc, _++_, length-drop, length-take, length-append, drop-of-length-le, length}
+use Rattle.words.proofs.Prelude.{take, drop, replicate, take-all}
+use lib.{ListN.length-replicate, Seq.paste}
+use Rattle.words.specs.{Words.laid, Words.spliced, Coded.wordsOf}
 use Rattle.words.proofs.Tests.{reach, reached, short, and-left, and-right}
 use Rattle.words.proofs.Laws.{paste-all}
 use Rattle.words.proofs.Alls.{all-join, all-left, all-right, all-take, all-drop}
@@ -17,8 +13,7 @@ use Rattle.entry.specs.Change.{Change, changeCode, changeFormed, entriesFormed,
 use Rattle.entry.proofs.ChangeLaws.{changeOk}
 use Rattle.entry.proofs.SliceLaws.{laid-of, stored-laid, slice-whole, slice-fine}
 use Rattle.snapshot.specs.Calls.{snapshotFormed}
-use Rattle.model.specs.Numbers.{numbersFormed}
-use Rattle.model.specs.Log.{Log, retaining, withRun}
+use Rattle.model.specs.{Numbers.numbersFormed, Log.Log, Log.retaining, Log.withRun}
 use Rattle.state_cache.specs.State.{Raw, raw, numbersIn, signHeld, formed, logOf}
 use Rattle.state_cache.specs.Inner.{Ready, withEntries}
 use Rattle.state_cache.proofs.Stands.{snapshot-tests}

@@ -1,28 +1,17 @@
 -- A lent slice of operations gathered into a list by value: up to eight are the list's, and a ninth makes it no
 -- request.
-use Prim.Native.Nat.{ℕ, suc, _+_, _≤_, _<_}
-use mathlib.Core.Path.{_≡_, refl, sym, ap, ap₂, _∙_}
-use mathlib.Core.Bool.{Bool, true, false, _&&_}
-use mathlib.Core.List.{List, [], _∷_, _++_, append-nil, append-assoc, map}
-use native.Mathlib.Omega.{arith}
-use native.Mathlib.Numerals.{add-one}
-use borrow.Author.Tests.{lt-ltb, le-ltb, le-leb, lt-leb}
-use lib.Dec.{leb}
-use lib.ListN.{length, take, set, length-append, length-set, length-map, length-replicate}
-use lib.Seq.{take-suc-set}
+use Rattle.words.proofs.Prelude.{arith, _≡_, refl, sym, ap, ap₂, _∙_, ℕ, suc, _+_, _≤_, _<_, add-one, Bool, true, false}
+use Rattle.words.proofs.Prelude.{_&&_, leb, lt-ltb, le-ltb, le-leb, lt-leb, List, [], _∷_, append-nil, append-assoc}
+use Rattle.words.proofs.Prelude.{_++_, map, length-append, length-set, length-map, length, take}
+use lib.{ListN.set, ListN.length-replicate, Seq.take-suc-set}
 use Rattle.words.proofs.Tests.{reach, reached, short}
-use Rattle.entry.specs.Limits.{mostOps}
-use Rattle.entry.specs.Guards.{refused}
-use Rattle.model.specs.Backend.{Lent, opsFormed}
-use Rattle.model.specs.Calls.{write, malformed}
-use Rattle.state_cache.specs.State.{Raw, formed}
-use Rattle.state_cache.specs.Run.{outcome, run}
+use Rattle.entry.specs.{Limits.mostOps, Guards.refused}
+use Rattle.model.specs.{Backend.Lent, Backend.opsFormed, Calls.write, Calls.malformed}
+use Rattle.state_cache.specs.{State.Raw, State.formed, Run.outcome, Run.run}
 use Rattle.state_cache.proofs.Runs.{ill-formed, not-whole, bad-call}
-use Rattle.backend.specs.declared.Op.{Op as CodeOp}
-use Rattle.backend.specs.declared.OpList.{OpList}
-use Rattle.backend.specs.declared.Lent.{Lent as CodeLent}
-use Rattle.backend.specs.Ops.{opOf, opsIn, lentOf, wholeLent, wholeList}
-use Rattle.backend.specs.Inner.{noOp, noOps, putOf, putAll}
+use Rattle.backend.specs.{declared.Op.Op as CodeOp, declared.OpList.OpList, declared.Lent.Lent as CodeLent}
+use Rattle.backend.specs.{Ops.opOf, Ops.opsIn, Ops.lentOf, Ops.wholeLent, Ops.wholeList, Inner.noOp, Inner.noOps}
+use Rattle.backend.specs.{Inner.putOf, Inner.putAll}
 
 record Holding (l : OpList) (os : List CodeOp) : Type 0 where
   count : l .count ≡ length os

@@ -1,51 +1,33 @@
 -- What each operation comes to, from the record and the words that the code leaves.
-use Prim.Native.Nat.{ℕ, _+_, _-_, _*_, _/_, _≤_, _<_, min, max}
-use mathlib.Core.Path.{_≡_, refl, sym, ap, ap₂, _∙_}
-use mathlib.Core.Bool.{Bool, true, false, _&&_, _||_, not, true≢false}
-use mathlib.Core.List.{List, [], _++_}
-use mathlib.Core.Option.{Option, none, some}
-use native.Mathlib.Omega.{arith}
-use borrow.Author.Tests.{lt-ltb, le-ltb, ltb-true, ltb-false}
-use lib.Dec.{ltb, eqb}
-use lib.ListN.{length, take, drop, replicate}
-use lib.Seq.{take-all}
-use Rattle.words.specs.If.{if_then_else_}
-use Rattle.words.specs.All.{allOf}
-use Rattle.words.specs.Words.{laid, spliced}
-use Rattle.words.specs.Coded.{wordsOf, entriesAt}
-use Rattle.words.proofs.Tests.{and-right, or-right}
-use Rattle.words.proofs.CodedLaws.{entries-length}
-use Rattle.entry.specs.Limits.{width, entryRoom, snapshotWords}
-use Rattle.entry.specs.Change.{Change, changeCode, entriesOf, entriesIn, sliceFormed}
-use Rattle.entry.specs.Sign.{signFormed, signIf, signBlank, blank, noSign}
-use Rattle.entry.specs.Guards.{Guard, Verdict, passes, refuses, first, Answer, refused, replied, settle}
-use Rattle.entry.specs.Refusals.{numberOf, carriedOf}
-use Rattle.entry.specs.declared.Ballot.{Ballot}
-use Rattle.entry.specs.declared.LogIndex.{LogIndex}
-use Rattle.entry.specs.declared.StopSign.{StopSign}
-use Rattle.entry.specs.declared.Refusal.{Refusal}
-use Rattle.entry.specs.declared.Refusal.the-variants.{NoRoom, OutsideRun}
+use Rattle.words.proofs.Prelude.{arith, _≡_, refl, sym, ap, ap₂, _∙_, ℕ, _+_, _-_, _*_, _/_, _≤_, _<_, min, max, Bool}
+use Rattle.words.proofs.Prelude.{true, false, true≢false, _&&_, _||_, not, eqb, ltb, lt-ltb, le-ltb, ltb-true}
+use Rattle.words.proofs.Prelude.{ltb-false, if_then_else_, Option, none, some, List, [], _++_, length, take, drop}
+use Rattle.words.proofs.Prelude.{replicate, take-all}
+use Rattle.words.specs.{All.allOf, Words.laid, Words.spliced, Coded.wordsOf, Coded.entriesAt}
+use Rattle.words.proofs.{Tests.and-right, Tests.or-right, CodedLaws.entries-length}
+use Rattle.entry.specs.{Limits.width, Limits.entryRoom, Limits.snapshotWords, Change.Change, Change.changeCode}
+use Rattle.entry.specs.{Change.entriesOf, Change.entriesIn, Change.sliceFormed, Sign.signFormed, Sign.signIf}
+use Rattle.entry.specs.{Sign.signBlank, Sign.blank, Sign.noSign, Guards.Guard, Guards.Verdict, Guards.passes}
+use Rattle.entry.specs.{Guards.refuses, Guards.first, Guards.Answer, Guards.refused, Guards.replied, Guards.settle}
+use Rattle.entry.specs.{Refusals.numberOf, Refusals.carriedOf, declared.Ballot.Ballot, declared.LogIndex.LogIndex}
+use Rattle.entry.specs.{declared.StopSign.StopSign, declared.Refusal.Refusal, declared.Refusal.the-variants.NoRoom}
+use Rattle.entry.specs.{declared.Refusal.the-variants.OutsideRun}
 use Rattle.entry.proofs.GuardLaws.{clear-all, passing, stopping, found, first-goes-on}
 use Rattle.entry.proofs.SliceLaws.{laid-of, stored-laid}
-use Rattle.snapshot.specs.Folds.{rising}
-use Rattle.snapshot.specs.Calls.{snapshotFormed}
-use Rattle.snapshot.specs.Inner.{Holds}
+use Rattle.snapshot.specs.{Folds.rising, Calls.snapshotFormed, Inner.Holds}
 use Rattle.snapshot.proofs.Calling.{snapshot-holds}
 use Rattle.model.specs.Numbers.{Numbers, endOf}
 use Rattle.model.specs.Log.{given, ifGiven, retaining, withRun as logWithRun}
 use Rattle.model.specs.Backend.{Op, appendEntries, appendOnPrefix, setDecided, setCompacted, trim, setPromise, setRound, setSign, setSnapshot, Lent, supplied, Midst, step, stepGuards}
-use Rattle.state_cache.specs.State.{Raw, raw, signHeld, logOf}
-use Rattle.state_cache.specs.Inner.{withEntries, withStop, withDecided, withPromise}
-use Rattle.state_cache.specs.declared.IndexRecord.{IndexRecord}
-use Rattle.state_cache.specs.declared.Settled.{Settled}
-use Rattle.state_cache.specs.declared.Settled.the-variants.{Done, Refused}
-use Rattle.backend.specs.declared.Op.{Op as CodeOp}
-use Rattle.backend.specs.declared.OpKind.{OpKind}
-use Rattle.backend.specs.declared.Lent.{Lent as CodeLent}
-use Rattle.backend.specs.declared.inner.step.Stepped.{Stepped}
-use Rattle.backend.specs.Ops.{ofKind, opOf, lentOf, incomingFormed}
-use Rattle.backend.specs.Inner.{midstOf, Kept, rejoined, roomGuards, Goes, Steps, Lends, onlyEntries, askedKeys}
-use Rattle.backend.specs.Inner.{askedWords, withRound, withCompacted, withSnapshot}
+use Rattle.state_cache.specs.{State.Raw, State.raw, State.signHeld, State.logOf, Inner.withEntries, Inner.withStop}
+use Rattle.state_cache.specs.{Inner.withDecided, Inner.withPromise, declared.IndexRecord.IndexRecord}
+use Rattle.state_cache.specs.{declared.Settled.Settled, declared.Settled.the-variants.Done}
+use Rattle.state_cache.specs.{declared.Settled.the-variants.Refused}
+use Rattle.backend.specs.{declared.Op.Op as CodeOp, declared.OpKind.OpKind, declared.Lent.Lent as CodeLent}
+use Rattle.backend.specs.{declared.inner.step.Stepped.Stepped, Ops.ofKind, Ops.opOf, Ops.lentOf}
+use Rattle.backend.specs.{Ops.incomingFormed, Inner.midstOf, Inner.Kept, Inner.rejoined, Inner.roomGuards}
+use Rattle.backend.specs.{Inner.Goes, Inner.Steps, Inner.Lends, Inner.onlyEntries, Inner.askedKeys}
+use Rattle.backend.specs.{Inner.askedWords, Inner.withRound, Inner.withCompacted, Inner.withSnapshot}
 use Rattle.backend.proofs.Amid.{kept-count, batch-count, put-log, put-held, trim-log, trim-held}
 
 abbrev stepped : Settled → ℕ → IndexRecord → Stepped

@@ -1,29 +1,19 @@
 -- What is judged after the last operation: refusal 9, then 12. In the midst of a list the words are always in form, so
 -- the state is
 -- well formed exactly if its log is.
-use Prim.Native.Nat.{ℕ, _+_}
-use mathlib.Core.Path.{_≡_, refl, sym, ap, _∙_}
-use mathlib.Core.Bool.{Bool, true, false, _&&_, not, and-true}
-use mathlib.Core.List.{List}
-use native.Mathlib.Omega.{arith}
-use borrow.Author.Tests.{ltb-false, eq-eqb, not-false}
-use lib.Dec.{ltb, eqb}
-use lib.ListN.{length}
-use Rattle.words.proofs.Tests.{and-left, and-right, both-true}
-use Rattle.words.proofs.CodedLaws.{entries-length}
+use Rattle.words.proofs.Prelude.{arith, _≡_, refl, sym, ap, _∙_, ℕ, _+_, Bool, true, false, and-true, _&&_, not, eqb}
+use Rattle.words.proofs.Prelude.{ltb, not-false, eq-eqb, ltb-false, List, length}
+use Rattle.words.proofs.{Tests.and-left, Tests.and-right, Tests.both-true, CodedLaws.entries-length}
 use Rattle.entry.specs.Limits.{lastIndex, logWords, snapshotWords}
 use Rattle.entry.specs.Change.{Change, changeCode, entriesOf, storedIn, Laid}
 use Rattle.entry.specs.Guards.{Guard, Verdict, passes, refuses, first, Answer, refused, replied, settle}
 use Rattle.entry.proofs.GuardLaws.{Finds, clear-all, passing, stopping, found, passed}
 use Rattle.entry.proofs.SliceLaws.{laid-stored, stored-laid}
-use Rattle.snapshot.specs.Folds.{rising}
-use Rattle.snapshot.specs.Calls.{snapshotFormed}
-use Rattle.model.specs.Numbers.{Numbers, endOf, acceptedOf, numbersFormed}
-use Rattle.model.specs.Log.{numbersOf, wellFormed}
-use Rattle.model.specs.Backend.{lastGuards}
-use Rattle.state_cache.specs.State.{Raw, numbersIn, oneIf, signHeld, snapshotHeld, formed, logOf}
-use Rattle.state_cache.specs.Inner.{Small}
-use Rattle.state_cache.specs.declared.IndexRecord.{IndexRecord}
+use Rattle.snapshot.specs.{Folds.rising, Calls.snapshotFormed}
+use Rattle.model.specs.{Numbers.Numbers, Numbers.endOf, Numbers.acceptedOf, Numbers.numbersFormed, Log.numbersOf}
+use Rattle.model.specs.{Log.wellFormed, Backend.lastGuards}
+use Rattle.state_cache.specs.{State.Raw, State.numbersIn, State.oneIf, State.signHeld, State.snapshotHeld, State.formed}
+use Rattle.state_cache.specs.{State.logOf, Inner.Small, declared.IndexRecord.IndexRecord}
 use Rattle.state_cache.proofs.Stands.{snapshot-tests, log-formed, given-by}
 use Rattle.backend.specs.Inner.{midstOf, Kept}
 

@@ -1,41 +1,27 @@
 -- The request: what each operation needs, the parts lent beside the list, and refusal 11.
-use Prim.Native.Nat.{ℕ, suc, _+_, _≤_, _<_}
-use mathlib.Core.Path.{_≡_, refl, sym, ap, ap₂, _∙_}
-use mathlib.Core.Bool.{Bool, true, false, _&&_, _||_, not, true≢false}
-use mathlib.Core.List.{List, [], _∷_, map}
-use mathlib.Core.Option.{none, some}
-use native.Mathlib.Omega.{arith}
-use borrow.Author.Tests.{eqb-true, leb-true, le-leb, lt-leb}
-use lib.Dec.{leb, eqb}
-use lib.ListN.{length, take, drop, getD, length-map, List·getD-map}
-use lib.Seq.{drop-cons, getD-take, length-take-le}
-use Rattle.words.specs.If.{if_then_else_}
+use Rattle.words.proofs.Prelude.{arith, _≡_, refl, sym, ap, ap₂, _∙_, ℕ, suc, _+_, _≤_, _<_, Bool, true, false}
+use Rattle.words.proofs.Prelude.{true≢false, _&&_, _||_, not, eqb, leb, eqb-true, le-leb, lt-leb, leb-true}
+use Rattle.words.proofs.Prelude.{if_then_else_, none, some, List, [], _∷_, map, length-map, length, take, drop, getD}
+use Rattle.words.proofs.Prelude.{length-take-le, drop-cons}
+use lib.{ListN.List·getD-map, Seq.getD-take}
 use Rattle.words.specs.All.{allOf}
-use Rattle.words.proofs.Tests.{and-left, and-right, both-true}
-use Rattle.words.proofs.Alls.{all-turn}
-use Rattle.words.proofs.CodedLaws.{entries-length}
-use Rattle.entry.specs.Limits.{snapshotWords, mostOps}
-use Rattle.entry.specs.Change.{changeCode, entriesFormed, entriesOf, entriesIn, wholeIn, sliceFormed}
-use Rattle.entry.specs.Sign.{signFormed}
-use Rattle.entry.specs.Guards.{refused}
-use Rattle.entry.specs.declared.StopSign.{StopSign}
+use Rattle.words.proofs.{Tests.and-left, Tests.and-right, Tests.both-true, Alls.all-turn, CodedLaws.entries-length}
+use Rattle.entry.specs.{Limits.snapshotWords, Limits.mostOps, Change.changeCode, Change.entriesFormed, Change.entriesOf}
+use Rattle.entry.specs.{Change.entriesIn, Change.wholeIn, Change.sliceFormed, Sign.signFormed, Guards.refused}
+use Rattle.entry.specs.{declared.StopSign.StopSign}
 use Rattle.snapshot.specs.Calls.{snapshotFormed}
 use Rattle.snapshot.proofs.Calling.{snapshot-holds}
 use Rattle.model.specs.Log.{given, ifGiven, keysFormed}
 use Rattle.model.specs.Backend.{Op, appendEntries, appendOnPrefix, setDecided, setCompacted, trim, setPromise, setRound, setSign, setSnapshot, Lent, supplied, opsFormed}
 use Rattle.model.specs.Calls.{write, malformed}
 use Rattle.model.proofs.Forms.{of-snapshot}
-use Rattle.state_cache.specs.State.{Raw, formed}
-use Rattle.state_cache.specs.Run.{outcome, run}
-use Rattle.state_cache.proofs.Stands.{ready-of, given-by}
-use Rattle.state_cache.proofs.Runs.{not-whole, bad-call}
-use Rattle.backend.specs.declared.Op.{Op as CodeOp}
-use Rattle.backend.specs.declared.OpKind.{OpKind}
-use Rattle.backend.specs.declared.OpKind.the-variants.{SetStopsign, SetSnapshot}
-use Rattle.backend.specs.declared.OpList.{OpList}
-use Rattle.backend.specs.declared.Lent.{Lent as CodeLent}
-use Rattle.backend.specs.Ops.{ofKind, opOf, opsIn, lentOf, incomingFormed, wholeLent, wholeList}
-use Rattle.backend.specs.Inner.{Lends, Listed, noOp}
+use Rattle.state_cache.specs.{State.Raw, State.formed, Run.outcome, Run.run}
+use Rattle.state_cache.proofs.{Stands.ready-of, Stands.given-by, Runs.not-whole, Runs.bad-call}
+use Rattle.backend.specs.{declared.Op.Op as CodeOp, declared.OpKind.OpKind}
+use Rattle.backend.specs.{declared.OpKind.the-variants.SetStopsign, declared.OpKind.the-variants.SetSnapshot}
+use Rattle.backend.specs.{declared.OpList.OpList, declared.Lent.Lent as CodeLent, Ops.ofKind, Ops.opOf, Ops.opsIn}
+use Rattle.backend.specs.{Ops.lentOf, Ops.incomingFormed, Ops.wholeLent, Ops.wholeList, Inner.Lends, Inner.Listed}
+use Rattle.backend.specs.{Inner.noOp}
 
 module _ (b : CodeLent) (o : CodeOp) where
   by-kind : (k : OpKind) → o .kind ≡ k → supplied (lentOf b [] []) (ofKind k o) ≡ supplied (lentOf b [] []) (opOf o)

@@ -1,41 +1,24 @@
 -- The operations one after the other: what is left of a list, from the state so far, comes to what the whole list does.
-use Prim.Native.Nat.{ℕ, suc, _+_, _≤_, _<_}
-use mathlib.Core.Path.{_≡_, refl, sym, ap, _∙_}
-use mathlib.Core.Bool.{true, _&&_, not}
-use mathlib.Core.List.{List, [], _∷_, map}
-use native.Mathlib.Omega.{arith}
-use native.Mathlib.Numerals.{add-one}
-use lib.Dec.{leb}
-use lib.ListN.{length, take, drop, getD, drop-of-length-le}
+use Rattle.words.proofs.Prelude.{arith, _≡_, refl, sym, ap, _∙_, ℕ, suc, _+_, _≤_, _<_, add-one, true, _&&_, not, leb}
+use Rattle.words.proofs.Prelude.{List, [], _∷_, map, drop-of-length-le, length, take, drop, getD}
 use Rattle.words.specs.All.{allOf}
-use Rattle.words.proofs.Tests.{and-right}
-use Rattle.words.proofs.Alls.{all-head, all-drop}
-use Rattle.entry.specs.Limits.{mostOps}
-use Rattle.entry.specs.Guards.{Verdict, passes, refuses, first, Answer, refused, replied, refusedBy, settle}
-use Rattle.entry.specs.Change.{entriesFormed}
-use Rattle.entry.specs.Sign.{signFormed}
-use Rattle.entry.specs.Refusals.{numberOf, carriedOf}
-use Rattle.entry.specs.declared.Refusal.{Refusal}
+use Rattle.words.proofs.{Tests.and-right, Alls.all-head, Alls.all-drop}
+use Rattle.entry.specs.{Limits.mostOps, Guards.Verdict, Guards.passes, Guards.refuses, Guards.first, Guards.Answer}
+use Rattle.entry.specs.{Guards.refused, Guards.replied, Guards.refusedBy, Guards.settle, Change.entriesFormed}
+use Rattle.entry.specs.{Sign.signFormed, Refusals.numberOf, Refusals.carriedOf, declared.Refusal.Refusal}
 use Rattle.entry.proofs.GuardLaws.{first-left, first-right}
-use Rattle.model.specs.Numbers.{Numbers}
-use Rattle.model.specs.Log.{ifGiven, keysFormed}
-use Rattle.model.specs.Backend.{Op, Lent, supplied, opsFormed, Midst, step, steps, stepGuards, lastGuards, opGuards, midst, writeGuards, listWritten}
-use Rattle.model.specs.Calls.{write, malformed, further, effect, replyOf}
-use Rattle.state_cache.specs.State.{Raw, raw, numbersIn, formed, logOf}
-use Rattle.state_cache.specs.Run.{outcome, run, settled}
-use Rattle.state_cache.specs.declared.IndexRecord.{IndexRecord}
-use Rattle.state_cache.specs.declared.Settled.{Settled}
-use Rattle.state_cache.specs.declared.Settled.the-variants.{Done, Refused}
-use Rattle.state_cache.proofs.Stands.{stands-of}
-use Rattle.state_cache.proofs.Runs.{call-refused, call-stands}
-use Rattle.backend.specs.declared.Op.{Op as CodeOp}
-use Rattle.backend.specs.declared.inner.step.Stepped.{Stepped}
-use Rattle.backend.specs.Ops.{opOf}
-use Rattle.backend.specs.declared.Lent.{Lent as CodeLent}
-use Rattle.backend.specs.declared.OpList.{OpList}
-use Rattle.backend.specs.Inner.{midstOf, Kept, Goes, Listed, Wrote, noOp}
-use Rattle.backend.proofs.Requests.{ops-length, op-cons}
-use Rattle.backend.proofs.Lasts.{numbers-of, last-formed}
+use Rattle.model.specs.{Numbers.Numbers, Log.ifGiven, Log.keysFormed, Backend.Op, Backend.Lent, Backend.supplied}
+use Rattle.model.specs.{Backend.opsFormed, Backend.Midst, Backend.step, Backend.steps, Backend.stepGuards}
+use Rattle.model.specs.{Backend.lastGuards, Backend.opGuards, Backend.midst, Backend.writeGuards, Backend.listWritten}
+use Rattle.model.specs.{Calls.write, Calls.malformed, Calls.further, Calls.effect, Calls.replyOf}
+use Rattle.state_cache.specs.{State.Raw, State.raw, State.numbersIn, State.formed, State.logOf, Run.outcome, Run.run}
+use Rattle.state_cache.specs.{Run.settled, declared.IndexRecord.IndexRecord, declared.Settled.Settled}
+use Rattle.state_cache.specs.{declared.Settled.the-variants.Done, declared.Settled.the-variants.Refused}
+use Rattle.state_cache.proofs.{Stands.stands-of, Runs.call-refused, Runs.call-stands}
+use Rattle.backend.specs.{declared.Op.Op as CodeOp, declared.inner.step.Stepped.Stepped, Ops.opOf}
+use Rattle.backend.specs.{declared.Lent.Lent as CodeLent, declared.OpList.OpList, Inner.midstOf, Inner.Kept}
+use Rattle.backend.specs.{Inner.Goes, Inner.Listed, Inner.Wrote, Inner.noOp}
+use Rattle.backend.proofs.{Requests.ops-length, Requests.op-cons, Lasts.numbers-of, Lasts.last-formed}
 
 -- a verdict is known by what it settles
 settle-refused : (v : Verdict) (n k : ℕ) → _≡_ {A = Answer (Unit {0})} (refused n k) (settle v tt) → refuses n k ≡ v

@@ -1,26 +1,17 @@
 -- A snapshot created from a lent state: refusals 12, 11, 3, 2 and 8, or the fold written out.
-use Prim.Native.Nat.{ℕ, _+_, _-_, _≤_, _<_}
-use mathlib.Core.Path.{_≡_, refl, sym, ap, _∙_}
-use mathlib.Core.Bool.{Bool, true, false}
-use mathlib.Core.List.{List}
-use mathlib.Core.Option.{some}
-use native.Mathlib.Omega.{arith}
-use borrow.Author.Tests.{lt-ltb, le-ltb}
-use lib.Dec.{ltb}
+use Rattle.words.proofs.Prelude.{arith, _≡_, refl, sym, ap, _∙_, ℕ, _+_, _-_, _≤_, _<_, Bool, true, false, ltb, lt-ltb}
+use Rattle.words.proofs.Prelude.{le-ltb, some, List}
 use Rattle.entry.specs.Change.{Change}
 use Rattle.entry.specs.Guards.{Verdict, passes, refuses, first, Answer, refused, settle}
 use Rattle.entry.proofs.GuardLaws.{passing, stopping, found, first-goes-on}
 use Rattle.snapshot.specs.Calls.{outcome as snapshotOutcome, writtenBy, foldGuards, writtenOut}
 use Rattle.snapshot.specs.Inner.{foldWritten, foldedOut}
-use Rattle.model.specs.Numbers.{Numbers}
-use Rattle.model.specs.Log.{Log, numbersOf, foldedTo}
-use Rattle.model.specs.Compact.{target, pastDecided, foldedUpto, createGuards, created}
-use Rattle.model.specs.Calls.{Call, query, create, malformed, further, queryGuards, effect, replyOf, queryReply}
-use Rattle.model.proofs.Forms.{ranges}
-use Rattle.model.specs.Inner.{Sound}
-use Rattle.model.proofs.Keeps.{target-least}
-use Rattle.state_cache.specs.State.{Raw, numbersIn, formed, logOf}
-use Rattle.state_cache.specs.Run.{Outcome, run}
+use Rattle.model.specs.{Numbers.Numbers, Log.Log, Log.numbersOf, Log.foldedTo, Compact.target, Compact.pastDecided}
+use Rattle.model.specs.{Compact.foldedUpto, Compact.createGuards, Compact.created, Calls.Call, Calls.query}
+use Rattle.model.specs.{Calls.create, Calls.malformed, Calls.further, Calls.queryGuards, Calls.effect, Calls.replyOf}
+use Rattle.model.specs.{Calls.queryReply, Inner.Sound}
+use Rattle.model.proofs.{Forms.ranges, Keeps.target-least}
+use Rattle.state_cache.specs.{State.Raw, State.numbersIn, State.formed, State.logOf, Run.Outcome, Run.run}
 use Rattle.state_cache.proofs.Stands.{Stands, stands-of}
 use Rattle.state_cache.proofs.Runs.{ill-formed, not-whole, call-refused, call-stands}
 use Rattle.internal_storage.proofs.Effects.{numbers}

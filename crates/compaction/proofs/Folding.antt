@@ -1,23 +1,13 @@
 -- The entries below an index folded onto the held snapshot, on a lent state: the model's `foldedTo`.
-use Prim.Native.Nat.{ℕ, _+_, _-_, _≤_}
-use mathlib.Core.Path.{_≡_, sym, ap₂, _∙_}
-use mathlib.Core.Bool.{true}
-use mathlib.Core.List.{List}
-use native.Mathlib.Omega.{arith}
-use lib.ListN.{length, take}
-use Rattle.words.proofs.Alls.{all-take}
-use Rattle.words.proofs.CodedLaws.{entries-take}
-use Rattle.entry.specs.Limits.{snapshotWords}
-use Rattle.entry.specs.Change.{changeCode, changeFormed, entriesOf}
+use Rattle.words.proofs.Prelude.{arith, _≡_, sym, ap₂, _∙_, ℕ, _+_, _-_, _≤_, true, List, length, take}
+use Rattle.words.proofs.{Alls.all-take, CodedLaws.entries-take}
+use Rattle.entry.specs.{Limits.snapshotWords, Change.changeCode, Change.changeFormed, Change.entriesOf}
 use Rattle.entry.proofs.SliceLaws.{stored-entries}
-use Rattle.snapshot.specs.Folds.{foldOnto, merge}
-use Rattle.snapshot.specs.Inner.{Aside}
-use Rattle.model.specs.Numbers.{Numbers, endOf, logDecided}
-use Rattle.model.specs.Log.{Log, orEmpty, foldedTo}
+use Rattle.snapshot.specs.{Folds.foldOnto, Folds.merge, Inner.Aside}
+use Rattle.model.specs.{Numbers.Numbers, Numbers.endOf, Numbers.logDecided, Log.Log, Log.orEmpty, Log.foldedTo}
+use Rattle.model.specs.{Inner.Sound}
 use Rattle.model.proofs.Forms.{ranges, formed-of, snapshot-held}
-use Rattle.model.specs.Inner.{Sound}
-use Rattle.state_cache.specs.State.{Raw, formed, logOf}
-use Rattle.state_cache.specs.Inner.{Ready}
+use Rattle.state_cache.specs.{State.Raw, State.formed, State.logOf, Inner.Ready}
 use Rattle.state_cache.proofs.Stands.{stands-of, log-formed, ready-of}
 
 -- log-decided is in the run

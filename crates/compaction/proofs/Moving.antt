@@ -1,34 +1,23 @@
 -- A trim or a snapshot of a lent state: refusal 2, where it ends, and the run's start moved up there, the model's
 -- `movedTo`.
-use Prim.Native.Nat.{ℕ, _+_, _-_, _≤_}
-use mathlib.Core.Path.{_≡_, refl, sym, ap, _∙_}
-use mathlib.Core.Bool.{Bool, true, false}
-use mathlib.Core.List.{List, [], _∷_, _++_}
-use mathlib.Core.Option.{Option, some}
-use native.Mathlib.Omega.{arith}
-use borrow.Author.Tests.{lt-ltb, le-ltb}
-use lib.ListN.{length, length-drop}
+use Rattle.words.proofs.Prelude.{arith, _≡_, refl, sym, ap, _∙_, ℕ, _+_, _-_, _≤_, Bool, true, false, lt-ltb, le-ltb}
+use Rattle.words.proofs.Prelude.{Option, some, List, [], _∷_, _++_, length-drop, length}
 use Rattle.words.specs.Coded.{wordsOf}
 use Rattle.words.proofs.CodedLaws.{spliced-trim}
-use Rattle.entry.specs.Limits.{logWords, snapshotWords}
-use Rattle.entry.specs.Change.{Change, stored}
-use Rattle.entry.specs.Guards.{Guard, passes, refuses, first, replied}
-use Rattle.entry.specs.Refusals.{numberOf, carriedOf}
+use Rattle.entry.specs.{Limits.logWords, Limits.snapshotWords, Change.Change, Change.stored, Guards.Guard}
+use Rattle.entry.specs.{Guards.passes, Guards.refuses, Guards.first, Guards.replied, Refusals.numberOf}
+use Rattle.entry.specs.{Refusals.carriedOf}
 use Rattle.entry.proofs.GuardLaws.{first-left, first-right}
 use Rattle.model.specs.Numbers.{Numbers, endOf}
 use Rattle.model.specs.Log.{Log, numbersOf, given, orEmpty}
 use Rattle.model.specs.Compact.{target, aboveDecided, trimGuards, passesStart, movedTo, trimmedTo}
 use Rattle.model.specs.Calls.{Call, trim, malformed, further, effect, replyOf}
-use Rattle.model.proofs.Forms.{ranges}
-use Rattle.model.proofs.Keeps.{target-range}
-use Rattle.state_cache.specs.State.{Raw, raw, numbersIn, formed, logOf}
-use Rattle.state_cache.specs.Run.{outcome, run, settled}
-use Rattle.state_cache.specs.declared.IndexRecord.{IndexRecord}
-use Rattle.state_cache.specs.declared.Settled.{Settled}
-use Rattle.state_cache.specs.declared.Settled.the-variants.{Done, Refused}
-use Rattle.state_cache.proofs.Stands.{Stands, stands-of, log-formed, ready-of}
-use Rattle.state_cache.proofs.Runs.{call-refused, call-stands}
-use Rattle.state_cache.proofs.Changes.{log-spliced}
+use Rattle.model.proofs.{Forms.ranges, Keeps.target-range}
+use Rattle.state_cache.specs.{State.Raw, State.raw, State.numbersIn, State.formed, State.logOf, Run.outcome, Run.run}
+use Rattle.state_cache.specs.{Run.settled, declared.IndexRecord.IndexRecord, declared.Settled.Settled}
+use Rattle.state_cache.specs.{declared.Settled.the-variants.Done, declared.Settled.the-variants.Refused}
+use Rattle.state_cache.proofs.{Stands.Stands, Stands.stands-of, Stands.log-formed, Stands.ready-of, Runs.call-refused}
+use Rattle.state_cache.proofs.{Runs.call-stands, Changes.log-spliced}
 use Rattle.internal_storage.proofs.Effects.{numbers}
 use Rattle.compaction.specs.Inner.{pastVerdict, Stay, Up, Movable, Moved}
 

@@ -1,31 +1,21 @@
 -- A snapshot taken of a lent state: refusals 2 and 8, or the fold held and the run's start moved up.
-use Prim.Native.Nat.{ℕ, _-_}
-use mathlib.Core.Path.{_≡_, refl, sym, ap, _∙_}
-use mathlib.Core.Bool.{Bool, true}
-use mathlib.Core.List.{List, [], _∷_}
-use mathlib.Core.Option.{Option, some}
-use Rattle.words.specs.If.{if_then_else_}
+use Rattle.words.proofs.Prelude.{_≡_, refl, sym, ap, _∙_, ℕ, _-_, Bool, true, if_then_else_, Option, some, List, []}
+use Rattle.words.proofs.Prelude.{_∷_}
 use Rattle.words.specs.Coded.{entriesAt}
-use Rattle.entry.specs.Change.{Change, entriesOf}
-use Rattle.entry.specs.Guards.{passes, first, replied, refusedBy}
-use Rattle.entry.specs.Refusals.{numberOf, carriedOf}
-use Rattle.entry.specs.declared.Refusal.{Refusal}
-use Rattle.snapshot.specs.Folds.{foldOnto}
-use Rattle.snapshot.specs.Calls.{outcome as snapshotOutcome, folded, foldGuards}
-use Rattle.snapshot.specs.Inner.{foldWritten}
-use Rattle.snapshot.specs.declared.Folded.{Folded}
-use Rattle.snapshot.specs.declared.Folded.the-variants.{Keys, Refused}
+use Rattle.entry.specs.{Change.Change, Change.entriesOf, Guards.passes, Guards.first, Guards.replied, Guards.refusedBy}
+use Rattle.entry.specs.{Refusals.numberOf, Refusals.carriedOf, declared.Refusal.Refusal}
+use Rattle.snapshot.specs.{Folds.foldOnto, Calls.outcome as snapshotOutcome, Calls.folded, Calls.foldGuards}
+use Rattle.snapshot.specs.{Inner.foldWritten, declared.Folded.Folded, declared.Folded.the-variants.Keys}
+use Rattle.snapshot.specs.{declared.Folded.the-variants.Refused}
 use Rattle.snapshot.proofs.Calling.{wrote-nothing, wrote-keys}
 use Rattle.model.specs.Log.{Log, numbersOf, foldedTo}
 use Rattle.model.specs.Compact.{aboveDecided, passesStart, foldedUpto, snapshotGuards, movedTo, snapshotTo}
 use Rattle.model.specs.Calls.{snapshot, malformed, further, effect, replyOf}
-use Rattle.state_cache.specs.State.{Raw, raw, formed, logOf}
-use Rattle.state_cache.specs.Run.{outcome, run, settled}
-use Rattle.state_cache.specs.declared.IndexRecord.{IndexRecord}
-use Rattle.state_cache.specs.declared.Settled.{Settled}
-use Rattle.state_cache.specs.declared.Settled.the-variants.{Done, Refused as SettledRefused}
-use Rattle.state_cache.proofs.Stands.{Stands}
-use Rattle.state_cache.proofs.Runs.{call-refused, call-stands}
+use Rattle.state_cache.specs.{State.Raw, State.raw, State.formed, State.logOf, Run.outcome, Run.run, Run.settled}
+use Rattle.state_cache.specs.{declared.IndexRecord.IndexRecord, declared.Settled.Settled}
+use Rattle.state_cache.specs.{declared.Settled.the-variants.Done}
+use Rattle.state_cache.specs.{declared.Settled.the-variants.Refused as SettledRefused}
+use Rattle.state_cache.proofs.{Stands.Stands, Runs.call-refused, Runs.call-stands}
 use Rattle.compaction.specs.Inner.{Stay, Up, Moved}
 use Rattle.compaction.proofs.Moving.{past-stops, past-goes-on, not-past, unmoved-stands, in-run, ends-at, is-past, moved-stands}
 use Rattle.compaction.proofs.Folding.{fold-is}

@@ -1,33 +1,18 @@
 -- What a diff gives, of a lent state: a fold onto the held snapshot, or of a part of the log.
-use Prim.Native.Nat.{ℕ, _-_, _*_, _≤_, _<_, min}
-use mathlib.Core.Path.{_≡_, refl, sym, ap, _∙_}
-use mathlib.Core.Bool.{Bool, true, false, _||_}
-use mathlib.Core.List.{List, []}
-use mathlib.Core.Option.{Option, none, some}
-use native.Mathlib.Omega.{arith}
-use borrow.Author.Tests.{lt-ltb, le-ltb, le-leb, lt-leb, ltb-false}
-use lib.Dec.{ltb, leb}
-use lib.ListN.{length, take, drop, replicate, length-drop}
-use lib.Seq.{take-all}
-use Rattle.words.specs.If.{if_then_else_}
+use Rattle.words.proofs.Prelude.{arith, _≡_, refl, sym, ap, _∙_, ℕ, _-_, _*_, _≤_, _<_, min, Bool, true, false, _||_}
+use Rattle.words.proofs.Prelude.{ltb, leb, lt-ltb, le-ltb, ltb-false, le-leb, lt-leb, if_then_else_, Option, none, some}
+use Rattle.words.proofs.Prelude.{List, [], length-drop, length, take, drop, replicate, take-all}
 use Rattle.words.specs.Coded.{entriesAt}
-use Rattle.words.proofs.Tests.{Reach, reached, short, reach, or-left, or-right}
-use Rattle.words.proofs.Alls.{all-take, all-drop}
-use Rattle.words.proofs.CodedLaws.{entries-take, entries-drop}
+use Rattle.words.proofs.{Tests.Reach, Tests.reached, Tests.short, Tests.reach, Tests.or-left, Tests.or-right}
+use Rattle.words.proofs.{Alls.all-take, Alls.all-drop, CodedLaws.entries-take, CodedLaws.entries-drop}
 use Rattle.entry.specs.Limits.{width, snapshotWords}
 use Rattle.entry.specs.Change.{Change, changeCode, changeFormed, entriesFormed, entriesOf}
-use Rattle.snapshot.specs.Folds.{fold, merge}
-use Rattle.snapshot.specs.Inner.{Shows, Aside, foldedOut}
-use Rattle.snapshot.proofs.Calling.{snapshot-holds, empty-formed}
-use Rattle.snapshot.proofs.Algebra.{merge-empty}
-use Rattle.snapshot.proofs.Forming.{formed-fold}
-use Rattle.model.specs.Numbers.{logDecided}
-use Rattle.model.specs.Log.{Run, Log, given, orEmpty, foldedTo}
-use Rattle.model.specs.Read.{between}
-use Rattle.model.specs.Diff.{Given, plain, complete, delta, diffOf}
+use Rattle.snapshot.specs.{Folds.fold, Folds.merge, Inner.Shows, Inner.Aside, Inner.foldedOut}
+use Rattle.snapshot.proofs.{Calling.snapshot-holds, Calling.empty-formed, Algebra.merge-empty, Forming.formed-fold}
+use Rattle.model.specs.{Numbers.logDecided, Log.Run, Log.Log, Log.given, Log.orEmpty, Log.foldedTo, Read.between}
+use Rattle.model.specs.{Diff.Given, Diff.plain, Diff.complete, Diff.delta, Diff.diffOf}
 use Rattle.model.proofs.Forms.{formed-of, snapshot-folded}
-use Rattle.state_cache.specs.State.{Raw, numbersIn, formed, logOf}
-use Rattle.state_cache.specs.Inner.{Ready}
+use Rattle.state_cache.specs.{State.Raw, State.numbersIn, State.formed, State.logOf, Inner.Ready}
 use Rattle.state_cache.proofs.Stands.{Stands, stands-of, log-formed, ready-of}
 use Rattle.internal_storage.proofs.Effects.{numbers}
 use Rattle.compaction.proofs.Folding.{decided-low, decided-high}

@@ -1,12 +1,8 @@
 -- Demand 1: a refused diff leaves every word of the output.
-use Prim.Native.Nat.{ℕ}
-use mathlib.Core.Path.{_≡_, ap}
-use mathlib.Core.Bool.{Bool}
-use mathlib.Core.List.{List}
+use Rattle.words.proofs.Prelude.{_≡_, ap, ℕ, Bool, List}
 use Rattle.entry.specs.Guards.{Answer, refused}
 use Rattle.model.specs.Calls.{Diff as Reply, query, diff}
-use Rattle.state_cache.specs.State.{Raw}
-use Rattle.state_cache.specs.Run.{run}
+use Rattle.state_cache.specs.{State.Raw, Run.run}
 use Rattle.diff.specs.Replies.{outAfter}
 
 pub diff-keeps : (i : ℕ) (whole : Bool) (r : Raw) (out : List ℕ) (n k : ℕ)

@@ -1,11 +1,6 @@
 -- What a diff tells of a lent state: refusals 12, 11 and 8, or what is given and the output slice after it.
-use Prim.Native.Nat.{ℕ, _-_, _*_, _≤_, _<_, min}
-use mathlib.Core.Path.{_≡_, refl, sym, ap, ap₂, _∙_}
-use mathlib.Core.Bool.{Bool, true, false, _||_}
-use mathlib.Core.List.{List, []}
-use mathlib.Core.Option.{Option, none, some}
-use lib.Dec.{ltb}
-use lib.ListN.{drop}
+use Rattle.words.proofs.Prelude.{_≡_, refl, sym, ap, ap₂, _∙_, ℕ, _-_, _*_, _≤_, _<_, min, Bool, true, false, _||_, ltb}
+use Rattle.words.proofs.Prelude.{Option, none, some, List, [], drop}
 use Rattle.words.specs.Coded.{entriesAt}
 use Rattle.entry.specs.Limits.{width, snapshotWords}
 use Rattle.entry.specs.Change.{Change, entriesFormed, entriesOf, stored}
@@ -13,26 +8,21 @@ use Rattle.entry.specs.Guards.{Verdict, passes, refuses, first, Answer, refused
 use Rattle.entry.specs.Refusals.{numberOf, carriedOf}
 use Rattle.entry.specs.declared.Refusal.the-variants.{Malformed, IllFormed}
 use Rattle.entry.proofs.SliceLaws.{stored-entries}
-use Rattle.snapshot.specs.Folds.{fold}
-use Rattle.snapshot.specs.Calls.{outcome as snapshotOutcome, folded, foldGuards}
-use Rattle.snapshot.specs.Inner.{foldWritten, foldedOut}
-use Rattle.snapshot.specs.declared.Folded.{Folded}
-use Rattle.snapshot.specs.declared.Folded.the-variants.{Keys, Refused as FoldRefused}
+use Rattle.snapshot.specs.{Folds.fold, Calls.outcome as snapshotOutcome, Calls.folded, Calls.foldGuards}
+use Rattle.snapshot.specs.{Inner.foldWritten, Inner.foldedOut, declared.Folded.Folded}
+use Rattle.snapshot.specs.{declared.Folded.the-variants.Keys, declared.Folded.the-variants.Refused as FoldRefused}
 use Rattle.snapshot.proofs.Calling.{wrote-nothing, wrote-keys}
-use Rattle.model.specs.Numbers.{logDecided}
-use Rattle.model.specs.Log.{Log, orEmpty, foldedTo}
-use Rattle.model.specs.Diff.{Given, plain, complete, delta, snapshotIn, diffOf, diffGuards}
-use Rattle.model.specs.Calls.{Call, query, diff, Diff as Reply, malformed, further, queryGuards, effect, replyOf, queryReply}
-use Rattle.state_cache.specs.State.{Raw, numbersIn, formed, logOf}
-use Rattle.state_cache.specs.Run.{Outcome, run}
+use Rattle.model.specs.{Numbers.logDecided, Log.Log, Log.orEmpty, Log.foldedTo, Diff.Given, Diff.plain, Diff.complete}
+use Rattle.model.specs.{Diff.delta, Diff.snapshotIn, Diff.diffOf, Diff.diffGuards, Calls.Call, Calls.query, Calls.diff}
+use Rattle.model.specs.{Calls.Diff as Reply, Calls.malformed, Calls.further, Calls.queryGuards, Calls.effect}
+use Rattle.model.specs.{Calls.replyOf, Calls.queryReply}
+use Rattle.state_cache.specs.{State.Raw, State.numbersIn, State.formed, State.logOf, Run.Outcome, Run.run}
 use Rattle.state_cache.proofs.Stands.{stands-of, ready-of}
 use Rattle.state_cache.proofs.Runs.{ill-formed, not-whole, call-refused, call-stands}
 use Rattle.internal_storage.proofs.Effects.{numbers}
 use Rattle.compaction.proofs.Folding.{decided-high, fold-is}
-use Rattle.diff.specs.Replies.{reply, diffSaid, outAfter}
-use Rattle.diff.specs.Inner.{keysTold, foldTold}
-use Rattle.diff.specs.declared.Diff.{Diff}
-use Rattle.diff.specs.declared.Diff.the-variants.{Nothing, Refused}
+use Rattle.diff.specs.{Replies.reply, Replies.diffSaid, Replies.outAfter, Inner.keysTold, Inner.foldTold}
+use Rattle.diff.specs.{declared.Diff.Diff, declared.Diff.the-variants.Nothing, declared.Diff.the-variants.Refused}
 use Rattle.diff.proofs.Giving.{diff-plain, diff-complete, complete-formed, diff-delta, delta-formed}
 
 -- a snapshot of either kind, with the words of it and its index

@@ -1,17 +1,10 @@
 -- Two replies of a diff that meet a claim, and the outputs beside them, are one.
-use Prim.Native.Nat.{ℕ}
-use mathlib.Core.Path.{_≡_, sym, ap, ap₂, _∙_}
-use mathlib.Core.List.{List}
-use native.Mathlib.Omega.{arith}
-use lib.ListN.{length}
+use Rattle.words.proofs.Prelude.{arith, _≡_, sym, ap, ap₂, _∙_, ℕ, List, length}
 use Rattle.words.proofs.CodedLaws.{entries-length}
-use Rattle.entry.specs.Change.{changeCode, entriesOf}
-use Rattle.entry.specs.Guards.{Answer, refused, replied}
-use Rattle.entry.specs.declared.LogIndex.{LogIndex}
+use Rattle.entry.specs.{Change.changeCode, Change.entriesOf, Guards.Answer, Guards.refused, Guards.replied}
+use Rattle.entry.specs.{declared.LogIndex.LogIndex}
 use Rattle.entry.proofs.RefusalLaws.{refusal-known}
-use Rattle.model.specs.Log.{orEmpty}
-use Rattle.model.specs.Diff.{plain, complete, delta, snapshotIn}
-use Rattle.model.specs.Calls.{Diff as Reply}
+use Rattle.model.specs.{Log.orEmpty, Diff.plain, Diff.complete, Diff.delta, Diff.snapshotIn, Calls.Diff as Reply}
 use Rattle.diff.specs.Replies.{diffSaid, outAfter}
 use Rattle.diff.specs.declared.Diff.{Diff}
 use Rattle.diff.specs.declared.Diff.the-variants.{Nothing, Complete, Delta, Refused}

@@ -1,20 +1,13 @@
 -- An entry and its two words.
-use Prim.Native.Nat.{ℕ, suc, _+_, _*_, _≤_, _<_}
-use mathlib.Core.Path.{_≡_, refl, sym, ap, ap₂, _∙_}
-use mathlib.Core.Bool.{Bool, true, false, _||_, true≢false}
-use mathlib.Core.List.{List, [], _∷_}
-use native.Mathlib.Omega.{arith}
-use borrow.Author.Tests.{eqb-true, ltb-true, lt-ltb, le-ltb, ne-eqb}
-use lib.Dec.{ltb, eqb}
-use lib.ListN.{length, getD, take, drop}
+use Rattle.words.proofs.Prelude.{arith, _≡_, refl, sym, ap, ap₂, _∙_, ℕ, suc, _+_, _*_, _≤_, _<_, Bool, true, false}
+use Rattle.words.proofs.Prelude.{true≢false, _||_, eqb, ltb, ne-eqb, eqb-true, lt-ltb, le-ltb, ltb-true, if_then_else_}
+use Rattle.words.proofs.Prelude.{List, [], _∷_, length, take, drop, getD}
 use lib.Seq.{getD-take, getD-drop}
-use Rattle.words.specs.If.{if_then_else_}
-use Rattle.words.specs.All.{allOf}
-use Rattle.words.specs.Coded.{Lawful, entriesAt}
+use Rattle.words.specs.{All.allOf, Coded.Lawful, Coded.entriesAt}
 use Rattle.words.proofs.CodedLaws.{entries-cons}
-use Rattle.entry.specs.Limits.{width, places, lastWord}
-use Rattle.entry.specs.Change.{Said, place, removed, Change, saidFormed, saidOf, wordOf, wordFormed, change, changeCode, entriesOf}
-use Rattle.entry.specs.Inner.{changeAt, LentAs}
+use Rattle.entry.specs.{Limits.width, Limits.places, Limits.lastWord, Change.Said, Change.place, Change.removed}
+use Rattle.entry.specs.{Change.Change, Change.saidFormed, Change.saidOf, Change.wordOf, Change.wordFormed}
+use Rattle.entry.specs.{Change.change, Change.changeCode, Change.entriesOf, Inner.changeAt, Inner.LentAs}
 
 -- the form of what a word says
 pub said-formed : (w : ℕ) → (eqb w lastWord || ltb w places) ≡ wordFormed w

@@ -1,11 +1,5 @@
 -- The first refusal of a list: one test at a time, and what is known once all tests pass, found by a refusal's number.
-use Prim.Native.Nat.{ℕ}
-use mathlib.Core.Path.{_≡_, refl, _∙_}
-use mathlib.Core.Bool.{Bool, true, false}
-use mathlib.Core.List.{List, [], _∷_, _++_}
-use native.Mathlib.Omega.{arith}
-use lib.Dec.{eqb}
-use Rattle.words.specs.If.{if_then_else_}
+use Rattle.words.proofs.Prelude.{arith, _≡_, refl, _∙_, ℕ, Bool, true, false, eqb, if_then_else_, List, [], _∷_, _++_}
 use Rattle.entry.specs.Guards.{Guard, guard, Verdict, passes, refuses, first}
 
 module _ (n k : ℕ) (t : Bool) (gs : List Guard) where

@@ -1,8 +1,5 @@
 -- A refusal is known by its number and what it carries: two that agree in both are one.
-use Prim.Native.Nat.{ℕ}
-use mathlib.Core.Path.{_≡_, refl, sym, ap₂, _∙_}
-use lib.Dec.{eqb}
-use Rattle.words.specs.If.{if_then_else_}
+use Rattle.words.proofs.Prelude.{_≡_, refl, sym, ap₂, _∙_, ℕ, eqb, if_then_else_}
 use Rattle.entry.specs.declared.Refusal.{Refusal}
 use Rattle.entry.specs.declared.Refusal.the-variants.{NoRoom, AboveDecided, BelowCompacted, Stopped, BelowDecided, AboveAccepted, OutsideRun, TooManyKeys, PastLastIndex, BatchHeld, Malformed, IllFormed}
 use Rattle.entry.specs.Refusals.{numberOf, carriedOf}

@@ -1,18 +1,12 @@
 -- Slices that hold entries in form and zeros after them: what the test tells of one, and that entries laid out pass it.
-use Prim.Native.Nat.{ℕ, _+_, _-_, _*_, _/_, _%_, _≤_}
-use mathlib.Core.Path.{_≡_, sym, ap, _∙_}
-use mathlib.Core.Bool.{true}
-use mathlib.Core.List.{List, _++_}
-use native.Mathlib.Omega.{arith}
-use borrow.Author.Tests.{leb-true, eqb-true, le-leb, eq-eqb}
-use lib.Dec.{leb, eqb}
-use lib.ListN.{length, take, drop, replicate, length-append, length-drop, length-take, take-append-drop}
-use Rattle.words.specs.Words.{laid}
-use Rattle.words.specs.Coded.{wordsOf}
-use Rattle.words.proofs.Tests.{and-left, and-right, both-true}
-use Rattle.words.proofs.Alls.{all-join, zeros-are, zeros-pass}
-use Rattle.words.proofs.Laws.{length-laid, drop-laid}
-use Rattle.words.proofs.CodedLaws.{entries-append, entries-laid, laid-entries, words-length}
+use Rattle.words.proofs.Prelude.{arith, _≡_, sym, ap, _∙_, ℕ, _+_, _-_, _*_, _/_, _≤_, true, eqb, leb, eq-eqb, eqb-true}
+use Rattle.words.proofs.Prelude.{le-leb, leb-true, List, _++_, length-drop, length-take, length-append}
+use Rattle.words.proofs.Prelude.{take-append-drop, length, take, drop, replicate}
+use Prim.Native.Nat.{_%_}
+use Rattle.words.specs.{Words.laid, Coded.wordsOf}
+use Rattle.words.proofs.{Tests.and-left, Tests.and-right, Tests.both-true, Alls.all-join, Alls.zeros-are}
+use Rattle.words.proofs.{Alls.zeros-pass, Laws.length-laid, Laws.drop-laid, CodedLaws.entries-append}
+use Rattle.words.proofs.{CodedLaws.entries-laid, CodedLaws.laid-entries, CodedLaws.words-length}
 use Rattle.entry.specs.Limits.{width}
 use Rattle.entry.specs.Change.{Change, changeCode, changeFormed, entriesFormed, entriesOf, entriesIn, sliceFormed, stored, storedIn, Laid}
 use Rattle.entry.proofs.ChangeLaws.{changeOk}

@@ -1,15 +1,10 @@
 -- A call's contract for the host from the library's: what the reply says, its record, and the library's equation.
-use Prim.Native.Nat.{ℕ}
-use mathlib.Core.Path.{_≡_, ap, _∙_}
-use mathlib.Core.List.{List}
+use Rattle.words.proofs.Prelude.{_≡_, ap, _∙_, ℕ, List}
 use Rattle.entry.specs.Guards.{Answer}
 use Rattle.snapshot.specs.Calls.{Outcome as Fold, outcome as fold}
-use Rattle.state_cache.specs.State.{raw}
-use Rattle.state_cache.specs.declared.IndexRecord.{IndexRecord}
-use Rattle.state_cache.specs.Run.{Outcome, outcome}
-use Rattle.host.specs.declared.Said.{Said}
-use Rattle.host.specs.declared.Reply.{Reply}
-use Rattle.host.specs.Plain.{plain, aNumber, left, plainly, wrote, wroteAs}
+use Rattle.state_cache.specs.{State.raw, declared.IndexRecord.IndexRecord, Run.Outcome, Run.outcome}
+use Rattle.host.specs.{declared.Said.Said, declared.Reply.Reply, Plain.plain, Plain.aNumber, Plain.left}
+use Rattle.host.specs.{Plain.plainly, Plain.wrote, Plain.wroteAs}
 
 pub carry : {A : Type 0} (f : A → Said) {p : Reply} {a : Answer A} {i : IndexRecord} {l s : List ℕ} {o : Outcome A}
     → (p .said ≡ plain f a) × (p .index ≡ i)

@@ -1,22 +1,13 @@
 -- Entry slices as arguments of a call: refusal 11, or whole entries in form. And one entry.
-use Prim.Native.Nat.{ℕ, _/_}
-use mathlib.Core.Path.{_≡_, refl, sym, ap, _∙_}
-use mathlib.Core.Bool.{Bool, true, false, not}
-use mathlib.Core.List.{List, [], _∷_}
-use native.Mathlib.Omega.{arith}
-use lib.ListN.{length}
+use Rattle.words.proofs.Prelude.{arith, _≡_, refl, sym, ap, _∙_, ℕ, _/_, Bool, true, false, not, List, [], _∷_, length}
 use Rattle.words.specs.All.{allOf}
 use Rattle.words.proofs.Tests.{and-left}
-use Rattle.entry.specs.Limits.{width}
-use Rattle.entry.specs.Change.{Change, changeFormed, entriesFormed, entriesIn, wholeIn, sliceFormed}
-use Rattle.entry.specs.Inner.{LentAs}
-use Rattle.entry.specs.Guards.{refused}
+use Rattle.entry.specs.{Limits.width, Change.Change, Change.changeFormed, Change.entriesFormed, Change.entriesIn}
+use Rattle.entry.specs.{Change.wholeIn, Change.sliceFormed, Inner.LentAs, Guards.refused}
 use Rattle.entry.proofs.SliceLaws.{slice-whole, slice-fine}
 use Rattle.model.specs.Calls.{Call, append, malformed}
-use Rattle.state_cache.specs.State.{Raw, formed}
-use Rattle.state_cache.specs.Run.{outcome, run}
-use Rattle.state_cache.proofs.Stands.{ready-of}
-use Rattle.state_cache.proofs.Runs.{ill-formed, not-whole, bad-call}
+use Rattle.state_cache.specs.{State.Raw, State.formed, Run.outcome, Run.run}
+use Rattle.state_cache.proofs.{Stands.ready-of, Runs.ill-formed, Runs.not-whole, Runs.bad-call}
 use Rattle.internal_storage.specs.Inner.{Appends}
 
 pub slice-refused : (c : Call) (ws : List ℕ) (r : Raw) → malformed c ≡ not (entriesFormed (entriesIn ws))

@@ -1,39 +1,25 @@
 -- What each call of the model does to a lent state that stands for its log: the record and the words after it.
-use Prim.Native.Nat.{ℕ, _+_, _*_, _≤_}
-use mathlib.Core.Path.{_≡_, refl, sym, ap, ap₂, _∙_}
-use mathlib.Core.Bool.{Bool, true, false, _&&_, not}
-use mathlib.Core.List.{List, [], _++_, append-assoc, append-nil}
-use mathlib.Core.Option.{Option, none, some}
-use native.Mathlib.Omega.{arith}
-use borrow.Author.Tests.{ltb-false}
-use lib.Dec.{leb, eqb}
-use lib.ListN.{length, take, length-append}
-use lib.Seq.{take-all}
-use Rattle.words.specs.If.{if_then_else_}
-use Rattle.words.specs.Words.{laid, spliced}
-use Rattle.words.specs.Coded.{wordsOf}
+use Rattle.words.proofs.Prelude.{arith, _≡_, refl, sym, ap, ap₂, _∙_, ℕ, _+_, _*_, _≤_, Bool, true, false, _&&_, not}
+use Rattle.words.proofs.Prelude.{eqb, leb, ltb-false, if_then_else_, Option, none, some, List, [], append-nil}
+use Rattle.words.proofs.Prelude.{append-assoc, _++_, length-append, length, take, take-all}
+use Rattle.words.specs.{Words.laid, Words.spliced, Coded.wordsOf}
 use Rattle.words.proofs.CodedLaws.{spliced-append, spliced-before, words-entries, entries-length}
-use Rattle.entry.specs.Limits.{width, entryRoom, logWords}
-use Rattle.entry.specs.Change.{Change, changeCode, entriesFormed, entriesOf, stored}
-use Rattle.entry.specs.Sign.{signIf, signFormed}
-use Rattle.entry.specs.Guards.{Guard, Verdict, passes, refuses, first, Answer, refused, replied}
-use Rattle.entry.specs.declared.Ballot.{Ballot}
-use Rattle.entry.specs.declared.StopSign.{StopSign}
-use Rattle.entry.proofs.ChangeLaws.{changeOk}
-use Rattle.entry.proofs.GuardLaws.{passed}
+use Rattle.entry.specs.{Limits.width, Limits.entryRoom, Limits.logWords, Change.Change, Change.changeCode}
+use Rattle.entry.specs.{Change.entriesFormed, Change.entriesOf, Change.stored, Sign.signIf, Sign.signFormed}
+use Rattle.entry.specs.{Guards.Guard, Guards.Verdict, Guards.passes, Guards.refuses, Guards.first, Guards.Answer}
+use Rattle.entry.specs.{Guards.refused, Guards.replied, declared.Ballot.Ballot, declared.StopSign.StopSign}
+use Rattle.entry.proofs.{ChangeLaws.changeOk, GuardLaws.passed}
 use Rattle.model.specs.Numbers.{Numbers, acceptedOf}
 use Rattle.model.specs.Log.{Log, ifGiven, numbersOf, waiting, withTail}
 use Rattle.model.specs.Append.{Flushed, appendGuards, appendStopGuards, setStopGuards, joined, batchWith, fills, appended, appendedNow, flushed, stopAppended, stopSet, appendReply, flushReply}
 use Rattle.model.specs.Calls.{Call, Reply, append, appendNow, flush, flushEntries, appendStop, setStop, setPromise, decide, malformed, further, effect, replyOf}
 use Rattle.model.specs.Inner.{Sound}
-use Rattle.state_cache.specs.State.{Raw, raw, numbersIn, formed, logOf}
-use Rattle.state_cache.specs.Inner.{Small, withEntries, withStop, withDecided, withPromise}
-use Rattle.state_cache.proofs.Small.{sound-small}
-use Rattle.state_cache.specs.Run.{Outcome, outcome, run}
-use Rattle.state_cache.specs.declared.IndexRecord.{IndexRecord}
-use Rattle.state_cache.proofs.Stands.{Stands, stands-of, numbers-are, log-formed, given-by, sign-by}
-use Rattle.state_cache.proofs.Runs.{bad-call, call-refused, call-stands}
-use Rattle.state_cache.proofs.Changes.{held-length, log-spliced}
+use Rattle.state_cache.specs.{State.Raw, State.raw, State.numbersIn, State.formed, State.logOf, Inner.Small}
+use Rattle.state_cache.specs.{Inner.withEntries, Inner.withStop, Inner.withDecided, Inner.withPromise, Run.Outcome}
+use Rattle.state_cache.specs.{Run.outcome, Run.run, declared.IndexRecord.IndexRecord}
+use Rattle.state_cache.proofs.{Small.sound-small, Stands.Stands, Stands.stands-of, Stands.numbers-are}
+use Rattle.state_cache.proofs.{Stands.log-formed, Stands.given-by, Stands.sign-by, Runs.bad-call, Runs.call-refused}
+use Rattle.state_cache.proofs.{Runs.call-stands, Changes.held-length, Changes.log-spliced}
 use Rattle.internal_storage.specs.Replies.{appendSaid, asked, indexOnly, withIndexOnly}
 use Rattle.internal_storage.specs.Inner.{Indexed, indexed, byNumbers, flushedAt, heldAt, batchedWith, allFlushed, flushSays}
 

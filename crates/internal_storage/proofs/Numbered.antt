@@ -1,6 +1,5 @@
 -- What a call comes to that looks at numbers alone, by the tests as the code takes them.
-use mathlib.Core.Path.{_≡_, ap}
-use mathlib.Core.List.{List}
+use Rattle.words.proofs.Prelude.{_≡_, ap, List}
 use Rattle.entry.specs.Guards.{Guard, Verdict, first}
 use Rattle.entry.proofs.GuardLaws.{Finds, found}
 use Rattle.state_cache.specs.declared.IndexRecord.{IndexRecord}

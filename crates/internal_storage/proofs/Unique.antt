@@ -1,8 +1,5 @@
 -- Two answers that meet a claim, and the states beside them, are one.
-use Prim.Native.Nat.{ℕ}
-use mathlib.Core.Path.{_≡_, sym, ap, ap₂}
-use mathlib.Core.Option.{Option, none, some}
-use native.Mathlib.Omega.{arith}
+use Rattle.words.proofs.Prelude.{arith, _≡_, sym, ap, ap₂, ℕ, Option, none, some}
 use Rattle.entry.specs.Guards.{Answer, replied}
 use Rattle.entry.proofs.RefusalLaws.{refusal-known}
 use Rattle.model.specs.Append.{Flushed}

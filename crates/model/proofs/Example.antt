@@ -1,16 +1,9 @@
 -- The history theorem's premise can be met: a trace with appends, a snapshot, a plain, a complete and a delta sync, and
 -- refused calls
 -- of the kinds that it does not admit when they stand.
-use Prim.Native.Nat.{ℕ}
-use mathlib.Core.Path.{_≡_, refl}
-use mathlib.Core.Bool.{true}
-use mathlib.Core.List.{List, [], _∷_, _++_}
-use mathlib.Core.Option.{none, some}
-use native.Mathlib.Omega.{arith}
+use Rattle.words.proofs.Prelude.{arith, _≡_, refl, ℕ, true, none, some, List, [], _∷_, _++_}
 use Rattle.words.specs.All.{allOf}
-use Rattle.entry.specs.Change.{Change}
-use Rattle.entry.specs.Sign.{signFormed}
-use Rattle.entry.specs.Guards.{passes, refuses, first}
+use Rattle.entry.specs.{Change.Change, Sign.signFormed, Guards.passes, Guards.refuses, Guards.first}
 use Rattle.snapshot.specs.Folds.{insert, foldOnto, fold, merge, climbs, rising}
 use Rattle.model.specs.Numbers.{endOf, acceptedOf, stopDecided, logDecided, numbersFormed}
 use Rattle.model.specs.Log.{Run, foldedTo, keysFormed, wellFormed, noBallot, freshLog}

@@ -1,18 +1,11 @@
 -- A lookup finds what the fold of the history's decided part says.
-use Prim.Native.Nat.{ℕ, _-_, _≤_}
-use mathlib.Core.Path.{_≡_, sym, ap, _∙_}
-use mathlib.Core.List.{List}
-use lib.ListN.{take}
-use Rattle.entry.specs.Limits.{largestBatch}
-use Rattle.entry.specs.Change.{Change}
+use Rattle.words.proofs.Prelude.{_≡_, sym, ap, _∙_, ℕ, _-_, _≤_, List, take}
+use Rattle.entry.specs.{Limits.largestBatch, Change.Change}
 use Rattle.snapshot.specs.Folds.{fold, merge, find, placeOf}
 use Rattle.snapshot.proofs.Finds.{find-onto}
-use Rattle.model.specs.Numbers.{logDecided}
-use Rattle.model.specs.Log.{Log, numbersOf, orEmpty, foldedTo}
-use Rattle.model.specs.Lookup.{lookupReply}
-use Rattle.model.specs.History.{Event, told, AllTruthful, fresh}
-use Rattle.model.proofs.Forms.{ranges, formed-of}
-use Rattle.model.proofs.Traces.{folded-is, faithful}
+use Rattle.model.specs.{Numbers.logDecided, Log.Log, Log.numbersOf, Log.orEmpty, Log.foldedTo, Lookup.lookupReply}
+use Rattle.model.specs.{History.Event, History.told, History.AllTruthful, History.fresh}
+use Rattle.model.proofs.{Forms.ranges, Forms.formed-of, Traces.folded-is, Traces.faithful}
 
 -- the newest word among the decided entries, else the snapshot's, is what is found in their fold
 lookup-folded : (k : ℕ) (s : Log) → lookupReply k s ≡ placeOf (find k (foldedTo (logDecided (numbersOf s)) (s .run)))

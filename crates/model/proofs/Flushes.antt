@@ -1,12 +1,8 @@
 -- What an append or a flush replies as flushed: the last so many of the entries then retained.
-use mathlib.Core.Path.{_≡_}
-use mathlib.Core.Bool.{true}
-use mathlib.Core.List.{List}
-use lib.ListN.{length, drop}
+use Rattle.words.proofs.Prelude.{_≡_, true, List, length, drop}
 use lib.Seq.{drop-append-seam}
 use Rattle.entry.specs.Change.{Change}
-use Rattle.model.specs.Log.{Log}
-use Rattle.model.specs.Append.{batchWith, fills, appended, flushed}
+use Rattle.model.specs.{Log.Log, Append.batchWith, Append.fills, Append.appended, Append.flushed}
 
 pub appended-last : (es : List Change) (s : Log) → fills es s ≡ true
     → drop (length (s .run .retained)) (appended es s .run .retained) ≡ batchWith es s

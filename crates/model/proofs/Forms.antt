@@ -1,23 +1,13 @@
 -- A well-formed state, as facts with names instead of tests, both ways.
-use Prim.Native.Nat.{ℕ, _+_, _-_, _≤_, min}
-use mathlib.Core.Path.{_≡_, refl}
-use mathlib.Core.Bool.{Bool, true, false, _&&_, _||_, not}
-use mathlib.Core.List.{List}
-use mathlib.Core.Option.{Option, none, some}
-use native.Mathlib.Omega.{arith}
-use borrow.Author.Tests.{ltb-true, leb-true, eqb-true, eqb-false, le-leb, lt-ltb, eq-eqb}
-use lib.Dec.{ltb, leb, eqb}
-use lib.ListN.{length, take}
-use Rattle.words.specs.If.{if_then_else_}
+use Rattle.words.proofs.Prelude.{arith, _≡_, refl, ℕ, _+_, _-_, _≤_, min, Bool, true, false, _&&_, _||_, not, eqb, ltb}
+use Rattle.words.proofs.Prelude.{leb, eq-eqb, eqb-true, eqb-false, lt-ltb, ltb-true, le-leb, leb-true, if_then_else_}
+use Rattle.words.proofs.Prelude.{Option, none, some, List, length, take}
 use Rattle.words.specs.All.{allOf}
-use Rattle.words.proofs.Tests.{and-left, and-right, both-true}
-use Rattle.words.proofs.Alls.{all-take}
-use Rattle.entry.specs.Limits.{entryRoom, keyRoom, lastIndex, largestBatch}
-use Rattle.entry.specs.Change.{Change, changeFormed, entriesFormed}
-use Rattle.entry.specs.Sign.{signFormed}
+use Rattle.words.proofs.{Tests.and-left, Tests.and-right, Tests.both-true, Alls.all-take}
+use Rattle.entry.specs.{Limits.entryRoom, Limits.keyRoom, Limits.lastIndex, Limits.largestBatch, Change.Change}
+use Rattle.entry.specs.{Change.changeFormed, Change.entriesFormed, Sign.signFormed}
 use Rattle.snapshot.specs.Folds.{merge, rising}
-use Rattle.snapshot.proofs.Algebra.{merge-rises}
-use Rattle.snapshot.proofs.Forming.{formed-merge}
+use Rattle.snapshot.proofs.{Algebra.merge-rises, Forming.formed-merge}
 use Rattle.model.specs.Inner.{Sound}
 use Rattle.model.specs.Numbers.{Numbers, endOf, acceptedOf, stopDecided, logDecided, numbersFormed}
 use Rattle.model.specs.Log.{Log, ifGiven, numbersOf, orEmpty, foldedTo, keysFormed, wellFormed}

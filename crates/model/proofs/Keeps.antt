@@ -1,23 +1,13 @@
 -- Every call leaves a well-formed state well formed: so refusal 12 is given to no state that a fresh log comes to.
-use Prim.Native.Nat.{ℕ, _+_, _-_, _≤_, min, max}
-use mathlib.Core.Path.{_≡_, refl}
-use mathlib.Core.Bool.{Bool, true, false, _&&_}
-use mathlib.Core.List.{List, [], _∷_, _++_}
-use mathlib.Core.Option.{Option, none, some}
-use native.Mathlib.Omega.{arith}
-use borrow.Author.Tests.{ltb-true, ltb-false, leb-false, not-false}
-use lib.Dec.{ltb, eqb}
-use lib.ListN.{length, take, length-append, length-take, length-drop}
-use Rattle.words.specs.If.{if_then_else_}
+use Rattle.words.proofs.Prelude.{arith, _≡_, refl, ℕ, _+_, _-_, _≤_, min, max, Bool, true, false, _&&_, eqb, ltb}
+use Rattle.words.proofs.Prelude.{not-false, ltb-true, ltb-false, leb-false, if_then_else_, Option, none, some, List, []}
+use Rattle.words.proofs.Prelude.{_∷_, _++_, length-drop, length-take, length-append, length, take}
 use Rattle.words.specs.All.{allOf}
 use Rattle.words.proofs.Tests.{and-left, and-right, or-left, or-right, either}
 use Rattle.words.proofs.Alls.{all-join, all-take, all-drop}
-use Rattle.entry.specs.Limits.{entryRoom, keyRoom, lastIndex, largestBatch}
-use Rattle.entry.specs.Change.{Change, changeFormed, entriesFormed}
-use Rattle.entry.specs.Sign.{signFormed}
-use Rattle.entry.specs.Guards.{Verdict, passes, refuses, first}
-use Rattle.entry.specs.declared.Ballot.{Ballot}
-use Rattle.entry.specs.declared.StopSign.{StopSign}
+use Rattle.entry.specs.{Limits.entryRoom, Limits.keyRoom, Limits.lastIndex, Limits.largestBatch, Change.Change}
+use Rattle.entry.specs.{Change.changeFormed, Change.entriesFormed, Sign.signFormed, Guards.Verdict, Guards.passes}
+use Rattle.entry.specs.{Guards.refuses, Guards.first, declared.Ballot.Ballot, declared.StopSign.StopSign}
 use Rattle.entry.proofs.GuardLaws.{Passed, passed, passed-right, Clear, clear}
 use Rattle.model.specs.Numbers.{Numbers, endOf, acceptedOf, stopDecided, logDecided}
 use Rattle.model.specs.Log.{Log, given, ifGiven, numbersOf, foldedTo, keysFormed, wellFormed, withMarks, deciding, freshLog}

@@ -1,12 +1,8 @@
 -- The refusals of every call are the table's rows in document 01's order, each with what it carries, whatever the state
 -- and the request.
-use Prim.Native.Nat.{ℕ}
-use mathlib.Core.Path.{_≡_, refl, sym, ap, _∙_}
-use mathlib.Core.Bool.{Bool, true, false}
-use mathlib.Core.List.{List, [], _∷_, _++_, map, map-append}
-use mathlib.Core.Option.{none, some}
-use native.Mathlib.Omega.{arith}
-use Rattle.words.specs.If.{if_then_else_}
+use Rattle.words.proofs.Prelude.{arith, _≡_, refl, sym, ap, _∙_, ℕ, Bool, true, false, if_then_else_, none, some, List}
+use Rattle.words.proofs.Prelude.{[], _∷_, _++_, map}
+use mathlib.Core.List.{map-append}
 use Rattle.entry.specs.Guards.{Guard, refuses, first}
 use Rattle.model.specs.Numbers.{Numbers}
 use Rattle.model.specs.Log.{Log, numbersOf}

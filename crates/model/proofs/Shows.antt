@@ -1,20 +1,12 @@
 -- "the retained entries of the range, each decided exactly if its index is below decided": of every entry that a read shows, by its place
 -- among those shown.
-use Prim.Native.Nat.{ℕ, _+_, _-_, _<_, min, max}
-use native.Mathlib.Omega.{arith}
-use mathlib.Core.Path.{_≡_, refl, sym, ap, _∙_}
-use mathlib.Core.Bool.{Bool, true, false, _||_}
-use mathlib.Core.List.{List, []}
-use mathlib.Core.Option.{none, some}
-use borrow.Author.Tests.{lt-ltb, le-ltb, ltb-true, ltb-false}
-use lib.Dec.{ltb, leb, eqb}
-use lib.ListN.{length, drop, getD, length-take}
+use Rattle.words.proofs.Prelude.{arith, _≡_, refl, sym, ap, _∙_, ℕ, _+_, _-_, _<_, min, max, Bool, true, false, _||_}
+use Rattle.words.proofs.Prelude.{eqb, ltb, leb, lt-ltb, le-ltb, ltb-true, ltb-false, if_then_else_, none, some, List}
+use Rattle.words.proofs.Prelude.{[], length-take, length, drop, getD}
 use lib.Seq.{getD-take, getD-drop}
-use Rattle.words.specs.If.{if_then_else_}
 use Rattle.entry.specs.Change.{Change}
-use Rattle.model.specs.Numbers.{endOf, acceptedOf}
-use Rattle.model.specs.Log.{Log, numbersOf}
-use Rattle.model.specs.Read.{noSpan, Shown, shown, markerOf, emptyRun, fullRun, readFrom}
+use Rattle.model.specs.{Numbers.endOf, Numbers.acceptedOf, Log.Log, Log.numbersOf, Read.noSpan, Read.Shown}
+use Rattle.model.specs.{Read.shown, Read.markerOf, Read.emptyRun, Read.fullRun, Read.readFrom}
 
 -- a read that shows an entry shows a full run
 full : (from to : ℕ) (s : Log) (v : Shown) → readFrom from to s ≡ some v → 0 < length (v .part .entries)

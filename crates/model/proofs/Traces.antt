@@ -1,21 +1,11 @@
 -- Demand 3's last sentence: what a log holds is the fold of its history.
-use Prim.Native.Nat.{ℕ, _+_, _-_, _≤_}
-use mathlib.Core.Path.{_≡_, refl, sym, _∙_}
-use mathlib.Core.Bool.{Bool, true, false, true≢false}
-use mathlib.Core.List.{List, [], _∷_, _++_}
-use mathlib.Core.Option.{Option, none, some}
-use native.Mathlib.Omega.{arith}
-use borrow.Author.Tests.{ltb-true, ltb-false}
-use lib.Dec.{ltb}
-use lib.ListN.{length, take, drop, length-append, length-take, length-drop}
+use Rattle.words.proofs.Prelude.{arith, _≡_, refl, sym, _∙_, ℕ, _+_, _-_, _≤_, Bool, true, false, true≢false, ltb}
+use Rattle.words.proofs.Prelude.{ltb-true, ltb-false, if_then_else_, Option, none, some, List, [], _∷_, _++_}
+use Rattle.words.proofs.Prelude.{length-drop, length-take, length-append, length, take, drop}
 use lib.Seq.{take-append-le, drop-append-le, take-at, drop-at, take-take, drop-drop, take-add}
-use Rattle.words.specs.If.{if_then_else_}
-use Rattle.words.proofs.Tests.{or-left, or-right, either}
-use Rattle.words.proofs.Laws.{drop-take}
-use Rattle.entry.specs.Limits.{largestBatch}
-use Rattle.entry.specs.Change.{Change}
-use Rattle.entry.specs.Guards.{Verdict, passes, refuses, first}
-use Rattle.entry.specs.declared.StopSign.{StopSign}
+use Rattle.words.proofs.{Tests.or-left, Tests.or-right, Tests.either, Laws.drop-take}
+use Rattle.entry.specs.{Limits.largestBatch, Change.Change, Guards.Verdict, Guards.passes, Guards.refuses, Guards.first}
+use Rattle.entry.specs.{declared.StopSign.StopSign}
 use Rattle.entry.proofs.GuardLaws.{Passed, passed, Clear}
 use Rattle.snapshot.specs.Folds.{fold, merge, foldOnto}
 use Rattle.snapshot.proofs.Folds.{fold-append, merge-fold}

@@ -1,14 +1,11 @@
 -- The answer of a call that changes nothing: refusals 12 and 11, and the reply.
-use Prim.Native.Nat.{ℕ}
-use mathlib.Core.Path.{_≡_, refl, sym, ap, subst}
-use mathlib.Core.Bool.{Bool, true, false}
-use mathlib.Core.List.{[]}
+use Rattle.words.proofs.Prelude.{_≡_, refl, sym, ap, ℕ, Bool, true, false, []}
+use mathlib.Core.Path.{subst}
 use Rattle.entry.specs.Guards.{Verdict, passes, refuses, first, Answer, refused, replied}
 use Rattle.model.specs.Calls.{Query, QueryReply, query, queryMalformed, queryGuards, queryReply, malformed, further, effect, replyOf}
 use Rattle.state_cache.specs.State.{Raw, formed, logOf, rawOf}
 use Rattle.state_cache.specs.Run.{Outcome, chosen, verdictOn, run}
-use Rattle.state_cache.proofs.Stands.{stands-of, raw-is}
-use Rattle.state_cache.proofs.Runs.{ill-formed, bad-call, call-stands}
+use Rattle.state_cache.proofs.{Stands.stands-of, Stands.raw-is, Runs.ill-formed, Runs.bad-call, Runs.call-stands}
 
 module _ (q : Query) (r : Raw) where
   abbrev answerOf : Outcome (QueryReply q) → Answer (QueryReply q)

@@ -1,34 +1,21 @@
 -- A walk back through entries for the newest one of a key, and the whole lookup.
-use Prim.Native.Nat.{ℕ, suc, _+_, _-_, _*_, _≤_}
-use native.Mathlib.Omega.{arith}
-use mathlib.Core.Path.{_≡_, refl, sym, ap, _∙_}
-use mathlib.Core.Bool.{Bool, true, false}
-use mathlib.Core.List.{List, [], _∷_, _++_}
-use mathlib.Core.Option.{Option, none, some, orElse}
-use borrow.Author.Tests.{eq-eqb, ne-eqb}
-use lib.Dec.{eqb}
-use lib.ListN.{length, take, drop, drop-of-length-le, take-append-drop}
-use Rattle.words.specs.If.{if_then_else_}
+use Rattle.words.proofs.Prelude.{arith, _≡_, refl, sym, ap, _∙_, ℕ, suc, _+_, _-_, _*_, _≤_, Bool, true, false, eqb}
+use Rattle.words.proofs.Prelude.{eq-eqb, ne-eqb, if_then_else_, Option, none, some, List, [], _∷_, _++_}
+use Rattle.words.proofs.Prelude.{drop-of-length-le, take-append-drop, length, take, drop}
+use mathlib.Core.Option.{orElse}
 use Rattle.words.specs.Coded.{entriesAt}
 use Rattle.words.proofs.CodedLaws.{entries-length, entries-take}
-use Rattle.entry.specs.Limits.{width}
-use Rattle.entry.specs.Change.{Said, Change, changeCode, entriesOf}
-use Rattle.entry.specs.Guards.{replied}
-use Rattle.entry.specs.Inner.{changeAt}
+use Rattle.entry.specs.{Limits.width, Change.Said, Change.Change, Change.changeCode, Change.entriesOf, Guards.replied}
+use Rattle.entry.specs.{Inner.changeAt}
 use Rattle.entry.proofs.ChangeLaws.{entry-cons}
 use Rattle.snapshot.specs.Folds.{find, lastOf, placeOf}
-use Rattle.model.specs.Numbers.{endOf, logDecided}
-use Rattle.model.specs.Log.{numbersOf, orEmpty}
-use Rattle.model.specs.Lookup.{lookupReply}
-use Rattle.model.specs.Calls.{query, lookup, queryReply, queryGuards}
+use Rattle.model.specs.{Numbers.endOf, Numbers.logDecided, Log.numbersOf, Log.orEmpty, Lookup.lookupReply, Calls.query}
+use Rattle.model.specs.{Calls.lookup, Calls.queryReply, Calls.queryGuards}
 use Rattle.model.proofs.Forms.{log-min}
-use Rattle.state_cache.specs.State.{Raw, numbersIn, logOf}
-use Rattle.state_cache.specs.Inner.{Ready}
-use Rattle.state_cache.specs.Run.{run}
+use Rattle.state_cache.specs.{State.Raw, State.numbersIn, State.logOf, Inner.Ready, Run.run}
 use Rattle.state_cache.proofs.Stands.{stands-of, numbers-are}
-use Rattle.reading.specs.Newest.{NewestIs}
-use Rattle.reading.specs.declared.inner.Newest.{Newest}
-use Rattle.reading.specs.declared.inner.Newest.the-variants.{At, Nowhere}
+use Rattle.reading.specs.{Newest.NewestIs, declared.inner.Newest.Newest, declared.inner.Newest.the-variants.At}
+use Rattle.reading.specs.{declared.inner.Newest.the-variants.Nowhere}
 use Rattle.reading.proofs.Answers.{answer-is}
 
 -- the last of a run is asked first

@@ -1,42 +1,30 @@
 -- The reply by numbers: its cases as the code takes them, that it says what the model's read shows, and that the part
 -- that it names
 -- lies in the lent log.
-use Prim.Native.Nat.{ℕ, _+_, _-_, _<_, _≤_, min, max}
-use native.Mathlib.Omega.{arith}
-use mathlib.Core.Path.{_≡_, refl, sym, ap, ap₂, subst, _∙_}
-use mathlib.Core.Bool.{Bool, true, false, _&&_, _||_}
-use mathlib.Core.List.{List}
-use mathlib.Core.Option.{Option, none, some}
-use borrow.Author.Tests.{eq-eqb, ne-eqb, le-leb, lt-leb, leb-false, lt-ltb, le-ltb, ltb-true, ltb-false}
-use lib.Dec.{ltb, leb, eqb}
-use lib.ListN.{length, take, drop}
-use Rattle.words.specs.If.{if_then_else_}
+use Rattle.words.proofs.Prelude.{arith, _≡_, refl, sym, ap, ap₂, _∙_, ℕ, _+_, _-_, _≤_, _<_, min, max, Bool, true}
+use Rattle.words.proofs.Prelude.{false, _&&_, _||_, eqb, ltb, leb, eq-eqb, ne-eqb, lt-ltb, le-ltb, ltb-true, ltb-false}
+use Rattle.words.proofs.Prelude.{le-leb, lt-leb, leb-false, if_then_else_, Option, none, some, List, length, take, drop}
+use mathlib.Core.Path.{subst}
 use Rattle.words.specs.Coded.{entriesAt}
 use Rattle.words.proofs.Tests.{or-left, or-right, either}
-use Rattle.entry.specs.Change.{entriesOf, entriesIn}
-use Rattle.entry.specs.Guards.{Answer, refused, replied}
-use Rattle.entry.specs.declared.LogIndex.{LogIndex}
-use Rattle.entry.specs.declared.StopSign.{StopSign}
+use Rattle.entry.specs.{Change.entriesOf, Change.entriesIn, Guards.Answer, Guards.refused, Guards.replied}
+use Rattle.entry.specs.{declared.LogIndex.LogIndex, declared.StopSign.StopSign}
 use Rattle.model.specs.Numbers.{Numbers, endOf, acceptedOf, stopDecided}
 use Rattle.model.specs.Read.{Bound, startAt, stopAt, startPast, stopPast, Marker, trimmed, snapshotted, markerOf, Span, span, Shown, shown, fullRun, readFrom, readReply, decidedSuffix}
 use Rattle.model.specs.Calls.{query, read, readDecided, getEntries, getSuffix, queryReply, queryGuards}
-use Rattle.state_cache.specs.State.{Raw, numbersIn, logOf}
-use Rattle.state_cache.specs.Inner.{Ready}
-use Rattle.state_cache.specs.Run.{run}
-use Rattle.state_cache.specs.declared.IndexRecord.{IndexRecord}
-use Rattle.state_cache.proofs.Small.{accepted-le, end-le}
-use Rattle.state_cache.proofs.Stands.{ready-of}
-use Rattle.reading.specs.Parts.{part}
-use Rattle.reading.specs.Replies.{lentSpan, spanSays, markerSaid, shownSaid, readSaid}
-use Rattle.reading.specs.Inner.{entryIs, spanIn, markerIn, markerAt, runOfNone, runOf, readIn}
-use Rattle.reading.specs.declared.Span.{Span as CodeSpan}
-use Rattle.reading.specs.declared.Marker.{Marker as CodeMarker}
-use Rattle.reading.specs.declared.Marker.the-variants.{None, Trimmed, Snapshot}
-use Rattle.reading.specs.declared.ShownRun.{ShownRun}
-use Rattle.reading.specs.declared.ReadReply.{ReadReply}
-use Rattle.reading.specs.declared.ReadReply.the-variants.{Nothing, Run}
-use Rattle.reading.specs.declared.inner.IndexEntry.{IndexEntry}
-use Rattle.reading.specs.declared.inner.IndexEntry.the-variants.{Compacted, Entry, StopSign as StopEntry}
+use Rattle.state_cache.specs.{State.Raw, State.numbersIn, State.logOf, Inner.Ready, Run.run}
+use Rattle.state_cache.specs.{declared.IndexRecord.IndexRecord}
+use Rattle.state_cache.proofs.{Small.accepted-le, Small.end-le, Stands.ready-of}
+use Rattle.reading.specs.{Parts.part, Replies.lentSpan, Replies.spanSays, Replies.markerSaid, Replies.shownSaid}
+use Rattle.reading.specs.{Replies.readSaid, Inner.entryIs, Inner.spanIn, Inner.markerIn, Inner.markerAt}
+use Rattle.reading.specs.{Inner.runOfNone, Inner.runOf, Inner.readIn, declared.Span.Span as CodeSpan}
+use Rattle.reading.specs.{declared.Marker.Marker as CodeMarker, declared.Marker.the-variants.None}
+use Rattle.reading.specs.{declared.Marker.the-variants.Trimmed, declared.Marker.the-variants.Snapshot}
+use Rattle.reading.specs.{declared.ShownRun.ShownRun, declared.ReadReply.ReadReply}
+use Rattle.reading.specs.{declared.ReadReply.the-variants.Nothing, declared.ReadReply.the-variants.Run}
+use Rattle.reading.specs.{declared.inner.IndexEntry.IndexEntry, declared.inner.IndexEntry.the-variants.Compacted}
+use Rattle.reading.specs.{declared.inner.IndexEntry.the-variants.Entry}
+use Rattle.reading.specs.{declared.inner.IndexEntry.the-variants.StopSign as StopEntry}
 use Rattle.reading.proofs.Answers.{answer-is, answered}
 use Rattle.reading.proofs.Showing.{both-by, part-entries, lent-count, shown-is, held, room, numbers, entries-answer, suffix-answer as end-answer}
 

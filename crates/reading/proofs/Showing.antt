@@ -1,33 +1,19 @@
 -- Parts of the lent log against runs of the model's entries.
-use Prim.Native.Nat.{ℕ, _+_, _-_, _*_, _/_, _<_, _≤_}
-use native.Mathlib.Omega.{arith}
+use Rattle.words.proofs.Prelude.{arith, _≡_, refl, sym, ap, _∙_, ℕ, _+_, _-_, _*_, _/_, _≤_, _<_, Bool, true, false}
+use Rattle.words.proofs.Prelude.{_&&_, leb, le-leb, lt-leb, leb-true, if_then_else_, List, [], append-nil, _++_}
+use Rattle.words.proofs.Prelude.{length-drop, take-append-drop, length, take, drop, length-take-le}
 use native.Mathlib.Nat.{add-sub-cancel-left}
-use mathlib.Core.Path.{_≡_, refl, sym, ap, _∙_}
-use mathlib.Core.Bool.{Bool, true, false, _&&_}
-use mathlib.Core.List.{List, [], _++_, append-nil}
-use borrow.Author.Tests.{le-leb, lt-leb, leb-true}
-use lib.Dec.{leb}
-use lib.ListN.{length, take, drop, length-drop, take-append-drop}
-use lib.Seq.{length-take-le}
-use Rattle.words.specs.If.{if_then_else_}
 use Rattle.words.specs.Coded.{entriesAt}
 use Rattle.words.proofs.Tests.{and-left, and-right}
 use Rattle.words.proofs.CodedLaws.{entries-length, entries-take, entries-drop, entries-append}
-use Rattle.entry.specs.Limits.{width}
-use Rattle.entry.specs.Change.{Change, changeCode, entriesOf, entriesIn}
-use Rattle.entry.specs.Guards.{replied}
-use Rattle.model.specs.Numbers.{Numbers, endOf}
-use Rattle.model.specs.Log.{numbersOf}
-use Rattle.model.specs.Read.{span, entriesBetween, suffixFrom}
-use Rattle.model.specs.Calls.{query, getEntries, getSuffix, queryReply, queryGuards}
-use Rattle.state_cache.specs.State.{Raw, numbersIn, logOf}
-use Rattle.state_cache.specs.Inner.{Ready}
-use Rattle.state_cache.specs.Run.{run}
+use Rattle.entry.specs.{Limits.width, Change.Change, Change.changeCode, Change.entriesOf, Change.entriesIn}
+use Rattle.entry.specs.{Guards.replied}
+use Rattle.model.specs.{Numbers.Numbers, Numbers.endOf, Log.numbersOf, Read.span, Read.entriesBetween, Read.suffixFrom}
+use Rattle.model.specs.{Calls.query, Calls.getEntries, Calls.getSuffix, Calls.queryReply, Calls.queryGuards}
+use Rattle.state_cache.specs.{State.Raw, State.numbersIn, State.logOf, Inner.Ready, Run.run}
 use Rattle.state_cache.proofs.Stands.{stands-of, numbers-are}
-use Rattle.reading.specs.Parts.{part, wordAt, partAt}
-use Rattle.reading.specs.Replies.{lentSpan, spanSays}
-use Rattle.reading.specs.Inner.{spanIn}
-use Rattle.reading.specs.declared.Span.the-variants.{Run}
+use Rattle.reading.specs.{Parts.part, Parts.wordAt, Parts.partAt, Replies.lentSpan, Replies.spanSays}
+use Rattle.reading.specs.{Inner.spanIn, declared.Span.the-variants.Run}
 use Rattle.reading.proofs.Answers.{answer-is}
 
 -- the part itself, as the code cuts it, and where it stands

@@ -1,20 +1,13 @@
 -- Two replies of a read that meet a claim are one: what a reply says tells its marker, where its part starts, how many
 -- entries it
 -- has and how many are decided, and its stop-sign.
-use Prim.Native.Nat.{ℕ}
-use native.Mathlib.Omega.{arith}
-use mathlib.Core.Path.{_≡_, refl, sym, ap, ap₂, _∙_}
-use mathlib.Core.List.{List}
-use mathlib.Core.Option.{Option, none, some}
-use lib.ListN.{length}
+use Rattle.words.proofs.Prelude.{arith, _≡_, refl, sym, ap, ap₂, _∙_, ℕ, Option, none, some, List, length}
 use Rattle.words.proofs.CodedLaws.{entries-length}
 use Rattle.entry.specs.Change.{changeCode}
 use Rattle.entry.proofs.RefusalLaws.{refusal-known}
-use Rattle.model.specs.Log.{given}
-use Rattle.model.specs.Read.{Span, Marker, trimmed, snapshotted, Shown}
+use Rattle.model.specs.{Log.given, Read.Span, Read.Marker, Read.trimmed, Read.snapshotted, Read.Shown}
 use Rattle.state_cache.specs.State.{Raw}
-use Rattle.state_cache.proofs.Stands.{given-by}
-use Rattle.state_cache.proofs.Unique.{Known, apart}
+use Rattle.state_cache.proofs.{Stands.given-by, Unique.Known, Unique.apart}
 use Rattle.reading.specs.Replies.{lentSpan, spanSays, markerSaid, shownSaid, readSaid}
 use Rattle.reading.specs.declared.Span.the-variants.{Run as SpanRun, Refused as SpanRefused}
 use Rattle.reading.specs.declared.Marker.{Marker as CodeMarker}

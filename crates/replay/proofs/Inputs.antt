@@ -1,27 +1,14 @@
 -- Where the program stands once more of its input has come.
-use Prim.Native.Nat.{ℕ, _≤_, _<_}
-use mathlib.Core.Path.{_≡_, refl, sym, ap, _∙_}
-use mathlib.Core.Bool.{Bool, true, false, _||_, true≢false}
-use mathlib.Core.List.{List, [], _∷_, _++_, append-assoc, append-nil}
-use mathlib.Core.Option.{Option, none, some}
-use native.Mathlib.Omega.{arith}
-use borrow.Author.Tests.{ltb-true, ltb-false, leb-false}
-use lib.Dec.{ltb, leb}
-use lib.ListN.{length, take}
-use lib.Seq.{length-take-le}
-use Rattle.words.specs.If.{if_then_else_}
+use Rattle.words.proofs.Prelude.{arith, _≡_, refl, sym, ap, _∙_, ℕ, _≤_, _<_, Bool, true, false, true≢false, _||_, ltb}
+use Rattle.words.proofs.Prelude.{leb, ltb-true, ltb-false, leb-false, if_then_else_, Option, none, some, List, [], _∷_}
+use Rattle.words.proofs.Prelude.{append-nil, append-assoc, _++_, length, take, length-take-le}
 use Rattle.model.specs.Log.{freshLog}
-use Rattle.state_cache.specs.declared.IndexRecord.{IndexRecord}
-use Rattle.state_cache.specs.State.{Raw, raw, rawOf}
-use Rattle.text.specs.Parse.{parseOf}
-use Rattle.text.specs.Lines.{Lines, lineEnded, restWith, linesFrom, linesOf, lastEnded}
-use Rattle.text.specs.Feeding.{come, fitting, joined, nextAt}
-use Rattle.text.proofs.Long.{too-long}
-use Rattle.text.proofs.LineLaws.{joined-fitting}
-use Rattle.replay.specs.Answering.{Printout, printout, answering}
-use Rattle.text.specs.Rooms.{inputLine}
-use Rattle.replay.specs.Feeding.{meaning, lastStart, after}
-use Rattle.replay.specs.Input.{replayed, start, Reached}
+use Rattle.state_cache.specs.{declared.IndexRecord.IndexRecord, State.Raw, State.raw, State.rawOf}
+use Rattle.text.specs.{Parse.parseOf, Lines.Lines, Lines.lineEnded, Lines.restWith, Lines.linesFrom, Lines.linesOf}
+use Rattle.text.specs.{Lines.lastEnded, Feeding.come, Feeding.fitting, Feeding.joined, Feeding.nextAt, Rooms.inputLine}
+use Rattle.text.proofs.{Long.too-long, LineLaws.joined-fitting}
+use Rattle.replay.specs.{Answering.Printout, Answering.printout, Answering.answering, Feeding.meaning}
+use Rattle.replay.specs.{Feeding.lastStart, Feeding.after, Input.replayed, Input.start, Input.Reached}
 
 -- before the first byte
 pub begun : (x : Raw) (over : Bool) (len used : ℕ) (line out : List ℕ) → x ≡ rawOf (freshLog 0) → len ≡ 0 → over ≡ false

@@ -1,36 +1,20 @@
 -- Bytes put one after another, and the lines of what a read shows.
-use Prim.Native.Nat.{ℕ, _+_, _*_, _/_, _≤_}
-use mathlib.Core.Path.{_≡_, refl, sym, ap, _∙_}
-use mathlib.Core.Bool.{Bool, true, false, _&&_}
-use mathlib.Core.List.{List, [], _++_, append-assoc}
-use mathlib.Core.Option.{Option, none, some}
-use lib.Dec.{leb, eqb}
-use native.Mathlib.Omega.{arith}
-use lib.ListN.{length, take, drop, length-take, length-drop}
-use Rattle.words.specs.If.{if_then_else_}
+use Rattle.words.proofs.Prelude.{arith, _≡_, refl, sym, ap, _∙_, ℕ, _+_, _*_, _/_, _≤_, Bool, true, false, _&&_, eqb}
+use Rattle.words.proofs.Prelude.{leb, if_then_else_, Option, none, some, List, [], append-assoc, _++_, length-drop}
+use Rattle.words.proofs.Prelude.{length-take, length, take, drop}
 use Rattle.words.proofs.CodedLaws.{entries-length}
-use Rattle.entry.specs.Limits.{width, largestBatch, logWords, snapshotWords}
-use Rattle.entry.specs.Guards.{Answer, refused, replied}
-use Rattle.entry.specs.Change.{Change, entriesOf, changeCode}
-use Rattle.model.specs.Append.{Flushed}
-use Rattle.model.specs.Read.{Bound, span, Shown, shown}
-use Rattle.model.specs.Log.{given, freshLog}
-use Rattle.model.specs.Numbers.{acceptedOf}
-use Rattle.model.specs.Calls.{query, read}
-use Rattle.state_cache.proofs.Stands.{given-by}
-use Rattle.state_cache.specs.State.{Raw, raw, rawOf, indexOf, oneIf}
-use Rattle.state_cache.specs.Run.{Outcome, outcome, run, freshCall, ofNumbers}
-use Rattle.state_cache.proofs.Unique.{apart}
-use Rattle.state_cache.specs.declared.IndexRecord.{IndexRecord}
+use Rattle.entry.specs.{Limits.width, Limits.largestBatch, Limits.logWords, Limits.snapshotWords, Guards.Answer}
+use Rattle.entry.specs.{Guards.refused, Guards.replied, Change.Change, Change.entriesOf, Change.changeCode}
+use Rattle.model.specs.{Append.Flushed, Read.Bound, Read.span, Read.Shown, Read.shown, Log.given, Log.freshLog}
+use Rattle.model.specs.{Numbers.acceptedOf, Calls.query, Calls.read}
+use Rattle.state_cache.proofs.{Stands.given-by, Unique.apart}
+use Rattle.state_cache.specs.{State.Raw, State.raw, State.rawOf, State.indexOf, State.oneIf, Run.Outcome, Run.outcome}
+use Rattle.state_cache.specs.{Run.run, Run.freshCall, Run.ofNumbers, declared.IndexRecord.IndexRecord}
 use Rattle.text.specs.Answers.{lineOf, entryLines}
 use Rattle.text.specs.declared.Line.the-variants.{Done, Refused, Run, Snapshot}
-use Rattle.reading.proofs.Answers.{query-keeps}
-use Rattle.reading.specs.Parts.{part}
-use Rattle.reading.specs.Replies.{lentSpan, markerSaid, shownSaid, readSaid}
-use Rattle.reading.proofs.Showing.{lent-count}
-use Rattle.reading.proofs.Replying.{ShownLent, read-lent}
-use Rattle.reading.specs.declared.ReadReply.{ReadReply}
-use Rattle.reading.specs.declared.ShownRun.{ShownRun}
+use Rattle.reading.proofs.{Answers.query-keeps, Showing.lent-count, Replying.ShownLent, Replying.read-lent}
+use Rattle.reading.specs.{Parts.part, Replies.lentSpan, Replies.markerSaid, Replies.shownSaid, Replies.readSaid}
+use Rattle.reading.specs.{declared.ReadReply.ReadReply, declared.ShownRun.ShownRun}
 use Rattle.replay.specs.Answering.{printout, markerText, stopText, shownText, readText, inLog, readTextIn, printed, startedBy, stopLine, stoppedBy}
 use Rattle.replay.specs.Feeding.{after}
 

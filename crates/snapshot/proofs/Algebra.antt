@@ -1,18 +1,13 @@
 -- Demand 3, its first sentence, for snapshots without words: folds and merges, at any capacity.
-use Prim.Native.Nat.{ℕ, _<_, _≤_}
-use mathlib.Core.Path.{_≡_, refl, sym, ap, _∙_}
-use mathlib.Core.Bool.{true}
-use mathlib.Core.List.{List, [], _++_}
-use mathlib.Core.Option.{Option, none, some, bind, orElse}
-use native.Mathlib.Omega.{arith}
-use borrow.Author.Tests.{le-leb, lt-leb}
-use lib.ListN.{length}
+use Rattle.words.proofs.Prelude.{arith, _≡_, refl, sym, ap, _∙_, ℕ, _≤_, _<_, true, le-leb, lt-leb, Option, none, some}
+use Rattle.words.proofs.Prelude.{List, [], _++_, length}
+use mathlib.Core.Option.{bind, orElse}
 use Rattle.words.proofs.Tests.{Reach, reached, short, reach}
 use Rattle.entry.specs.Change.{Said, removed, Change}
 use Rattle.snapshot.specs.Folds.{fold, merge, rising, find, lastOf, within}
-use Rattle.snapshot.proofs.Folds.{rising-onto, rising-fold, fold-append, merge-assoc as assoc, merge-nil, nil-merge}
-use Rattle.snapshot.proofs.Finds.{find-onto}
-use Rattle.snapshot.proofs.Room.{merge-first, merge-second}
+use Rattle.snapshot.proofs.{Folds.rising-onto, Folds.rising-fold, Folds.fold-append, Folds.merge-assoc as assoc}
+use Rattle.snapshot.proofs.{Folds.merge-nil, Folds.nil-merge, Finds.find-onto, Room.merge-first}
+use Rattle.snapshot.proofs.{Room.merge-second}
 
 -- folding two runs joined is merging their folds
 pub fold-join : (r q : List Change) → fold (r ++ q) ≡ merge (fold r) (fold q)

@@ -1,36 +1,25 @@
 -- The calls on lent words: each way out of them against its definition.
-use Prim.Native.Nat.{ℕ, suc, _/_, _<_, _≤_}
-use mathlib.Core.Path.{_≡_, refl, sym, ap, ap₂, _∙_}
-use mathlib.Core.Bool.{Bool, true, false, _&&_, not}
-use mathlib.Core.List.{List, [], _∷_}
-use mathlib.Core.Option.{none, some}
-use native.Mathlib.Omega.{arith}
-use borrow.Author.Tests.{lt-ltb, le-ltb, eqb-true}
-use lib.Dec.{ltb, eqb}
-use lib.ListN.{length, drop, replicate}
-use Rattle.words.specs.All.{allOf}
-use Rattle.words.specs.Words.{laid}
-use Rattle.words.specs.Coded.{wordsOf, entriesAt}
+use Rattle.words.proofs.Prelude.{arith, _≡_, refl, sym, ap, ap₂, _∙_, ℕ, suc, _/_, _≤_, _<_, Bool, true, false, _&&_}
+use Rattle.words.proofs.Prelude.{not, eqb, ltb, eqb-true, lt-ltb, le-ltb, none, some, List, [], _∷_, length, drop}
+use Rattle.words.proofs.Prelude.{replicate}
+use Rattle.words.specs.{All.allOf, Words.laid, Coded.wordsOf, Coded.entriesAt}
 use Rattle.words.proofs.Tests.{and-left, and-right}
-use Rattle.entry.specs.Limits.{width, keyRoom, snapshotWords}
-use Rattle.entry.specs.Change.{Change, entriesOf, entriesIn, sliceFormed, stored, storedIn, entriesFormed}
-use Rattle.entry.specs.Guards.{guard, Verdict, passes, refuses, first, refused, replied, refusedBy}
-use Rattle.entry.specs.Refusals.{numberOf, carriedOf}
-use Rattle.entry.specs.declared.Refusal.{Refusal}
-use Rattle.entry.specs.declared.Refusal.the-variants.{TooManyKeys, Malformed}
-use Rattle.entry.specs.Inner.{changeAt}
-use Rattle.entry.proofs.ChangeLaws.{entry-cons}
-use Rattle.entry.proofs.GuardLaws.{first-refuses, first-goes-on}
-use Rattle.entry.proofs.SliceLaws.{laid-of, slice-fine, stored-entries, stored-laid}
+use Rattle.entry.specs.{Limits.width, Limits.keyRoom, Limits.snapshotWords, Change.Change, Change.entriesOf}
+use Rattle.entry.specs.{Change.entriesIn, Change.sliceFormed, Change.stored, Change.storedIn, Change.entriesFormed}
+use Rattle.entry.specs.{Guards.guard, Guards.Verdict, Guards.passes, Guards.refuses, Guards.first, Guards.refused}
+use Rattle.entry.specs.{Guards.replied, Guards.refusedBy, Refusals.numberOf, Refusals.carriedOf}
+use Rattle.entry.specs.{declared.Refusal.Refusal, declared.Refusal.the-variants.TooManyKeys}
+use Rattle.entry.specs.{declared.Refusal.the-variants.Malformed, Inner.changeAt}
+use Rattle.entry.proofs.{ChangeLaws.entry-cons, GuardLaws.first-refuses, GuardLaws.first-goes-on, SliceLaws.laid-of}
+use Rattle.entry.proofs.{SliceLaws.slice-fine, SliceLaws.stored-entries, SliceLaws.stored-laid}
 use Rattle.snapshot.specs.Folds.{rising, foldOnto, fold, merge, find, placeOf}
 use Rattle.snapshot.specs.Calls.{snapshotFormed, Outcome, outcome, writtenBy, foldGuards, folded, foldCall, mergeCall, findCall}
 use Rattle.snapshot.specs.Inner.{rank, spotOf, Holds, Shows, FoldIs, Aside, foldedOut}
 use Rattle.snapshot.specs.declared.Folded.{Folded}
 use Rattle.snapshot.specs.declared.Folded.the-variants.{Keys, Refused}
 use Rattle.snapshot.specs.declared.inner.Spot.the-variants.{At, Before}
-use Rattle.snapshot.proofs.Searching.{spot-at, spot-before, spot-inside}
-use Rattle.snapshot.proofs.Finds.{find-absent, find-found}
-use Rattle.snapshot.proofs.Putting.{folded-keys, folded-refused, folded-over}
+use Rattle.snapshot.proofs.{Searching.spot-at, Searching.spot-before, Searching.spot-inside, Finds.find-absent}
+use Rattle.snapshot.proofs.{Finds.find-found, Putting.folded-keys, Putting.folded-refused, Putting.folded-over}
 
 -- refusal 8, or the snapshot written out
 module _ (es : List Change) (out : List ℕ) where

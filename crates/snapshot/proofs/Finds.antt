@@ -1,18 +1,10 @@
 -- What is found: in a run, after an insert, and in a fold.
-use Prim.Native.Nat.{ℕ, _<_}
-use mathlib.Core.Path.{_≡_, refl, sym, _∙_}
-use mathlib.Core.Bool.{Bool, true, false}
-use mathlib.Core.List.{List, [], _∷_}
-use mathlib.Core.Option.{Option, none, some, orElse}
-use native.Mathlib.Omega.{arith}
-use borrow.Author.Tests.{eqb-true, eqb-false, lt-ltb, le-ltb, eq-eqb, ne-eqb}
-use lib.Dec.{eqb}
-use lib.ListN.{drop}
-use Rattle.words.specs.If.{if_then_else_}
+use Rattle.words.proofs.Prelude.{arith, _≡_, refl, sym, _∙_, ℕ, _<_, Bool, true, false, eqb, eq-eqb, ne-eqb, eqb-true}
+use Rattle.words.proofs.Prelude.{eqb-false, lt-ltb, le-ltb, if_then_else_, Option, none, some, List, [], _∷_, drop}
+use mathlib.Core.Option.{orElse}
 use Rattle.words.proofs.Tests.{Stand, below, same, above, stand}
 use Rattle.entry.specs.Change.{Said, Change}
-use Rattle.snapshot.specs.Folds.{insert, foldOnto, find, lastOf}
-use Rattle.snapshot.specs.Inner.{rank, here}
+use Rattle.snapshot.specs.{Folds.insert, Folds.foldOnto, Folds.find, Folds.lastOf, Inner.rank, Inner.here}
 use Rattle.snapshot.proofs.Folds.{insert-nil, insert-below, insert-same, insert-above}
 use Rattle.snapshot.proofs.Searching.{rank-below, rank-stop, here-below, here-stop, here-nil}
 

@@ -1,11 +1,6 @@
 -- The laws of folds and merges, without a word of room.
-use Prim.Native.Nat.{ℕ, _<_, _≤_}
-use mathlib.Core.Path.{_≡_, refl, sym, ap}
-use mathlib.Core.Bool.{true}
-use mathlib.Core.List.{List, [], _∷_, _++_}
-use native.Mathlib.Omega.{arith}
-use lib.Dec.{ltb}
-use borrow.Author.Tests.{ltb-true, lt-ltb, le-ltb, eq-eqb, ne-eqb}
+use Rattle.words.proofs.Prelude.{arith, _≡_, refl, sym, ap, ℕ, _≤_, _<_, true, ltb, eq-eqb, ne-eqb, lt-ltb, le-ltb}
+use Rattle.words.proofs.Prelude.{ltb-true, List, [], _∷_, _++_}
 use Rattle.entry.specs.Change.{Change}
 use Rattle.snapshot.specs.Folds.{insert, foldOnto, fold, merge, climbs, rising}
 use Rattle.words.proofs.Tests.{Stand, below, same, above, stand, and-left, and-right}

@@ -1,7 +1,5 @@
 -- Entries in form stay so when they are folded.
-use mathlib.Core.Path.{_≡_, refl}
-use mathlib.Core.Bool.{true}
-use mathlib.Core.List.{List, [], _∷_}
+use Rattle.words.proofs.Prelude.{_≡_, refl, true, List, [], _∷_}
 use Rattle.words.specs.All.{allOf}
 use Rattle.words.proofs.Tests.{Stand, below, same, above, stand}
 use Rattle.words.proofs.Alls.{all-head, all-tail, all-cons}

@@ -1,13 +1,7 @@
 -- Demand 3, its first sentence, for the exported calls on lent words: reply, refusal and every word of the output.
-use Prim.Native.Nat.{ℕ, _≤_}
-use mathlib.Core.Path.{_≡_, refl, sym, ap, ap₂, _∙_}
-use mathlib.Core.Bool.{true, _&&_}
-use mathlib.Core.List.{List, [], _++_}
-use mathlib.Core.Option.{Option, none, some, bind}
-use native.Mathlib.Omega.{arith}
-use borrow.Author.Tests.{eq-eqb}
-use lib.Dec.{eqb}
-use lib.ListN.{length, replicate}
+use Rattle.words.proofs.Prelude.{arith, _≡_, refl, sym, ap, ap₂, _∙_, ℕ, _≤_, true, _&&_, eqb, eq-eqb, Option, none}
+use Rattle.words.proofs.Prelude.{some, List, [], _++_, length, replicate}
+use mathlib.Core.Option.{bind}
 use Rattle.words.specs.Coded.{entriesAt}
 use Rattle.words.proofs.Tests.{Reach, reached, short, reach, both-true}
 use Rattle.words.proofs.CodedLaws.{entries-length}

@@ -1,24 +1,14 @@
 -- A fold over a snapshot in its place: two folds one after the other, made in scratch words.
-use Prim.Native.Nat.{ℕ, _*_, _≤_}
-use mathlib.Core.Path.{_≡_, sym, ap, ap₂, _∙_}
-use mathlib.Core.Bool.{true}
-use mathlib.Core.List.{List}
-use native.Mathlib.Omega.{arith}
-use lib.ListN.{length}
-use Rattle.entry.specs.Limits.{width, snapshotWords}
-use Rattle.entry.specs.Change.{Change, entriesFormed, entriesOf, stored}
-use Rattle.entry.specs.declared.Refusal.{Refusal}
+use Rattle.words.proofs.Prelude.{arith, _≡_, sym, ap, ap₂, _∙_, ℕ, _*_, _≤_, true, List, length}
+use Rattle.entry.specs.{Limits.width, Limits.snapshotWords, Change.Change, Change.entriesFormed, Change.entriesOf}
+use Rattle.entry.specs.{Change.stored, declared.Refusal.Refusal}
 use Rattle.entry.proofs.SliceLaws.{stored-entries}
-use Rattle.snapshot.specs.Folds.{foldOnto}
-use Rattle.snapshot.specs.Calls.{outcome, folded}
-use Rattle.snapshot.specs.Inner.{Shows, FoldIs, Aside, foldWritten, foldedOut}
-use Rattle.snapshot.specs.declared.Folded.{Folded}
-use Rattle.snapshot.specs.declared.Folded.the-variants.{Keys, Refused}
-use Rattle.snapshot.proofs.Folds.{rising-onto}
-use Rattle.snapshot.proofs.Forming.{formed-onto}
-use Rattle.snapshot.proofs.Room.{onto-grows}
-use Rattle.snapshot.proofs.Putting.{folded-keys, folded-refused, folded-over}
-use Rattle.snapshot.proofs.Calling.{over-refused, snapshot-holds, snapshot-stored}
+use Rattle.snapshot.specs.{Folds.foldOnto, Calls.outcome, Calls.folded, Inner.Shows, Inner.FoldIs, Inner.Aside}
+use Rattle.snapshot.specs.{Inner.foldWritten, Inner.foldedOut, declared.Folded.Folded}
+use Rattle.snapshot.specs.{declared.Folded.the-variants.Keys, declared.Folded.the-variants.Refused}
+use Rattle.snapshot.proofs.{Folds.rising-onto, Forming.formed-onto, Room.onto-grows, Putting.folded-keys}
+use Rattle.snapshot.proofs.{Putting.folded-refused, Putting.folded-over, Calling.over-refused}
+use Rattle.snapshot.proofs.{Calling.snapshot-holds, Calling.snapshot-stored}
 
 module _ (kept : ℕ) (base : List ℕ) (n : ℕ) (entries : List ℕ) (m : ℕ) (more : List ℕ)
     (a : Aside kept base n entries base) (w : Shows m more) where

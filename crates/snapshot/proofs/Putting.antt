@@ -1,29 +1,19 @@
 -- One entry put into words, and a run of them: what the words hold after each.
-use Prim.Native.Nat.{ℕ, suc, _+_, _-_, _*_, _<_, _≤_}
-use mathlib.Core.Path.{_≡_, refl, sym, ap, _∙_}
-use mathlib.Core.Bool.{true}
-use mathlib.Core.List.{List, [], _∷_, _++_, append-nil}
-use native.Mathlib.Omega.{arith}
+use Rattle.words.proofs.Prelude.{arith, _≡_, refl, sym, ap, _∙_, ℕ, suc, _+_, _-_, _*_, _≤_, _<_, true, le-leb, lt-leb}
+use Rattle.words.proofs.Prelude.{List, [], _∷_, append-nil, _++_, take-append-drop, length, take, drop, take-all}
 use native.Mathlib.Decide.{decLe}
-use borrow.Author.Tests.{le-leb, lt-leb}
-use lib.ListN.{length, take, drop, take-append-drop}
-use lib.Seq.{take-all, take-add}
-use Rattle.words.specs.Words.{laid, spliced}
-use Rattle.words.specs.Coded.{wordsOf}
-use Rattle.words.proofs.Alls.{all-head, all-drop}
-use Rattle.words.proofs.CodedLaws.{entries-length, spliced-laid}
-use Rattle.entry.specs.Limits.{width}
-use Rattle.entry.specs.declared.Refusal.{Refusal}
-use Rattle.entry.specs.declared.Refusal.the-variants.{TooManyKeys}
-use Rattle.entry.specs.Change.{Change, changeCode, changeFormed, entriesFormed, entriesOf, stored, storedIn}
-use Rattle.entry.specs.Inner.{changeAt}
+use lib.Seq.{take-add}
+use Rattle.words.specs.{Words.laid, Words.spliced, Coded.wordsOf}
+use Rattle.words.proofs.{Alls.all-head, Alls.all-drop, CodedLaws.entries-length, CodedLaws.spliced-laid}
+use Rattle.entry.specs.{Limits.width, declared.Refusal.Refusal, declared.Refusal.the-variants.TooManyKeys}
+use Rattle.entry.specs.{Change.Change, Change.changeCode, Change.changeFormed, Change.entriesFormed, Change.entriesOf}
+use Rattle.entry.specs.{Change.stored, Change.storedIn, Inner.changeAt}
 use Rattle.entry.proofs.ChangeLaws.{changeOk, entry-words, entry-cons}
 use Rattle.entry.proofs.SliceLaws.{laid-of, laid-stored, stored-length, stored-entries, stored-laid}
-use Rattle.snapshot.specs.Folds.{insert, foldOnto, rising}
-use Rattle.snapshot.specs.Inner.{rank, spotOf, foldedIn, Holds, Shows, FoldIs}
-use Rattle.snapshot.specs.declared.inner.Spot.the-variants.{At, Before}
-use Rattle.snapshot.specs.declared.Folded.{Folded}
-use Rattle.snapshot.specs.declared.Folded.the-variants.{Keys, Refused}
+use Rattle.snapshot.specs.{Folds.insert, Folds.foldOnto, Folds.rising, Inner.rank, Inner.spotOf, Inner.foldedIn}
+use Rattle.snapshot.specs.{Inner.Holds, Inner.Shows, Inner.FoldIs, declared.inner.Spot.the-variants.At}
+use Rattle.snapshot.specs.{declared.inner.Spot.the-variants.Before, declared.Folded.Folded}
+use Rattle.snapshot.specs.{declared.Folded.the-variants.Keys, declared.Folded.the-variants.Refused}
 use Rattle.snapshot.proofs.Folds.{onto-append, rising-insert}
 use Rattle.snapshot.proofs.Searching.{spot-at, spot-before, Put, insert-over, insert-into, insert-grows}
 use Rattle.snapshot.proofs.Forming.{formed-insert}

@@ -1,14 +1,7 @@
 -- Demand 1: a refused fold or merge leaves every word of the output.
-use Prim.Native.Nat.{ℕ}
-use mathlib.Core.Path.{_≡_, refl}
-use mathlib.Core.Bool.{_&&_, not}
-use mathlib.Core.List.{List, _∷_}
-use native.Mathlib.Omega.{arith}
-use lib.Dec.{eqb}
-use lib.ListN.{length}
-use Rattle.entry.specs.Limits.{snapshotWords}
-use Rattle.entry.specs.Change.{Change, entriesOf, entriesIn, sliceFormed}
-use Rattle.entry.specs.Guards.{guard, first, Answer, refused, replied, settle}
+use Rattle.words.proofs.Prelude.{arith, _≡_, refl, ℕ, _&&_, not, eqb, List, _∷_, length}
+use Rattle.entry.specs.{Limits.snapshotWords, Change.Change, Change.entriesOf, Change.entriesIn, Change.sliceFormed}
+use Rattle.entry.specs.{Guards.guard, Guards.first, Guards.Answer, Guards.refused, Guards.replied, Guards.settle}
 use Rattle.snapshot.specs.Folds.{fold, merge}
 use Rattle.snapshot.specs.Calls.{snapshotFormed, writtenOut, foldGuards, foldCall, mergeCall}
 

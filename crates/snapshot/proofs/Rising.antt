@@ -1,20 +1,11 @@
 -- A walk over the first n entries that compares neighbours and keeps a flag: at i the flag and the order of the rest
 -- are together
 -- what is asked.
-use Prim.Native.Nat.{ℕ, zero, suc, _+_, _<_, _≤_, _*_}
-use mathlib.Core.Path.{_≡_, refl, sym, ap, _∙_}
-use mathlib.Core.Bool.{Bool, true, _&&_, and-true, and-assoc}
-use mathlib.Core.List.{List, [], _∷_}
-use native.Mathlib.Omega.{arith}
-use native.Mathlib.Numerals.{add-one}
-use lib.Dec.{ltb}
-use lib.ListN.{length, drop, length-drop, getD}
-use borrow.Author.Tests.{ltb-true}
-use Rattle.words.proofs.Tests.{and-left, and-right}
-use Rattle.words.proofs.CodedLaws.{entries-length}
-use Rattle.entry.specs.Limits.{width}
-use Rattle.entry.specs.Change.{Change, changeCode, entriesOf}
-use Rattle.entry.specs.Inner.{changeAt}
+use Rattle.words.proofs.Prelude.{arith, _≡_, refl, sym, ap, _∙_, ℕ, zero, suc, _+_, _*_, _≤_, _<_, add-one, Bool, true}
+use Rattle.words.proofs.Prelude.{and-true, _&&_, ltb, ltb-true, List, [], _∷_, length-drop, length, drop, getD}
+use mathlib.Core.Bool.{and-assoc}
+use Rattle.words.proofs.{Tests.and-left, Tests.and-right, CodedLaws.entries-length}
+use Rattle.entry.specs.{Limits.width, Change.Change, Change.changeCode, Change.entriesOf, Inner.changeAt}
 use Rattle.entry.proofs.ChangeLaws.{entry-cons}
 use Rattle.snapshot.specs.Folds.{climbs, rising}
 

@@ -1,13 +1,6 @@
 -- How many keys a merge has: no fewer than either part.
-use Prim.Native.Nat.{ℕ, suc, _<_, _≤_}
-use mathlib.Core.Path.{_≡_, refl, sym, ap, _∙_}
-use mathlib.Core.Bool.{true}
-use mathlib.Core.List.{List, [], _∷_}
-use native.Mathlib.Omega.{arith}
-use borrow.Author.Tests.{le-leb, lt-leb}
-use lib.Dec.{leb}
-use lib.ListN.{length}
-use Rattle.words.specs.If.{if_then_else_}
+use Rattle.words.proofs.Prelude.{arith, _≡_, refl, sym, ap, _∙_, ℕ, suc, _≤_, _<_, true, leb, le-leb, lt-leb}
+use Rattle.words.proofs.Prelude.{if_then_else_, List, [], _∷_, length}
 use Rattle.words.proofs.Tests.{Stand, below, same, above, stand, Reach, reached, short, reach}
 use Rattle.entry.specs.Change.{Change}
 use Rattle.snapshot.specs.Folds.{insert, foldOnto, merge, climbs, rising}

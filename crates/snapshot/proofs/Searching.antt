@@ -1,27 +1,16 @@
 -- How a search walks the entries, and what an insert does at the spot that it finds.
-use Prim.Native.Nat.{ℕ, suc, _+_, _*_, _<_, _≤_}
+use Rattle.words.proofs.Prelude.{arith, _≡_, refl, sym, ap, _∙_, ℕ, suc, _+_, _*_, _≤_, _<_, add-one, Bool, true, false}
+use Rattle.words.proofs.Prelude.{eqb, ltb, eq-eqb, ne-eqb, eqb-true, lt-ltb, le-ltb, if_then_else_, List, [], _∷_}
+use Rattle.words.proofs.Prelude.{drop-of-length-le, length, drop, getD}
 use native.Mathlib.Nat.{suc-add}
-use mathlib.Core.Path.{_≡_, refl, sym, ap, _∙_}
-use mathlib.Core.Bool.{Bool, true, false}
-use mathlib.Core.List.{List, [], _∷_}
-use native.Mathlib.Omega.{arith}
-use native.Mathlib.Numerals.{add-one}
-use borrow.Author.Tests.{lt-ltb, le-ltb, eq-eqb, ne-eqb, eqb-true}
-use lib.Dec.{ltb, eqb}
-use lib.ListN.{length, drop, getD, drop-of-length-le}
-use Rattle.words.specs.If.{if_then_else_}
 use Rattle.words.specs.Words.{spliced}
-use Rattle.words.proofs.Tests.{Stand, below, same, above, stand}
-use Rattle.words.proofs.CodedLaws.{entries-length}
-use Rattle.entry.specs.Limits.{width}
-use Rattle.entry.specs.Change.{Change, removed, changeCode, entriesOf}
-use Rattle.entry.specs.Inner.{changeAt}
+use Rattle.words.proofs.{Tests.Stand, Tests.below, Tests.same, Tests.above, Tests.stand, CodedLaws.entries-length}
+use Rattle.entry.specs.{Limits.width, Change.Change, Change.removed, Change.changeCode, Change.entriesOf}
+use Rattle.entry.specs.{Inner.changeAt}
 use Rattle.entry.proofs.ChangeLaws.{entry-cons}
-use Rattle.snapshot.specs.Folds.{insert, rising}
-use Rattle.snapshot.specs.Inner.{rank, here, spotOf, Passed}
-use Rattle.snapshot.specs.declared.inner.Spot.the-variants.{At, Before}
-use Rattle.snapshot.proofs.Folds.{insert-below, insert-same, insert-above}
-use Rattle.snapshot.proofs.Rising.{keys-climb}
+use Rattle.snapshot.specs.{Folds.insert, Folds.rising, Inner.rank, Inner.here, Inner.spotOf, Inner.Passed}
+use Rattle.snapshot.specs.{declared.inner.Spot.the-variants.At, declared.inner.Spot.the-variants.Before}
+use Rattle.snapshot.proofs.{Folds.insert-below, Folds.insert-same, Folds.insert-above, Rising.keys-climb}
 
 module _ (e : Change) (es : List Change) (k : ℕ) where
   pub rank-below : e .key < k → rank (e ∷ es) k ≡ suc (rank es k)

@@ -1,15 +1,11 @@
 -- Two replies that meet a claim, and the outputs beside them, are one.
-use Prim.Native.Nat.{ℕ}
-use mathlib.Core.Path.{_≡_, sym, ap, _∙_}
-use mathlib.Core.List.{List}
-use native.Mathlib.Omega.{arith}
+use Rattle.words.proofs.Prelude.{arith, _≡_, sym, ap, _∙_, ℕ, List}
 use Rattle.entry.specs.declared.BlockPlace.{BlockPlace}
 use Rattle.entry.proofs.RefusalLaws.{refusal-known}
-use Rattle.snapshot.specs.Calls.{Outcome, outcome, folded, found}
-use Rattle.snapshot.specs.declared.Folded.{Folded}
-use Rattle.snapshot.specs.declared.Folded.the-variants.{Keys, Refused}
-use Rattle.snapshot.specs.declared.Found.{Found}
-use Rattle.snapshot.specs.declared.Found.the-variants.{Place, Absent, Refused as FindRefused}
+use Rattle.snapshot.specs.{Calls.Outcome, Calls.outcome, Calls.folded, Calls.found, declared.Folded.Folded}
+use Rattle.snapshot.specs.{declared.Folded.the-variants.Keys, declared.Folded.the-variants.Refused}
+use Rattle.snapshot.specs.{declared.Found.Found, declared.Found.the-variants.Place}
+use Rattle.snapshot.specs.{declared.Found.the-variants.Absent, declared.Found.the-variants.Refused as FindRefused}
 
 folded-known : (r q : Folded) → folded r ≡ folded q → r ≡ q
 folded-known (Keys n) (Keys m) e = cc

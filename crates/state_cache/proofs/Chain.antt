@@ -1,23 +1,14 @@
 -- A chain of calls on lent words is a chain of the model's calls: each leaves a well-formed state that stands for the
 -- log after the
 -- model's call. And with that demand 3's last sentence, for the calls on lent words from a fresh state.
-use Prim.Native.Nat.{ℕ, _≤_}
-use mathlib.Core.Path.{_≡_, refl, sym, ap, _∙_}
-use mathlib.Core.Bool.{Bool, true, false}
-use mathlib.Core.List.{List, [], _∷_}
-use lib.ListN.{take}
-use Rattle.entry.specs.Limits.{largestBatch}
-use Rattle.entry.specs.Change.{Change}
+use Rattle.words.proofs.Prelude.{_≡_, refl, sym, ap, _∙_, ℕ, _≤_, Bool, true, false, List, [], _∷_, take}
+use Rattle.entry.specs.{Limits.largestBatch, Change.Change}
 use Rattle.snapshot.specs.Folds.{fold}
-use Rattle.model.specs.Numbers.{endOf}
-use Rattle.model.specs.Log.{Log, numbersOf, foldedTo, freshLog}
-use Rattle.model.specs.Calls.{Call, Reply}
-use Rattle.model.specs.History.{next, told, fresh, AllTruthful}
-use Rattle.model.proofs.Keeps.{fresh-formed}
-use Rattle.model.proofs.Traces.{history-kept}
-use Rattle.state_cache.specs.State.{Raw, formed, logOf, rawOf}
-use Rattle.state_cache.specs.Run.{Outcome, run}
-use Rattle.state_cache.specs.Chain.{Asked, runs, eventsOf, events}
+use Rattle.model.specs.{Numbers.endOf, Log.Log, Log.numbersOf, Log.foldedTo, Log.freshLog, Calls.Call, Calls.Reply}
+use Rattle.model.specs.{History.next, History.told, History.fresh, History.AllTruthful}
+use Rattle.model.proofs.{Keeps.fresh-formed, Traces.history-kept}
+use Rattle.state_cache.specs.{State.Raw, State.formed, State.logOf, State.rawOf, Run.Outcome, Run.run}
+use Rattle.state_cache.specs.{Chain.Asked, Chain.runs, Chain.eventsOf, Chain.events}
 use Rattle.state_cache.proofs.Stands.{raw-formed, log-of-raw}
 use Rattle.state_cache.proofs.Runs.{not-whole, run-keeps, run-stands}
 

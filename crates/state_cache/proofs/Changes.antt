@@ -1,33 +1,21 @@
 -- The log's words after a splice of whole entries, and the state of a log reloaded.
-use Prim.Native.Nat.{ℕ, _+_, _-_, _*_, _≤_}
-use mathlib.Core.Path.{_≡_, refl, sym, ap, ap₂, _∙_}
-use mathlib.Core.Bool.{Bool, true, false, _&&_}
-use mathlib.Core.List.{List, [], _++_, append-nil}
-use native.Mathlib.Omega.{arith}
+use Rattle.words.proofs.Prelude.{arith, _≡_, refl, sym, ap, ap₂, _∙_, ℕ, _+_, _-_, _*_, _≤_, Bool, true, false, _&&_}
+use Rattle.words.proofs.Prelude.{eqb, leb, eq-eqb, eqb-true, le-leb, List, [], append-nil, _++_, length-append, length}
+use Rattle.words.proofs.Prelude.{take, replicate}
 use native.Mathlib.Nat.{sub-zero}
-use borrow.Author.Tests.{le-leb, eq-eqb, eqb-true}
-use lib.Dec.{leb, eqb}
-use lib.ListN.{length, take, replicate, length-append, length-replicate}
-use lib.Seq.{paste}
-use Rattle.words.specs.Words.{laid, spliced}
-use Rattle.words.specs.Coded.{wordsOf}
-use Rattle.words.proofs.Tests.{and-left, and-right}
-use Rattle.words.proofs.Alls.{all-join}
-use Rattle.words.proofs.Laws.{paste-all}
-use Rattle.words.proofs.CodedLaws.{spliced-laid, spliced-reload}
+use lib.{ListN.length-replicate, Seq.paste}
+use Rattle.words.specs.{Words.laid, Words.spliced, Coded.wordsOf}
+use Rattle.words.proofs.{Tests.and-left, Tests.and-right, Alls.all-join, Laws.paste-all, CodedLaws.spliced-laid}
+use Rattle.words.proofs.{CodedLaws.spliced-reload}
 use Rattle.entry.specs.Limits.{width, largestBatch, logWords, snapshotWords}
 use Rattle.entry.specs.Change.{Change, changeCode, changeFormed, entriesFormed, entriesOf, stored}
 use Rattle.entry.specs.Guards.{first, refused, replied}
-use Rattle.entry.proofs.ChangeLaws.{changeOk}
-use Rattle.entry.proofs.SliceLaws.{stored-length, stored-entries}
-use Rattle.model.specs.Numbers.{acceptedOf}
-use Rattle.model.specs.Log.{Log, wellFormed, freshLog}
-use Rattle.model.specs.Append.{reloaded}
-use Rattle.model.specs.Calls.{reload, malformed, further, effect, replyOf}
+use Rattle.entry.proofs.{ChangeLaws.changeOk, SliceLaws.stored-length, SliceLaws.stored-entries}
+use Rattle.model.specs.{Numbers.acceptedOf, Log.Log, Log.wellFormed, Log.freshLog, Append.reloaded, Calls.reload}
+use Rattle.model.specs.{Calls.malformed, Calls.further, Calls.effect, Calls.replyOf}
 use Rattle.model.proofs.Forms.{formed-of}
-use Rattle.state_cache.specs.State.{Raw, raw, numbersIn, formed, logOf, indexOf, rawOf}
-use Rattle.state_cache.specs.Run.{outcome, run, freshCall}
-use Rattle.state_cache.specs.Inner.{withEntries}
+use Rattle.state_cache.specs.{State.Raw, State.raw, State.numbersIn, State.formed, State.logOf, State.indexOf}
+use Rattle.state_cache.specs.{State.rawOf, Run.outcome, Run.run, Run.freshCall, Inner.withEntries}
 use Rattle.state_cache.proofs.Stands.{Stands, stands-of, numbers-are, log-formed}
 use Rattle.state_cache.proofs.Runs.{call-stands}
 

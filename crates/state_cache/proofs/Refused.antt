@@ -1,23 +1,13 @@
 -- Demand 1: "A refusal carries its number … and changes no state and no lent word", of every call on a log.
-use Prim.Native.Nat.{ℕ}
-use mathlib.Core.Path.{_≡_, refl, sym, ap, _∙_}
-use mathlib.Core.Bool.{Bool, true, false, _&&_}
-use mathlib.Core.List.{List}
-use native.Mathlib.Omega.{arith}
-use lib.Dec.{leb, eqb}
-use lib.ListN.{length}
-use Rattle.words.specs.If.{if_then_else_}
+use Rattle.words.proofs.Prelude.{arith, _≡_, refl, sym, ap, _∙_, ℕ, Bool, true, false, _&&_, eqb, leb, if_then_else_}
+use Rattle.words.proofs.Prelude.{List, length}
 use Rattle.entry.specs.Limits.{largestBatch, logWords, snapshotWords}
 use Rattle.entry.specs.Guards.{Verdict, passes, refuses, first, refused, replied}
-use Rattle.model.specs.Numbers.{Numbers}
-use Rattle.model.specs.Log.{freshLog}
-use Rattle.model.specs.Calls.{Call, effect, replyOf}
-use Rattle.model.specs.Orders.{carriesOf}
+use Rattle.model.specs.{Numbers.Numbers, Log.freshLog, Calls.Call, Calls.effect, Calls.replyOf, Orders.carriesOf}
 use Rattle.model.proofs.Orders.{carries}
 use Rattle.state_cache.specs.State.{Raw, raw, numbersIn, formed, logOf, indexOf, rawOf}
 use Rattle.state_cache.specs.Run.{Outcome, outcome, chosen, verdictOn, run, freshCall}
-use Rattle.state_cache.proofs.Stands.{stands-of, numbers-are}
-use Rattle.state_cache.proofs.Runs.{on-log}
+use Rattle.state_cache.proofs.{Stands.stands-of, Stands.numbers-are, Runs.on-log}
 
 -- a refusal is the verdict's, and leaves the state
 by-verdict : {A : Type 0} (v : Verdict) (y : A) (next r : Raw) (n k : ℕ) → chosen v y next r .answer ≡ refused n k

@@ -1,13 +1,9 @@
 -- How a call goes through `run`: the ways out in their order, each written once for all calls.
-use Prim.Native.Nat.{ℕ}
-use mathlib.Core.Path.{_≡_, refl, sym, ap, _∙_}
-use mathlib.Core.Bool.{Bool, true, false, not}
-use mathlib.Core.List.{_∷_}
+use Rattle.words.proofs.Prelude.{_≡_, refl, sym, ap, _∙_, ℕ, Bool, true, false, not, _∷_}
 use Rattle.entry.specs.Guards.{guard, Verdict, passes, refuses, first, refused, replied}
 use Rattle.entry.proofs.GuardLaws.{first-refuses, first-goes-on}
-use Rattle.model.specs.Numbers.{Numbers}
-use Rattle.model.specs.Log.{Log, wellFormed}
-use Rattle.model.specs.Calls.{Call, Reply, malformed, further, guards, effect, replyOf, after, stateAfter}
+use Rattle.model.specs.{Numbers.Numbers, Log.Log, Log.wellFormed, Calls.Call, Calls.Reply, Calls.malformed}
+use Rattle.model.specs.{Calls.further, Calls.guards, Calls.effect, Calls.replyOf, Calls.after, Calls.stateAfter}
 use Rattle.model.proofs.Keeps.{call-keeps}
 use Rattle.state_cache.specs.State.{Raw, numbersIn, formed, logOf, rawOf}
 use Rattle.state_cache.specs.Run.{Outcome, outcome, chosen, verdictOn, run, ofNumbers}

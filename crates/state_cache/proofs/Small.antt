@@ -1,17 +1,11 @@
 -- The bounds within which the sums of the numbers fit: well-formed numbers keep them.
-use Prim.Native.Nat.{ℕ, _+_, _-_, _≤_, _<_}
-use mathlib.Core.Path.{_≡_, refl, sym, _∙_}
-use mathlib.Core.Bool.{Bool, true, false, true≢false}
-use native.Mathlib.Omega.{arith}
-use borrow.Author.Tests.{leb-true, le-leb, lt-ltb, le-ltb}
-use lib.Dec.{ltb, leb}
+use Rattle.words.proofs.Prelude.{arith, _≡_, refl, sym, _∙_, ℕ, _+_, _-_, _≤_, _<_, Bool, true, false, true≢false, ltb}
+use Rattle.words.proofs.Prelude.{leb, lt-ltb, le-ltb, le-leb, leb-true}
 use Rattle.words.proofs.Tests.{Reach, reached, short, reach, and-left, and-right, both-true}
 use Rattle.entry.specs.Limits.{entryRoom, lastIndex}
-use Rattle.model.specs.Numbers.{Numbers, endOf, acceptedOf, numbersFormed}
+use Rattle.model.specs.{Numbers.Numbers, Numbers.endOf, Numbers.acceptedOf, Numbers.numbersFormed, Inner.Sound}
 use Rattle.model.proofs.Forms.{sound-of}
-use Rattle.model.specs.Inner.{Sound}
-use Rattle.state_cache.specs.State.{oneIf}
-use Rattle.state_cache.specs.Inner.{sizesFormed, Small}
+use Rattle.state_cache.specs.{State.oneIf, Inner.sizesFormed, Inner.Small}
 
 pub one-le : (b : Bool) → oneIf b ≤ 1
 one-le true = omega arith

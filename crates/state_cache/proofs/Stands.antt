@@ -1,17 +1,8 @@
 -- When a lent state stands for a log: number by number and word by word. It is then the one that `rawOf` gives.
-use Prim.Native.Nat.{ℕ, _+_, _*_, _≤_}
-use mathlib.Core.Path.{_≡_, refl, sym, ap, _∙_}
-use mathlib.Core.Bool.{Bool, true, false, _&&_, _||_, not, and-true}
-use mathlib.Core.List.{List, _++_}
-use mathlib.Core.Option.{Option, none, some}
-use native.Mathlib.Omega.{arith}
-use borrow.Author.Tests.{eqb-true, leb-true, le-leb, not-true}
-use lib.Dec.{leb, eqb}
-use lib.ListN.{length, drop, replicate, length-append}
-use Rattle.words.specs.If.{if_then_else_}
-use Rattle.words.specs.All.{allOf}
-use Rattle.words.specs.Words.{allZero}
-use Rattle.words.specs.Coded.{entriesAt}
+use Rattle.words.proofs.Prelude.{arith, _≡_, refl, sym, ap, _∙_, ℕ, _+_, _*_, _≤_, Bool, true, false, and-true, _&&_}
+use Rattle.words.proofs.Prelude.{_||_, not, eqb, leb, not-true, eqb-true, le-leb, leb-true, if_then_else_, Option, none}
+use Rattle.words.proofs.Prelude.{some, List, _++_, length-append, length, drop, replicate}
+use Rattle.words.specs.{All.allOf, Words.allZero, Coded.entriesAt}
 use Rattle.words.proofs.Tests.{and-left, and-right, both-true}
 use Rattle.words.proofs.Alls.{all-join, all-left, all-right, zeros-are}
 use Rattle.words.proofs.CodedLaws.{entries-length, entries-add, entries-first, entries-second}
@@ -22,8 +13,7 @@ use Rattle.entry.specs.declared.Ballot.{Ballot}
 use Rattle.entry.specs.declared.StopSign.{StopSign}
 use Rattle.entry.proofs.ChangeLaws.{changeOk}
 use Rattle.entry.proofs.SliceLaws.{laid-of, laid-stored, stored-laid, stored-entries}
-use Rattle.snapshot.specs.Folds.{rising}
-use Rattle.snapshot.specs.Calls.{snapshotFormed}
+use Rattle.snapshot.specs.{Folds.rising, Calls.snapshotFormed}
 use Rattle.snapshot.proofs.Calling.{snapshot-holds, snapshot-stored}
 use Rattle.model.specs.Numbers.{Numbers, numbersFormed}
 use Rattle.model.specs.Log.{Run, Tail, Marks, Log, given, ifGiven, numbersOf, orEmpty, keysFormed, wellFormed}

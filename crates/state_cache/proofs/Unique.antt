@@ -1,9 +1,6 @@
 -- Two answers that meet a claim, and the states beside them, are one.
-use Prim.Native.Nat.{ℕ}
-use mathlib.Core.Path.{_≡_, sym, ap, _∙_}
-use native.Mathlib.Omega.{arith}
-use Rattle.entry.specs.Guards.{Answer, refused, replied}
-use Rattle.entry.specs.declared.LogIndex.{LogIndex}
+use Rattle.words.proofs.Prelude.{arith, _≡_, sym, ap, _∙_, ℕ}
+use Rattle.entry.specs.{Guards.Answer, Guards.refused, Guards.replied, declared.LogIndex.LogIndex}
 use Rattle.entry.proofs.RefusalLaws.{refusal-known}
 use Rattle.state_cache.specs.State.{Raw}
 use Rattle.state_cache.specs.Run.{Outcome, outcome, settled, indexSaid, flag}

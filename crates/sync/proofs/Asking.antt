@@ -1,42 +1,25 @@
 -- A sync's request: refusal 11, or what is known of it; and a sync without log part.
-use Prim.Native.Nat.{ℕ, max}
-use mathlib.Core.Path.{_≡_, refl, sym, ap, _∙_}
-use mathlib.Core.Bool.{Bool, true, false, _&&_, _||_, not, true≢false}
-use mathlib.Core.List.{List}
-use mathlib.Core.Option.{none, some}
-use native.Mathlib.Omega.{arith}
-use borrow.Author.Tests.{le-leb}
-use lib.Dec.{leb, eqb}
-use lib.ListN.{length}
-use Rattle.words.proofs.Tests.{and-left, and-right, both-true}
-use Rattle.words.proofs.CodedLaws.{entries-length}
-use Rattle.entry.specs.Limits.{keyRoom, snapshotWords}
-use Rattle.entry.specs.Change.{changeCode, entriesFormed, entriesOf, entriesIn, wholeIn}
-use Rattle.entry.specs.Sign.{signFormed}
-use Rattle.entry.specs.Guards.{first, Answer, refused}
-use Rattle.entry.specs.declared.Ballot.{Ballot}
-use Rattle.entry.specs.declared.StopSign.{StopSign}
-use Rattle.snapshot.specs.Folds.{rising}
-use Rattle.snapshot.specs.Inner.{Holds}
+use Rattle.words.proofs.Prelude.{arith, _≡_, refl, sym, ap, _∙_, ℕ, max, Bool, true, false, true≢false, _&&_, _||_, not}
+use Rattle.words.proofs.Prelude.{eqb, leb, le-leb, none, some, List, length}
+use Rattle.words.proofs.{Tests.and-left, Tests.and-right, Tests.both-true, CodedLaws.entries-length}
+use Rattle.entry.specs.{Limits.keyRoom, Limits.snapshotWords, Change.changeCode, Change.entriesFormed, Change.entriesOf}
+use Rattle.entry.specs.{Change.entriesIn, Change.wholeIn, Sign.signFormed, Guards.first, Guards.Answer, Guards.refused}
+use Rattle.entry.specs.{declared.Ballot.Ballot, declared.StopSign.StopSign}
+use Rattle.snapshot.specs.{Folds.rising, Inner.Holds}
 use Rattle.snapshot.proofs.Calling.{snapshot-holds}
-use Rattle.model.specs.Numbers.{endOf, acceptedOf}
-use Rattle.model.specs.Log.{Log, ifGiven, keysFormed}
-use Rattle.model.specs.Diff.{snapshotIn}
-use Rattle.model.specs.Sync.{partFormed, roundGuards}
-use Rattle.model.specs.Calls.{Call, sync, malformed, further, syncGuards, synced, effect, replyOf}
-use Rattle.state_cache.specs.State.{Raw, raw, numbersIn, formed, logOf}
-use Rattle.state_cache.specs.Run.{outcome, run}
-use Rattle.state_cache.specs.declared.IndexRecord.{IndexRecord}
+use Rattle.model.specs.{Numbers.endOf, Numbers.acceptedOf, Log.Log, Log.ifGiven, Log.keysFormed, Diff.snapshotIn}
+use Rattle.model.specs.{Sync.partFormed, Sync.roundGuards, Calls.Call, Calls.sync, Calls.malformed, Calls.further}
+use Rattle.model.specs.{Calls.syncGuards, Calls.synced, Calls.effect, Calls.replyOf}
+use Rattle.state_cache.specs.{State.Raw, State.raw, State.numbersIn, State.formed, State.logOf, Run.outcome, Run.run}
+use Rattle.state_cache.specs.{declared.IndexRecord.IndexRecord}
 use Rattle.state_cache.proofs.Stands.{Stands, stands-of, numbers-are, ready-of}
 use Rattle.state_cache.proofs.Runs.{not-whole, bad-call}
-use Rattle.internal_storage.specs.Replies.{asked}
-use Rattle.internal_storage.specs.Inner.{indexed, byNumbers}
+use Rattle.internal_storage.specs.{Replies.asked, Inner.indexed, Inner.byNumbers}
 use Rattle.internal_storage.proofs.Effects.{numbers-run}
-use Rattle.sync.specs.Requests.{givenBy, plainBy, partBy, partOf, lentWhole, requestFormed}
-use Rattle.sync.specs.Inner.{marked, Syncs}
-use Rattle.sync.specs.declared.LogSync.{LogSync}
-use Rattle.sync.specs.declared.SnapshotType.{SnapshotType}
-use Rattle.sync.specs.declared.SnapshotType.the-variants.{Plain, Complete, Delta}
+use Rattle.sync.specs.{Requests.givenBy, Requests.plainBy, Requests.partBy, Requests.partOf, Requests.lentWhole}
+use Rattle.sync.specs.{Requests.requestFormed, Inner.marked, Inner.Syncs, declared.LogSync.LogSync}
+use Rattle.sync.specs.{declared.SnapshotType.SnapshotType, declared.SnapshotType.the-variants.Plain}
+use Rattle.sync.specs.{declared.SnapshotType.the-variants.Complete, declared.SnapshotType.the-variants.Delta}
 
 -- a stop-sign that is not lent is not judged
 sign-is : (held : Bool) (g : StopSign) → ifGiven signFormed (asked held g) ≡ (not held || signFormed g)

@@ -1,21 +1,13 @@
 -- The numbers of a sync as the code compares them: no sum that might not fit.
-use Prim.Native.Nat.{ℕ, _+_, _-_, _≤_, _<_, max}
-use mathlib.Core.Path.{_≡_, sym, ap, ap₂, _∙_}
-use mathlib.Core.Bool.{Bool, true, false, _&&_, _||_, not}
-use native.Mathlib.Omega.{arith}
-use borrow.Author.Tests.{lt-ltb, le-ltb, ltb-false}
-use lib.Dec.{ltb}
-use Rattle.words.specs.If.{if_then_else_}
+use Rattle.words.proofs.Prelude.{arith, _≡_, sym, ap, ap₂, _∙_, ℕ, _+_, _-_, _≤_, _<_, max, Bool, true, false, _&&_}
+use Rattle.words.proofs.Prelude.{_||_, not, ltb, lt-ltb, le-ltb, ltb-false, if_then_else_}
 use Rattle.words.proofs.Tests.{or-right}
-use Rattle.entry.specs.Limits.{entryRoom, lastIndex}
-use Rattle.entry.specs.Guards.{passes, refuses, first, refused, replied}
-use Rattle.entry.specs.declared.Ballot.{Ballot}
+use Rattle.entry.specs.{Limits.entryRoom, Limits.lastIndex, Guards.passes, Guards.refuses, Guards.first, Guards.refused}
+use Rattle.entry.specs.{Guards.replied, declared.Ballot.Ballot}
 use Rattle.entry.proofs.GuardLaws.{clear-all, passing, stopping}
-use Rattle.model.specs.Numbers.{Numbers, endOf, acceptedOf}
-use Rattle.model.specs.Sync.{decidedThen, roundGuards}
-use Rattle.model.specs.Inner.{Sound}
-use Rattle.state_cache.specs.State.{numbersIn, oneIf}
-use Rattle.state_cache.specs.declared.IndexRecord.{IndexRecord}
+use Rattle.model.specs.{Numbers.Numbers, Numbers.endOf, Numbers.acceptedOf, Sync.decidedThen, Sync.roundGuards}
+use Rattle.model.specs.{Inner.Sound}
+use Rattle.state_cache.specs.{State.numbersIn, State.oneIf, declared.IndexRecord.IndexRecord}
 use Rattle.internal_storage.specs.Inner.{Indexed, indexed, byNumbers}
 use Rattle.internal_storage.proofs.Numbered.{told-by}
 use Rattle.sync.specs.Inner.{marked}

@@ -1,21 +1,13 @@
 -- The snapshot held after a sync, and the words that stand for it.
-use Prim.Native.Nat.{ℕ, _-_}
-use mathlib.Core.Path.{_≡_, sym, ap₂, _∙_}
-use mathlib.Core.List.{List}
-use native.Mathlib.Omega.{arith}
-use lib.ListN.{length}
+use Rattle.words.proofs.Prelude.{arith, _≡_, sym, ap₂, _∙_, ℕ, _-_, List, length}
 use Rattle.words.proofs.CodedLaws.{entries-length}
-use Rattle.entry.specs.Limits.{snapshotWords}
-use Rattle.entry.specs.Change.{changeCode, entriesOf}
-use Rattle.entry.specs.Guards.{replied}
+use Rattle.entry.specs.{Limits.snapshotWords, Change.changeCode, Change.entriesOf, Guards.replied}
 use Rattle.entry.proofs.SliceLaws.{laid-stored}
-use Rattle.snapshot.specs.Folds.{foldOnto}
-use Rattle.snapshot.specs.Calls.{Outcome, outcome as snapshotOutcome}
-use Rattle.snapshot.specs.Inner.{Holds, Shows, foldWritten}
+use Rattle.snapshot.specs.{Folds.foldOnto, Calls.Outcome, Calls.outcome as snapshotOutcome, Inner.Holds, Inner.Shows}
+use Rattle.snapshot.specs.{Inner.foldWritten}
 use Rattle.snapshot.proofs.Calling.{over-written}
 use Rattle.model.specs.Numbers.{logDecided}
-use Rattle.state_cache.specs.State.{Raw, numbersIn}
-use Rattle.state_cache.specs.Inner.{Ready}
+use Rattle.state_cache.specs.{State.Raw, State.numbersIn, Inner.Ready}
 use Rattle.sync.specs.Inner.{snapshotThen}
 use Rattle.sync.specs.declared.SnapshotType.{SnapshotType}
 use Rattle.sync.specs.declared.SnapshotType.the-variants.{Plain, Complete, Delta}

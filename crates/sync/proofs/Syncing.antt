@@ -1,42 +1,29 @@
 -- A sync with a log part on a lent state: its refusals, and the state after it.
-use Prim.Native.Nat.{ℕ, _+_, _-_, _*_, _/_, _%_, _≤_, max}
-use mathlib.Core.Path.{_≡_, refl, sym, ap, ap₂, _∙_}
-use mathlib.Core.Bool.{Bool, true, false, _||_, not}
-use mathlib.Core.List.{List, _++_, append-assoc}
-use mathlib.Core.Option.{some}
-use native.Mathlib.Omega.{arith}
-use borrow.Author.Tests.{ltb-false, le-ltb, eqb-true}
-use lib.Dec.{ltb}
-use lib.ListN.{length, take, length-append}
-use lib.Seq.{take-all, length-take-le}
-use Rattle.words.specs.If.{if_then_else_}
+use Rattle.words.proofs.Prelude.{arith, _≡_, refl, sym, ap, ap₂, _∙_, ℕ, _+_, _-_, _*_, _/_, _≤_, max, Bool, true}
+use Rattle.words.proofs.Prelude.{false, _||_, not, ltb, eqb-true, le-ltb, ltb-false, if_then_else_, some, List}
+use Rattle.words.proofs.Prelude.{append-assoc, _++_, length-append, length, take, length-take-le, take-all}
+use Prim.Native.Nat.{_%_}
 use Rattle.words.specs.Coded.{wordsOf}
 use Rattle.words.proofs.CodedLaws.{spliced-sync, words-entries, entries-length}
-use Rattle.entry.specs.Limits.{width, entryRoom, keyRoom, lastIndex, logWords, snapshotWords}
-use Rattle.entry.specs.Change.{Change, changeCode, entriesOf, entriesIn, stored}
-use Rattle.entry.specs.Guards.{Guard, passes, refuses, first, refused, replied, refusedBy}
-use Rattle.entry.specs.Refusals.{numberOf, carriedOf}
-use Rattle.entry.specs.declared.Ballot.{Ballot}
-use Rattle.entry.specs.declared.Refusal.{Refusal}
+use Rattle.entry.specs.{Limits.width, Limits.entryRoom, Limits.keyRoom, Limits.lastIndex, Limits.logWords}
+use Rattle.entry.specs.{Limits.snapshotWords, Change.Change, Change.changeCode, Change.entriesOf, Change.entriesIn}
+use Rattle.entry.specs.{Change.stored, Guards.Guard, Guards.passes, Guards.refuses, Guards.first, Guards.refused}
+use Rattle.entry.specs.{Guards.replied, Guards.refusedBy, Refusals.numberOf, Refusals.carriedOf, declared.Ballot.Ballot}
+use Rattle.entry.specs.{declared.Refusal.Refusal}
 use Rattle.entry.proofs.ChangeLaws.{changeOk}
 use Rattle.entry.proofs.GuardLaws.{first-left, first-right, Clear, clear, passed}
-use Rattle.snapshot.specs.Folds.{foldOnto, merge}
-use Rattle.snapshot.specs.Calls.{outcome as snapshotOutcome, folded, foldGuards}
-use Rattle.snapshot.specs.Inner.{Holds, foldWritten}
-use Rattle.snapshot.specs.declared.Folded.{Folded}
-use Rattle.snapshot.specs.declared.Folded.the-variants.{Keys, Refused}
+use Rattle.snapshot.specs.{Folds.foldOnto, Folds.merge, Calls.outcome as snapshotOutcome, Calls.folded}
+use Rattle.snapshot.specs.{Calls.foldGuards, Inner.Holds, Inner.foldWritten, declared.Folded.Folded}
+use Rattle.snapshot.specs.{declared.Folded.the-variants.Keys, declared.Folded.the-variants.Refused}
 use Rattle.snapshot.proofs.Calling.{wrote-nothing, wrote-keys}
 use Rattle.model.specs.Numbers.{Numbers, acceptedOf, logDecided}
 use Rattle.model.specs.Log.{Log, given, orEmpty, foldedTo}
 use Rattle.model.specs.Sync.{Part, PartNumbers, partNumbers, plain?, partNumberGuards, partGuards, foldThen, deltaOnto, runThen, partSynced}
 use Rattle.model.specs.Calls.{Call, sync, malformed, further, syncGuards, synced, effect, replyOf}
-use Rattle.state_cache.specs.State.{Raw, raw, numbersIn, formed, logOf}
-use Rattle.state_cache.specs.Inner.{Small}
-use Rattle.state_cache.specs.Run.{outcome, run}
-use Rattle.state_cache.specs.declared.IndexRecord.{IndexRecord}
-use Rattle.state_cache.proofs.Stands.{Stands, stands-of, numbers-are, log-formed, given-by, sign-by}
-use Rattle.state_cache.proofs.Runs.{call-refused, call-stands}
-use Rattle.state_cache.proofs.Changes.{log-spliced}
+use Rattle.state_cache.specs.{State.Raw, State.raw, State.numbersIn, State.formed, State.logOf, Inner.Small}
+use Rattle.state_cache.specs.{Run.outcome, Run.run, declared.IndexRecord.IndexRecord}
+use Rattle.state_cache.proofs.{Stands.Stands, Stands.stands-of, Stands.numbers-are, Stands.log-formed, Stands.given-by}
+use Rattle.state_cache.proofs.{Stands.sign-by, Runs.call-refused, Runs.call-stands, Changes.log-spliced}
 use Rattle.internal_storage.specs.Replies.{asked}
 use Rattle.internal_storage.proofs.Effects.{numbers}
 use Rattle.compaction.proofs.Folding.{decided-high, snapshot-is, fold-is}

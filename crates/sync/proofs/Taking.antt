@@ -1,21 +1,12 @@
 -- The suffix put into the log: the record and the words after it, as the code finds them.
-use Prim.Native.Nat.{ℕ, _+_, _-_, _*_, _≤_}
-use mathlib.Core.Path.{_≡_, ap, _∙_}
-use mathlib.Core.Bool.{Bool, _||_, not}
-use mathlib.Core.List.{List}
-use native.Mathlib.Omega.{arith}
-use lib.ListN.{length, take}
-use Rattle.words.specs.If.{if_then_else_}
+use Rattle.words.proofs.Prelude.{arith, _≡_, ap, _∙_, ℕ, _+_, _-_, _*_, _≤_, Bool, _||_, not, if_then_else_, List}
+use Rattle.words.proofs.Prelude.{length, take}
 use Rattle.words.specs.Words.{laid, spliced}
-use Rattle.entry.specs.Limits.{width, logWords}
-use Rattle.entry.specs.declared.LogIndex.{LogIndex}
-use Rattle.entry.specs.declared.StopSign.{StopSign}
-use Rattle.entry.specs.Sign.{signIf}
-use Rattle.state_cache.specs.declared.IndexRecord.{IndexRecord}
-use Rattle.state_cache.specs.Inner.{withRun, withStop}
-use Rattle.sync.specs.Requests.{plainBy}
-use Rattle.sync.specs.Inner.{keptBy, syncedIndex, Fits, Taken}
-use Rattle.sync.specs.declared.LogSync.{LogSync}
+use Rattle.entry.specs.{Limits.width, Limits.logWords, declared.LogIndex.LogIndex, declared.StopSign.StopSign}
+use Rattle.entry.specs.{Sign.signIf}
+use Rattle.state_cache.specs.{declared.IndexRecord.IndexRecord, Inner.withRun, Inner.withStop}
+use Rattle.sync.specs.{Requests.plainBy, Inner.keptBy, Inner.syncedIndex, Inner.Fits, Inner.Taken}
+use Rattle.sync.specs.{declared.LogSync.LogSync}
 
 module _ (x : LogSync) (n keys : ℕ) (y : IndexRecord) (log suffix : List ℕ) (w : Fits x n y log suffix) (p : Bool)
     (plain : p ≡ plainBy (x .«decided_snapshot»)) (kept : ℕ)

@@ -1,19 +1,13 @@
 -- A number has one count of digits, and the lines of a run's entries go on by one entry.
-use Prim.Native.Nat.{ℕ, zero, suc, _+_, _-_, _/_, _^_, _≤_, _<_}
-use mathlib.Core.Path.{_≡_, refl, ap, _∙_}
-use mathlib.Core.Bool.{Bool, true, false}
-use mathlib.Core.List.{List, [], _++_, append-assoc}
-use native.Mathlib.Omega.{arith}
+use Rattle.words.proofs.Prelude.{arith, _≡_, refl, ap, _∙_, ℕ, zero, suc, _+_, _-_, _/_, _≤_, _<_, add-one, Bool, true}
+use Rattle.words.proofs.Prelude.{false, ltb, lt-ltb, le-ltb, ltb-true, ltb-false, if_then_else_, List, [], append-assoc}
+use Rattle.words.proofs.Prelude.{_++_, drop-of-length-le, drop}
+use Prim.Native.Nat.{_^_}
 use native.Mathlib.Nat.{pow-suc, one-le-pow}
-use native.Mathlib.Numerals.{add-one}
-use borrow.Author.Tests.{ltb-true, ltb-false, lt-ltb, le-ltb}
-use lib.Dec.{ltb, lit<}
-use lib.ListN.{drop, drop-of-length-le}
+use lib.Dec.{lit<}
 use Rattle.io.specs.Digits.{digits, Fewest}
-use Rattle.words.specs.If.{if_then_else_}
 use Rattle.words.proofs.CodedLaws.{entries-length}
-use Rattle.entry.specs.Change.{changeCode, entriesOf}
-use Rattle.entry.specs.Inner.{changeAt}
+use Rattle.entry.specs.{Change.changeCode, Change.entriesOf, Inner.changeAt}
 use Rattle.entry.proofs.ChangeLaws.{entry-cons}
 use Rattle.text.specs.Rooms.{mostDigits}
 use Rattle.text.specs.Answers.{digitsUpTo, decimalOf, entryLine, entryLines}

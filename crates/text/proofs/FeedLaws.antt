@@ -1,15 +1,6 @@
 -- A part of a line that is kept, or does not fit.
-use Prim.Native.Nat.{ℕ, _+_, _-_, _≤_, _<_}
-use mathlib.Core.Path.{_≡_, refl, sym, ap, _∙_}
-use mathlib.Core.Bool.{Bool, true, false}
-use mathlib.Core.List.{List, _++_}
-use mathlib.Core.Option.{none, some}
-use native.Mathlib.Omega.{arith}
-use lib.Dec.{leb}
-use lib.ListN.{length, take}
-use lib.Seq.{length-take-le}
-use borrow.Author.Tests.{le-leb, lt-leb, leb-true}
-use Rattle.words.specs.If.{if_then_else_}
+use Rattle.words.proofs.Prelude.{arith, _≡_, refl, sym, ap, _∙_, ℕ, _+_, _-_, _≤_, _<_, Bool, true, false, leb, le-leb}
+use Rattle.words.proofs.Prelude.{lt-leb, leb-true, if_then_else_, none, some, List, _++_, length, take, length-take-le}
 use Rattle.text.specs.Feeding.{come, joined, nextAt}
 
 pub joined-cut : (over : Bool) (len : ℕ) (line part : List ℕ) → len ≤ length line → length line - len < length part

@@ -1,18 +1,11 @@
 -- The lines of an input that comes in parts.
-use Prim.Native.Nat.{ℕ, suc, _+_, _-_, _<_, _≤_}
-use mathlib.Core.Path.{_≡_, refl, sym, ap, _∙_}
-use mathlib.Core.Bool.{Bool, true, false}
-use mathlib.Core.List.{List, [], _∷_, _++_, append-assoc, append-nil}
-use mathlib.Core.Option.{none, some}
-use native.Mathlib.Omega.{arith}
-use borrow.Author.Tests.{lt-leb, leb-false, eqb-true, ltb-true, ltb-false}
-use lib.Dec.{ltb, leb, eqb}
-use lib.ListN.{length, take, drop, length-append, length-drop}
-use lib.Seq.{take-all, take-add}
-use Rattle.words.specs.If.{if_then_else_}
-use Rattle.text.specs.Bytes.{gapOf}
-use Rattle.text.specs.Lines.{Lines, lineEnded, restWith, endedIf, linesFrom}
-use Rattle.text.specs.Feeding.{fitting, joined}
+use Rattle.words.proofs.Prelude.{arith, _≡_, refl, sym, ap, _∙_, ℕ, suc, _+_, _-_, _≤_, _<_, Bool, true, false, eqb}
+use Rattle.words.proofs.Prelude.{ltb, leb, eqb-true, ltb-true, ltb-false, lt-leb, leb-false, if_then_else_, none, some}
+use Rattle.words.proofs.Prelude.{List, [], _∷_, append-nil, append-assoc, _++_, length-drop, length-append, length}
+use Rattle.words.proofs.Prelude.{take, drop, take-all}
+use lib.Seq.{take-add}
+use Rattle.text.specs.{Bytes.gapOf, Lines.Lines, Lines.lineEnded, Lines.restWith, Lines.endedIf, Lines.linesFrom}
+use Rattle.text.specs.{Feeding.fitting, Feeding.joined}
 
 pub lines-append : (ls : Lines) (xs ys : List ℕ) → linesFrom ls (xs ++ ys) ≡ linesFrom (linesFrom ls xs) ys
 unfolding linesFrom

@@ -1,26 +1,19 @@
 -- A line of more than `inputLine` bytes is a bad line, whatever it says: a buffer of that size cuts nothing off that
 -- means something.
-use Prim.Native.Nat.{ℕ, _+_, _-_, _*_, _^_, _≤_, _<_}
-use Prim.Native.String.{String}
-use mathlib.Core.Path.{_≡_, refl, sym, ap, _∙_}
-use mathlib.Core.Bool.{Bool, true, false, _&&_, not}
-use mathlib.Core.List.{List, [], _∷_}
-use native.Mathlib.Omega.{arith}
+use Rattle.words.proofs.Prelude.{arith, _≡_, refl, sym, ap, _∙_, ℕ, _+_, _-_, _*_, _≤_, _<_, Bool, true, false, _&&_}
+use Rattle.words.proofs.Prelude.{not, eqb, ltb, leb, eqb-false, le-ltb, leb-true, if_then_else_, List, [], _∷_, length}
+use Prim.{Native.Nat._^_, Native.String.String}
 use native.Mathlib.Nat.{mul-assoc, one-mul, pow-succ', pow-le-pow-right}
-use borrow.Author.Tests.{leb-true, le-ltb, eqb-false}
-use lib.Dec.{ltb, leb, eqb, lit<}
-use lib.ListN.{length}
-use Rattle.words.specs.If.{if_then_else_}
+use lib.Dec.{lit<}
 use Rattle.words.specs.All.{allOf}
 use Rattle.words.proofs.Tests.{Reach, reached, short, reach, and-left, and-right}
 use Rattle.words.proofs.Alls.{all-head}
-use Rattle.text.specs.Bytes.{bytes}
-use Rattle.text.specs.Rooms.{mostDigits, inputLine}
-use Rattle.text.specs.Number.{isDigit, value, plain, numeralOf}
-use Rattle.text.specs.Parse.{_is_, words, onto, bareOf, snapOf, numberedOf, withNumber, withOne, pairedOf, withNumbers, withTwo, commandOf, parseOf}
-use Rattle.text.specs.declared.Parsed.{Parsed}
-use Rattle.text.specs.declared.Parsed.the-variants.{Value, NoNumber}
-use Rattle.text.specs.declared.Command.the-variants.{BadLine}
+use Rattle.text.specs.{Bytes.bytes, Rooms.mostDigits, Rooms.inputLine, Number.isDigit, Number.value, Number.plain}
+use Rattle.text.specs.{Number.numeralOf, Parse._is_, Parse.words, Parse.onto, Parse.bareOf, Parse.snapOf}
+use Rattle.text.specs.{Parse.numberedOf, Parse.withNumber, Parse.withOne, Parse.pairedOf, Parse.withNumbers}
+use Rattle.text.specs.{Parse.withTwo, Parse.commandOf, Parse.parseOf, declared.Parsed.Parsed}
+use Rattle.text.specs.{declared.Parsed.the-variants.Value, declared.Parsed.the-variants.NoNumber}
+use Rattle.text.specs.{declared.Command.the-variants.BadLine}
 use Rattle.text.proofs.ParseLaws.{same-lengths}
 
 -- the words of a line, each with a space after it, are as long as the line with one

@@ -1,23 +1,14 @@
 -- How the definitions of a line's words and numbers go on by one byte at an index, as the loops take them.
-use Prim.Native.Nat.{ℕ, suc, _+_, _-_, _*_, _^_, _≤_, _<_}
-use mathlib.Core.Path.{_≡_, refl, ap}
-use mathlib.Core.Bool.{Bool, true, false, _&&_, and-true, and-false}
-use mathlib.Core.List.{List, [], _∷_}
-use native.Mathlib.Omega.{arith}
-use native.Mathlib.Numerals.{add-one}
+use Rattle.words.proofs.Prelude.{arith, _≡_, refl, ap, ℕ, suc, _+_, _-_, _*_, _≤_, _<_, add-one, Bool, true, false}
+use Rattle.words.proofs.Prelude.{and-true, _&&_, eqb, ltb, eq-eqb, ne-eqb, lt-ltb, le-ltb, le-leb, lt-leb}
+use Rattle.words.proofs.Prelude.{if_then_else_, List, [], _∷_, drop-of-length-le, length, take, drop, getD, drop-cons}
+use Prim.Native.Nat.{_^_}
+use mathlib.Core.Bool.{and-false}
 use borrow.Rule.Slice.PartAt.{part-to-end}
-use borrow.Author.Tests.{eq-eqb, ne-eqb, lt-ltb, le-ltb, le-leb, lt-leb}
-use lib.Dec.{ltb, eqb}
-use lib.ListN.{length, getD, take, drop, drop-of-length-le}
-use lib.Seq.{drop-cons}
-use Rattle.words.specs.If.{if_then_else_}
 use Rattle.words.specs.All.{allOf}
-use Rattle.text.specs.Number.{isDigit, value, numeralOf}
-use Rattle.text.specs.Parse.{sameOf, words, onto, commandOf}
-use Rattle.text.specs.Bytes.{gapOf}
-use Rattle.text.specs.declared.Parsed.{Parsed}
-use Rattle.text.specs.declared.Parsed.the-variants.{Value, NoNumber}
-use Rattle.text.specs.declared.Command.the-variants.{BadLine}
+use Rattle.text.specs.{Number.isDigit, Number.value, Number.numeralOf, Parse.sameOf, Parse.words, Parse.onto}
+use Rattle.text.specs.{Parse.commandOf, Bytes.gapOf, declared.Parsed.Parsed, declared.Parsed.the-variants.Value}
+use Rattle.text.specs.{declared.Parsed.the-variants.NoNumber, declared.Command.the-variants.BadLine}
 
 -- the first b
 module _ (b : ℕ) (s : List ℕ) (i : ℕ) where

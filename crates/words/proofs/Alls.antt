@@ -1,17 +1,11 @@
 -- Tests of every element: of parts of a list, and as loops take them.
-use Prim.Native.Nat.{ℕ, zero, suc, _+_, _<_, _≤_}
-use mathlib.Core.Path.{_≡_, refl, sym, ap, _∙_}
-use mathlib.Core.Bool.{Bool, true, false, _&&_, and-true, and-assoc}
-use mathlib.Core.List.{List, [], _∷_, _++_}
-use native.Mathlib.Omega.{arith}
-use native.Mathlib.Numerals.{add-one}
-use borrow.Author.Tests.{eq-eqb, ne-eqb, eqb-true, eqb-false}
+use Rattle.words.proofs.Prelude.{arith, _≡_, refl, sym, ap, _∙_, ℕ, zero, suc, _+_, _≤_, _<_, add-one, Bool}
+use Rattle.words.proofs.Prelude.{true, false, and-true, _&&_, eqb, eq-eqb, ne-eqb, eqb-true, eqb-false, List, []}
+use Rattle.words.proofs.Prelude.{_∷_, _++_, drop-of-length-le, take-append-drop, length, take, drop, replicate}
+use Rattle.words.proofs.Prelude.{getD, drop-cons}
+use mathlib.Core.Bool.{and-assoc}
 use lib.Bits.{bitOr, or-add-and, and-le-l, and-le-r}
-use lib.Dec.{eqb}
-use lib.ListN.{length, take, drop, getD, replicate, take-append-drop, drop-of-length-le}
-use lib.Seq.{drop-cons}
-use Rattle.words.specs.All.{allOf}
-use Rattle.words.specs.Words.{allZero}
+use Rattle.words.specs.{All.allOf, Words.allZero}
 use Rattle.words.proofs.Tests.{and-left, and-right, both-true}
 
 module _ {A : Type 0} (t : A → Bool) where

@@ -1,15 +1,11 @@
 -- Entries and their words, at any width and any capacity.
-use mathlib.Core.Path.{_≡_, refl, sym, ap, _∙_}
-use mathlib.Core.List.{List, [], _∷_, _++_, append-assoc, append-nil}
-use Prim.Native.Nat.{ℕ, zero, suc, _+_, _-_, _*_, _≤_, _<_}
+use Rattle.words.proofs.Prelude.{arith, _≡_, refl, sym, ap, _∙_, ℕ, zero, suc, _+_, _-_, _*_, _≤_, _<_, true}
+use Rattle.words.proofs.Prelude.{List, [], _∷_, append-nil, append-assoc, _++_, length-drop, length-append}
+use Rattle.words.proofs.Prelude.{length, take, drop, replicate, length-take-le}
 use native.Mathlib.Nat.{add-mul, zero-mul, suc-mul, zero-add, suc-add}
-use native.Mathlib.Omega.{arith}
-use mathlib.Core.Bool.{true}
-use lib.ListN.{length, take, drop, replicate, length-append, length-drop}
-use lib.Seq.{take-append-add, drop-append-add, take-at, drop-at, take-add, drop-drop, take-nil, drop-nil, length-take-le, take-length, drop-length, take-append-seam, drop-append-seam, take-append-le, drop-append-le}
-use Rattle.words.specs.All.{allOf}
-use Rattle.words.specs.Words.{laid, spliced}
-use Rattle.words.specs.Coded.{Code, Lawful, wordsOf, entriesAt, laidOut}
+use lib.Seq.{take-append-add, drop-append-add, take-at, drop-at, take-add, drop-drop, take-nil, drop-nil, take-length, drop-length, take-append-seam, drop-append-seam, take-append-le, drop-append-le}
+use Rattle.words.specs.{All.allOf, Words.laid, Words.spliced, Coded.Code, Coded.Lawful, Coded.wordsOf}
+use Rattle.words.specs.{Coded.entriesAt, Coded.laidOut}
 use Rattle.words.proofs.Alls.{all-head, all-tail}
 
 module _ {E : Type 0} (c : Code E) where

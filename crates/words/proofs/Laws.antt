@@ -1,12 +1,11 @@
 -- Laws on words that are moved, pasted and laid out, at any capacity.
-use mathlib.Core.Path.{_≡_, refl, sym, ap, _∙_}
-use mathlib.Core.List.{List, [], _∷_, _++_, append-assoc, append-nil}
-use Prim.Native.Nat.{ℕ, zero, suc, _+_, _-_, _≤_, _<_}
+use Rattle.words.proofs.Prelude.{arith, _≡_, refl, sym, ap, _∙_, ℕ, zero, suc, _+_, _-_, _≤_, _<_, add-one, List}
+use Rattle.words.proofs.Prelude.{[], _∷_, append-nil, append-assoc, _++_, length-drop, length-take}
+use Rattle.words.proofs.Prelude.{length-append, drop-of-length-le, length, take, drop, replicate, getD}
+use Rattle.words.proofs.Prelude.{length-take-le, take-all, drop-cons}
 use native.Mathlib.Nat.{sub-zero, zero-sub, suc-sub-suc, suc-add, add-suc}
-use native.Mathlib.Numerals.{add-one}
-use native.Mathlib.Omega.{arith}
-use lib.ListN.{drop-of-length-le, length, take, drop, getD, set, replicate, length-take, length-drop, length-append, length-replicate, replicate-append-replicate, getD-replicate}
-use lib.Seq.{paste, paste-zero, paste-suc, drop-paste, getD-drop, getD-take, take-suc, drop-cons, take-at, drop-at, set-at, take-take, drop-drop, take-all, take-length, take-nil, append-snoc, length-take-le}
+use lib.ListN.{set, length-replicate, replicate-append-replicate, getD-replicate}
+use lib.Seq.{paste, paste-zero, paste-suc, drop-paste, getD-drop, getD-take, take-suc, take-at, drop-at, set-at, take-take, drop-drop, take-length, take-nil, append-snoc}
 use Rattle.words.specs.Words.{laid, spliced}
 
 -- one more word pasted, at the code's `j + 1`

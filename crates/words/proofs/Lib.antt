@@ -1,3 +1,4 @@
+pub mod Prelude
 pub mod Tests
 pub mod Alls
 pub mod Laws

@@ -1,11 +1,8 @@
 -- Tests that compute, and what they tell.
-use Prim.Native.Nat.{ℕ, _<_, _≤_}
-use mathlib.Core.Path.{_≡_, refl}
-use mathlib.Core.Bool.{Bool, true, false, _&&_, _||_, and-eq-true-iff, true≢false}
-use native.Mathlib.Omega.{arith}
-use lib.Dec.{ltb, leb, eqb}
-use Rattle.words.specs.If.{if_then_else_}
-use borrow.Author.Tests.{ltb-true, ltb-false, leb-true, leb-false, eqb-true, eqb-false}
+use Rattle.words.proofs.Prelude.{arith, _≡_, refl, ℕ, _≤_, _<_, Bool, true, false, true≢false, _&&_, _||_, eqb}
+use Rattle.words.proofs.Prelude.{ltb, leb, eqb-true, eqb-false, ltb-true, ltb-false, leb-true, leb-false}
+use Rattle.words.proofs.Prelude.{if_then_else_}
+use mathlib.Core.Bool.{and-eq-true-iff}
 
 -- the three ways in which two numbers stand
 pub data Stand (a b : ℕ) : Type 0 where

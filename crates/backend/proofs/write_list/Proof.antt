@@ -1,15 +1,10 @@
 -- `backend::write_list` meets its contract: refusals 12 and 11, then the list.
-use mathlib.Core.Path.{_≡_, sym, _∙_}
-use mathlib.Core.Bool.{true, _&&_}
-use borrow.Author.Tests.{not-true, not-false}
-use denote.Ref.{now}
-use Rattle.model.specs.Backend.{Lent, opsFormed}
-use Rattle.model.specs.Calls.{write}
+use Rattle.words.proofs.Prelude.{needs, now, _≡_, sym, _∙_, true, _&&_, not-true, not-false}
+use Rattle.model.specs.{Backend.Lent, Backend.opsFormed, Calls.write}
 use Rattle.state_cache.specs.State.{Raw, raw, formed}
 use Rattle.state_cache.proofs.Runs.{ill-formed}
 use Rattle.backend.specs.Ops.{opsIn, lentOf, wholeList}
 use Rattle.backend.proofs.Requests.{listed-of, request-refused, request-run}
-use borrow.Author.Needs.{needs}
 use Rattle.backend.proofs.write_list.Statement.{statement}
 use Rattle.backend.proofs.write_list.Tie as tie
 

@@ -1,19 +1,12 @@
 -- `compaction::create_snapshot` meets its contract: refusals 12 and 11, or what a creation from a well-formed log comes
 -- to.
-use mathlib.Core.Path.{_≡_, sym, ap, _∙_}
-use mathlib.Core.Bool.{Bool, true}
-use borrow.Author.Tests.{not-true, not-false, eqb-true}
-use denote.Ref.{now}
-use lib.Dec.{eqb}
-use lib.ListN.{length}
+use Rattle.words.proofs.Prelude.{needs, now, _≡_, sym, ap, _∙_, Bool, true, eqb, not-true, not-false, eqb-true, length}
 use Rattle.entry.specs.Limits.{snapshotWords}
 use Rattle.model.specs.Calls.{query, create}
-use Rattle.state_cache.specs.State.{Raw, raw, formed}
-use Rattle.state_cache.specs.Run.{run}
+use Rattle.state_cache.specs.{State.Raw, State.raw, State.formed, Run.run}
 use Rattle.state_cache.proofs.Stands.{ready-of}
 use Rattle.snapshot.specs.Calls.{writtenOut}
 use Rattle.compaction.proofs.Creates.{create-ill-formed, create-malformed}
-use borrow.Author.Needs.{needs}
 use Rattle.compaction.proofs.create_snapshot.Statement.{statement}
 use Rattle.compaction.proofs.create_snapshot.Tie as tie
 

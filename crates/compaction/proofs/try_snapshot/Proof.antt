@@ -1,14 +1,9 @@
 -- `compaction::try_snapshot` meets its contract: refusal 12, or what a snapshot of a well-formed log comes to.
-use mathlib.Core.Path.{sym, _∙_}
-use mathlib.Core.Bool.{true}
-use borrow.Author.Tests.{not-true, not-false}
-use denote.Ref.{now}
+use Rattle.words.proofs.Prelude.{needs, now, sym, _∙_, true, not-true, not-false}
 use Rattle.model.specs.Calls.{snapshot}
 use Rattle.state_cache.specs.State.{raw}
-use Rattle.state_cache.proofs.Stands.{ready-of}
-use Rattle.state_cache.proofs.Runs.{ill-formed}
+use Rattle.state_cache.proofs.{Stands.ready-of, Runs.ill-formed}
 use Rattle.entry.specs.Upto.{uptoOf}
-use borrow.Author.Needs.{needs}
 use Rattle.compaction.proofs.try_snapshot.Statement.{statement}
 use Rattle.compaction.proofs.try_snapshot.Tie as tie
 

@@ -1,15 +1,9 @@
 -- `diff::create_diff_snapshot` meets its contract: refusals 12 and 11, or what a diff of a well-formed log comes to.
-use mathlib.Core.Path.{_≡_, sym, _∙_}
-use mathlib.Core.Bool.{true}
-use borrow.Author.Tests.{not-true, not-false, eqb-true}
-use denote.Ref.{now}
-use lib.Dec.{eqb}
-use lib.ListN.{length}
+use Rattle.words.proofs.Prelude.{needs, now, _≡_, sym, _∙_, true, eqb, not-true, not-false, eqb-true, length}
 use Rattle.entry.specs.Limits.{snapshotWords}
 use Rattle.state_cache.specs.State.{Raw, raw, formed}
 use Rattle.state_cache.proofs.Stands.{ready-of}
 use Rattle.diff.proofs.Telling.{diff-ill-formed, diff-malformed, told-whole}
-use borrow.Author.Needs.{needs}
 use Rattle.diff.proofs.create_diff_snapshot.Statement.{statement}
 use Rattle.diff.proofs.create_diff_snapshot.Tie as tie
 

@@ -1,5 +1,5 @@
 -- `entry::compare` meets its contract: each return takes the tests as far as it came.
-use borrow.Author.Tests.{lt-ltb, le-ltb}
+use Rattle.words.proofs.Prelude.{lt-ltb, le-ltb}
 use Rattle.entry.specs.Order.{compareOf}
 use Rattle.entry.proofs.compare.Statement.{statement}
 use Rattle.entry.proofs.compare.Tie as tie

@@ -1,6 +1,6 @@
 -- `entry::entries_formed` meets its contract: the two tests, joined.
 use Rattle.entry.specs.Change.{sliceFormed}
-use borrow.Author.Needs.{needs}
+use Rattle.words.proofs.Prelude.{needs}
 use Rattle.entry.proofs.entries_formed.Statement.{statement}
 use Rattle.entry.proofs.entries_formed.Tie as tie
 

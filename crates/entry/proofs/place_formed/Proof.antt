@@ -1,6 +1,5 @@
 -- `entry::place_formed` meets its contract: by what the word says.
-use Rattle.entry.proofs.ChangeLaws.{said-formed}
-use Rattle.entry.proofs.place_formed.Statement.{statement}
+use Rattle.entry.proofs.{ChangeLaws.said-formed, place_formed.Statement.statement}
 use Rattle.entry.proofs.place_formed.Tie as tie
 
 returns : tie.Need-returns

@@ -1,6 +1,6 @@
 -- `entry::sign_formed` meets its contract: each callee says its own test.
 use Rattle.entry.specs.Sign.{signFormed}
-use borrow.Author.Needs.{needs}
+use Rattle.words.proofs.Prelude.{needs}
 use Rattle.entry.proofs.sign_formed.Statement.{statement}
 use Rattle.entry.proofs.sign_formed.Tie as tie
 

@@ -1,9 +1,6 @@
 -- `reading::entries_of` meets its contract: where the part does not fit it is empty.
-use native.Mathlib.Omega.{arith}
-use denote.Ref.{now}
-use Rattle.reading.proofs.Showing.{part-none, part-cut}
-use borrow.Author.Needs.{needs}
-use Rattle.reading.proofs.entries_of.Statement.{statement}
+use Rattle.words.proofs.Prelude.{needs, arith, now}
+use Rattle.reading.proofs.{Showing.part-none, Showing.part-cut, entries_of.Statement.statement}
 use Rattle.reading.proofs.entries_of.Tie as tie
 
 returns : tie.Need-returns

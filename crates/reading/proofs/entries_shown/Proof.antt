@@ -1,11 +1,8 @@
 -- `reading::entries_shown` meets its contract: each arm knows its reply.
-use mathlib.Core.Path.{_∙_}
-use denote.Ref.{now}
+use Rattle.words.proofs.Prelude.{needs, now, _∙_}
 use Rattle.words.proofs.CodedLaws.{entries-length}
 use Rattle.state_cache.specs.State.{Raw}
-use Rattle.reading.proofs.Showing.{no-part}
-use borrow.Author.Needs.{needs}
-use Rattle.reading.proofs.entries_shown.Statement.{statement}
+use Rattle.reading.proofs.{Showing.no-part, entries_shown.Statement.statement}
 use Rattle.reading.proofs.entries_shown.Tie as tie
 
 returns : tie.Need-returns

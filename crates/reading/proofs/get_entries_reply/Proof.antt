@@ -1,13 +1,9 @@
 -- `reading::get_entries_reply` meets its contract: refusal 12, then the read of a well-formed log.
-use mathlib.Core.Path.{sym, _∙_}
-use borrow.Author.Tests.{not-true, not-false}
-use denote.Ref.{now}
+use Rattle.words.proofs.Prelude.{needs, now, sym, _∙_, not-true, not-false}
 use Rattle.model.specs.Calls.{getEntries}
 use Rattle.state_cache.specs.State.{raw}
 use Rattle.state_cache.proofs.Stands.{ready-of}
-use Rattle.reading.proofs.Answers.{ill-formed-answer}
-use borrow.Author.Needs.{needs}
-use Rattle.reading.proofs.get_entries_reply.Statement.{statement}
+use Rattle.reading.proofs.{Answers.ill-formed-answer, get_entries_reply.Statement.statement}
 use Rattle.reading.proofs.get_entries_reply.Tie as tie
 
 returns : tie.Need-returns

@@ -1,13 +1,9 @@
 -- `reading::lookup` meets its contract: refusal 12, then the lookup in a well-formed log.
-use mathlib.Core.Path.{sym, _∙_}
-use borrow.Author.Tests.{not-true, not-false}
-use denote.Ref.{now}
+use Rattle.words.proofs.Prelude.{needs, now, sym, _∙_, not-true, not-false}
 use Rattle.model.specs.Calls.{lookup}
 use Rattle.state_cache.specs.State.{raw}
 use Rattle.state_cache.proofs.Stands.{ready-of}
-use Rattle.reading.proofs.Answers.{ill-formed-answer}
-use borrow.Author.Needs.{needs}
-use Rattle.reading.proofs.lookup.Statement.{statement}
+use Rattle.reading.proofs.{Answers.ill-formed-answer, lookup.Statement.statement}
 use Rattle.reading.proofs.lookup.Tie as tie
 
 returns : tie.Need-returns

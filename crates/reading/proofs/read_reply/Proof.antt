@@ -1,14 +1,10 @@
 -- `reading::read_reply` meets its contract: refusal 12, then the read of a well-formed log.
-use mathlib.Core.Path.{sym, _∙_}
-use borrow.Author.Tests.{not-true, not-false}
-use denote.Ref.{now}
+use Rattle.words.proofs.Prelude.{needs, now, sym, _∙_, not-true, not-false}
 use Rattle.model.specs.Calls.{read}
 use Rattle.state_cache.specs.State.{raw}
 use Rattle.state_cache.proofs.Stands.{ready-of}
 use Rattle.reading.specs.Replies.{boundOf}
-use Rattle.reading.proofs.Answers.{ill-formed-answer}
-use borrow.Author.Needs.{needs}
-use Rattle.reading.proofs.read_reply.Statement.{statement}
+use Rattle.reading.proofs.{Answers.ill-formed-answer, read_reply.Statement.statement}
 use Rattle.reading.proofs.read_reply.Tie as tie
 
 returns : tie.Need-returns

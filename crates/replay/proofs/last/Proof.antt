@@ -1,8 +1,5 @@
 -- `replay::last` is safe.
-use mathlib.Core.Path.{sym}
-use native.Mathlib.Omega.{arith}
-use lib.Seq.{length-take-le}
-use borrow.Author.Needs.{needs}
+use Rattle.words.proofs.Prelude.{needs, arith, sym, length-take-le}
 use Rattle.replay.proofs.last.Statement.{statement}
 use Rattle.replay.proofs.last.Tie as tie
 

@@ -1,19 +1,12 @@
 -- `replay::main` is safe and ends, and keeps where the program stands: at each turn some input has come, and its lines
 -- have been answered from a
 -- fresh log of batch size 0 on. The measure is the number of turns left.
-use Prim.Native.Nat.{ℕ, _≤_}
-use mathlib.Core.List.{List, [], _++_}
-use native.Mathlib.Omega.{arith}
-use lib.ListN.{take}
+use Rattle.words.proofs.Prelude.{arith, ℕ, _≤_, List, [], _++_, take}
 use Rattle.state_cache.specs.State.{raw}
-use Rattle.text.specs.Lines.{noLine, linesOf}
-use Rattle.text.specs.Feeding.{come}
+use Rattle.text.specs.{Lines.noLine, Lines.linesOf, Feeding.come, Rooms.inputLine}
 use Rattle.text.proofs.LineLaws.{lines-append}
-use Rattle.text.specs.Rooms.{inputLine}
-use Rattle.replay.specs.Feeding.{outRoom}
-use Rattle.replay.specs.Input.{Reached}
-use Rattle.replay.proofs.Inputs.{begun}
-use Rattle.replay.proofs.main.Statement.{statement}
+use Rattle.replay.specs.{Feeding.outRoom, Input.Reached}
+use Rattle.replay.proofs.{Inputs.begun, main.Statement.statement}
 use Rattle.replay.proofs.main.Tie as tie
 
 abbrev Inv-loop : tie.InvT-loop

@@ -1,14 +1,7 @@
 -- `replay::take_turn` meets its contract: what waits is handed over, and what was read is a part of the input.
-use mathlib.Core.Path.{sym}
-use mathlib.Core.List.{[]}
-use native.Mathlib.Omega.{arith}
-use lib.ListN.{take}
-use lib.Seq.{length-take-le}
-use denote.Ref.{now}
+use Rattle.words.proofs.Prelude.{needs, arith, now, sym, [], take, length-take-le}
 use Rattle.text.specs.Lines.{Lines, linesFrom}
-use Rattle.replay.proofs.Inputs.{handed-over}
-use borrow.Author.Needs.{needs}
-use Rattle.replay.proofs.take_turn.Statement.{statement}
+use Rattle.replay.proofs.{Inputs.handed-over, take_turn.Statement.statement}
 use Rattle.replay.proofs.take_turn.Tie as tie
 
 slice-aggregate-write-all : tie.Need-slice-aggregate-write-all

@@ -1,11 +1,7 @@
 -- `snapshot::find` meets its contract: refusal 11, or what is found in a snapshot in form.
-use mathlib.Core.Path.{_≡_, sym, _∙_}
-use mathlib.Core.Bool.{true}
-use borrow.Author.Tests.{not-true, not-false}
-use denote.Ref.{now}
+use Rattle.words.proofs.Prelude.{needs, now, _≡_, sym, _∙_, true, not-true, not-false}
 use Rattle.snapshot.specs.Calls.{snapshotFormed}
 use Rattle.snapshot.proofs.Calling.{snapshot-holds, find-malformed, find-stands}
-use borrow.Author.Needs.{needs}
 use Rattle.snapshot.proofs.find.Statement.{statement}
 use Rattle.snapshot.proofs.find.Tie as tie
 

@@ -1,13 +1,8 @@
 -- `snapshot::merge` meets its contract: refusal 11, or the second folded onto the first.
-use mathlib.Core.Path.{_≡_, sym, ap₂, _∙_}
-use mathlib.Core.Bool.{Bool, true, false, _&&_}
-use borrow.Author.Tests.{not-true, not-false}
-use denote.Ref.{now}
-use lib.Dec.{eqb}
-use lib.ListN.{length}
+use Rattle.words.proofs.Prelude.{needs, now, _≡_, sym, ap₂, _∙_, Bool, true, false, _&&_, eqb, not-true, not-false}
+use Rattle.words.proofs.Prelude.{length}
 use Rattle.entry.specs.Limits.{snapshotWords}
 use Rattle.snapshot.proofs.Calling.{mergeable, merge-malformed, merge-needs, merge-stands}
-use borrow.Author.Needs.{needs}
 use Rattle.snapshot.proofs.merge.Statement.{statement}
 use Rattle.snapshot.proofs.merge.Tie as tie
 

@@ -1,14 +1,8 @@
 -- `snapshot::snapshot_formed` meets its contract: each return takes the tests as far as it came.
-use mathlib.Core.Path.{_≡_, sym, _∙_}
-use mathlib.Core.Bool.{true}
-use native.Mathlib.Omega.{arith}
-use borrow.Author.Tests.{not-true, not-false}
-use denote.Ref.{now}
-use Rattle.entry.specs.Limits.{snapshotWords}
-use Rattle.entry.specs.Change.{storedIn}
+use Rattle.words.proofs.Prelude.{needs, arith, now, _≡_, sym, _∙_, true, not-true, not-false}
+use Rattle.entry.specs.{Limits.snapshotWords, Change.storedIn}
 use Rattle.entry.proofs.SliceLaws.{laid-of}
 use Rattle.snapshot.specs.Calls.{snapshotFormed}
-use borrow.Author.Needs.{needs}
 use Rattle.snapshot.proofs.snapshot_formed.Statement.{statement}
 use Rattle.snapshot.proofs.snapshot_formed.Tie as tie
 

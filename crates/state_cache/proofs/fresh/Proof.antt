@@ -1,9 +1,6 @@
 -- `state_cache::fresh` meets its contract: refusal 11, or zeros over both slices.
-use borrow.Author.Tests.{not-true, not-false}
-use denote.Ref.{now}
-use Rattle.state_cache.proofs.Changes.{fresh-refused, fresh-stands}
-use borrow.Author.Needs.{needs}
-use Rattle.state_cache.proofs.fresh.Statement.{statement}
+use Rattle.words.proofs.Prelude.{needs, now, not-true, not-false}
+use Rattle.state_cache.proofs.{Changes.fresh-refused, Changes.fresh-stands, fresh.Statement.statement}
 use Rattle.state_cache.proofs.fresh.Tie as tie
 
 returns : tie.Need-returns

@@ -1,16 +1,10 @@
 -- `state_cache::get_decided_idx_without_stopsign` meets its contract: refusal 12, or the decided index without the
 -- stop-sign.
-use mathlib.Core.Path.{_≡_, sym, _∙_}
-use mathlib.Core.Bool.{true}
-use borrow.Author.Tests.{not-true, not-false}
-use denote.Ref.{now}
+use Rattle.words.proofs.Prelude.{needs, now, _≡_, sym, _∙_, true, not-true, not-false}
 use Rattle.model.specs.Numbers.{logDecided}
 use Rattle.state_cache.specs.State.{Raw, raw, formed}
-use Rattle.state_cache.proofs.Small.{sound-small}
-use Rattle.state_cache.proofs.Stands.{ready-of}
-use Rattle.state_cache.proofs.Runs.{not-asked, asked-of}
-use borrow.Author.Needs.{needs}
-use Rattle.state_cache.proofs.get_decided_idx_without_stopsign.Statement.{statement}
+use Rattle.state_cache.proofs.{Small.sound-small, Stands.ready-of, Runs.not-asked, Runs.asked-of}
+use Rattle.state_cache.proofs.{get_decided_idx_without_stopsign.Statement.statement}
 use Rattle.state_cache.proofs.get_decided_idx_without_stopsign.Tie as tie
 
 abbrev stateAt : tie.Start → Raw

@@ -1,14 +1,8 @@
 -- `state_cache::load_cache` meets its contract: refusal 12, or the batch dropped.
-use mathlib.Core.Path.{sym, _∙_}
-use mathlib.Core.Bool.{true}
-use borrow.Author.Tests.{not-true, not-false}
-use denote.Ref.{now}
+use Rattle.words.proofs.Prelude.{needs, now, sym, _∙_, true, not-true, not-false}
 use Rattle.model.specs.Calls.{reload}
 use Rattle.state_cache.specs.State.{raw}
-use Rattle.state_cache.proofs.Stands.{ready-of}
-use Rattle.state_cache.proofs.Runs.{ill-formed}
-use borrow.Author.Needs.{needs}
-use Rattle.state_cache.proofs.load_cache.Statement.{statement}
+use Rattle.state_cache.proofs.{Stands.ready-of, Runs.ill-formed, load_cache.Statement.statement}
 use Rattle.state_cache.proofs.load_cache.Tie as tie
 
 returns : tie.Need-returns

@@ -1,15 +1,9 @@
 -- `state_cache::stopsign_is_decided` meets its contract: refusal 12, or whether the stop-sign is decided.
-use mathlib.Core.Path.{_≡_, sym, _∙_}
-use mathlib.Core.Bool.{true}
-use borrow.Author.Tests.{not-true, not-false}
-use denote.Ref.{now}
+use Rattle.words.proofs.Prelude.{needs, now, _≡_, sym, _∙_, true, not-true, not-false}
 use Rattle.model.specs.Numbers.{stopDecided}
 use Rattle.state_cache.specs.State.{Raw, raw, formed}
-use Rattle.state_cache.proofs.Small.{sound-small}
-use Rattle.state_cache.proofs.Stands.{ready-of}
-use Rattle.state_cache.proofs.Runs.{not-asked, asked-of}
-use borrow.Author.Needs.{needs}
-use Rattle.state_cache.proofs.stopsign_is_decided.Statement.{statement}
+use Rattle.state_cache.proofs.{Small.sound-small, Stands.ready-of, Runs.not-asked, Runs.asked-of}
+use Rattle.state_cache.proofs.{stopsign_is_decided.Statement.statement}
 use Rattle.state_cache.proofs.stopsign_is_decided.Tie as tie
 
 abbrev stateAt : tie.Start → Raw

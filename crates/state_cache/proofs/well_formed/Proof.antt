@@ -1,12 +1,7 @@
 -- `state_cache::well_formed` meets its contract: the sizes first, so that the sums of the rest fit.
-use mathlib.Core.Path.{sym, _∙_}
-use native.Mathlib.Omega.{arith}
-use borrow.Author.Tests.{not-true, not-false}
-use Rattle.state_cache.specs.State.{numbersIn, formed}
-use Rattle.state_cache.specs.Inner.{Small}
-use Rattle.state_cache.proofs.Small.{small-of, sizes-fail}
-use borrow.Author.Needs.{needs}
-use Rattle.state_cache.proofs.well_formed.Statement.{statement}
+use Rattle.words.proofs.Prelude.{needs, arith, sym, _∙_, not-true, not-false}
+use Rattle.state_cache.specs.{State.numbersIn, State.formed, Inner.Small}
+use Rattle.state_cache.proofs.{Small.small-of, Small.sizes-fail, well_formed.Statement.statement}
 use Rattle.state_cache.proofs.well_formed.Tie as tie
 
 small : (e : tie.Else1) → Small (numbersIn (e .before .before .before .before .args .index))

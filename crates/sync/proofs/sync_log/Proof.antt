@@ -1,16 +1,11 @@
 -- `sync::sync_log` meets its contract: refusals 12 and 11, then a sync without log part, or one with it, of a
 -- well-formed log.
-use mathlib.Core.Path.{_≡_, sym, ap, _∙_}
-use mathlib.Core.Bool.{Bool, true, false}
-use borrow.Author.Tests.{not-true, not-false}
-use denote.Ref.{now}
+use Rattle.words.proofs.Prelude.{needs, now, _≡_, sym, ap, _∙_, Bool, true, false, not-true, not-false}
 use Rattle.model.specs.Calls.{sync}
 use Rattle.state_cache.specs.State.{Raw, raw, formed}
-use Rattle.state_cache.proofs.Stands.{ready-of}
-use Rattle.state_cache.proofs.Runs.{ill-formed}
+use Rattle.state_cache.proofs.{Stands.ready-of, Runs.ill-formed}
 use Rattle.sync.specs.Requests.{partOf, lentWhole, requestFormed}
 use Rattle.sync.proofs.Asking.{ask-refused, ask-round, ask-synced, ask-syncs}
-use borrow.Author.Needs.{needs}
 use Rattle.sync.proofs.sync_log.Statement.{statement}
 use Rattle.sync.proofs.sync_log.Tie as tie
 

@@ -1,7 +1,6 @@
 -- `text::bare` meets its contract.
-use mathlib.Core.Path.{sym, _∙_}
+use Rattle.words.proofs.Prelude.{needs, sym, _∙_}
 use Rattle.text.specs.Parse.{bareOf}
-use borrow.Author.Needs.{needs}
 use Rattle.text.proofs.bare.Statement.{statement}
 use Rattle.text.proofs.bare.Tie as tie
 

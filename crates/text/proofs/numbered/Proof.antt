@@ -1,10 +1,6 @@
 -- `text::numbered` meets its contract: at each `return` the comparisons that led there say which case holds.
-use mathlib.Core.Path.{_≡_, sym, _∙_}
-use mathlib.Core.Bool.{false}
-use borrow.Author.Tests.{lt-ltb, le-ltb}
-use denote.Ref.{now}
+use Rattle.words.proofs.Prelude.{needs, now, _≡_, sym, _∙_, false, lt-ltb, le-ltb}
 use Rattle.text.specs.Parse.{_is_, numberedOf}
-use borrow.Author.Needs.{needs}
 use Rattle.text.proofs.numbered.Statement.{statement}
 use Rattle.text.proofs.numbered.Tie as tie
 

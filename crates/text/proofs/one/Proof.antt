@@ -1,7 +1,6 @@
 -- `text::one` meets its contract: after `snap` what it says, and after any other word a number or none.
-use mathlib.Core.Path.{sym, _∙_}
+use Rattle.words.proofs.Prelude.{needs, sym, _∙_}
 use Rattle.text.specs.Parse.{withOne}
-use borrow.Author.Needs.{needs}
 use Rattle.text.proofs.one.Statement.{statement}
 use Rattle.text.proofs.one.Tie as tie
 

@@ -1,9 +1,7 @@
 -- `text::parse` meets its contract: each space found splits a word off, and the last word has none.
-use mathlib.Core.Path.{sym, _∙_}
-use denote.Ref.{now}
+use Rattle.words.proofs.Prelude.{needs, now, sym, _∙_}
 use Rattle.text.specs.Parse.{parseOf}
 use Rattle.text.proofs.ParseLaws.{words-none, words-more, rest, four}
-use borrow.Author.Needs.{needs}
 use Rattle.text.proofs.parse.Statement.{statement}
 use Rattle.text.proofs.parse.Tie as tie
 

@@ -1,9 +1,5 @@
 -- `text::same` meets its contract: what is left of the two slices is the same exactly where they are.
-use Prim.Native.Nat.{_≤_, _-_}
-use mathlib.Core.Path.{_≡_, refl, sym, _∙_}
-use native.Mathlib.Omega.{arith}
-use lib.ListN.{length, drop}
-use denote.Ref.{now}
+use Rattle.words.proofs.Prelude.{arith, now, _≡_, refl, sym, _∙_, _-_, _≤_, length, drop}
 use Rattle.text.specs.Parse.{sameOf}
 use Rattle.text.proofs.ParseLaws.{same-lengths, same-step, same-here, same-end}
 use Rattle.text.proofs.same.Statement.{statement}

@@ -1,7 +1,6 @@
 -- `text::snap` meets its contract: `all`, or a number or none.
-use mathlib.Core.Path.{sym, _∙_}
+use Rattle.words.proofs.Prelude.{needs, sym, _∙_}
 use Rattle.text.specs.Parse.{snapOf}
-use borrow.Author.Needs.{needs}
 use Rattle.text.proofs.snap.Statement.{statement}
 use Rattle.text.proofs.snap.Tie as tie
 

@@ -1,7 +1,6 @@
 -- `text::two` meets its contract.
-use mathlib.Core.Path.{sym, _∙_}
+use Rattle.words.proofs.Prelude.{needs, sym, _∙_}
 use Rattle.text.specs.Parse.{pairedOf}
-use borrow.Author.Needs.{needs}
 use Rattle.text.proofs.two.Statement.{statement}
 use Rattle.text.proofs.two.Tie as tie
 

@@ -1,11 +1,7 @@
 -- `words::clear` meets its contract: the words passed are zeros.
-use mathlib.Core.Path.{_≡_, ap, _∙_}
-use Prim.Native.Nat.{ℕ, _≤_, _-_}
-use native.Mathlib.Omega.{arith}
-use lib.ListN.{length, replicate, length-set}
+use Rattle.words.proofs.Prelude.{arith, _≡_, ap, _∙_, ℕ, _-_, _≤_, length-set, length, replicate}
 use lib.Seq.{paste}
-use Rattle.words.proofs.Laws.{paste-none, clear-turn}
-use Rattle.words.proofs.clear.Statement.{statement}
+use Rattle.words.proofs.{Laws.paste-none, Laws.clear-turn, clear.Statement.statement}
 use Rattle.words.proofs.clear.Tie as tie
 
 abbrev Inv-loop : tie.InvT-loop

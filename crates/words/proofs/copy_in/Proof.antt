@@ -1,12 +1,7 @@
 -- `words::copy_in` meets its contract: after i turns the first i words of src stand from `at` on.
-use mathlib.Core.Path.{_≡_, ap, _∙_}
-use mathlib.Core.List.{List}
-use Prim.Native.Nat.{ℕ, _+_, _≤_, _-_}
-use native.Mathlib.Omega.{arith}
-use lib.ListN.{length, getD, set, length-set}
-use lib.Seq.{paste, paste-zero}
-use Rattle.words.proofs.Laws.{paste-more}
-use Rattle.words.proofs.copy_in.Statement.{statement}
+use Rattle.words.proofs.Prelude.{arith, _≡_, ap, _∙_, ℕ, _+_, _-_, _≤_, List, length-set, length, getD}
+use lib.{ListN.set, Seq.paste, Seq.paste-zero}
+use Rattle.words.proofs.{Laws.paste-more, copy_in.Statement.statement}
 use Rattle.words.proofs.copy_in.Tie as tie
 
 abbrev Inv-loop : tie.InvT-loop

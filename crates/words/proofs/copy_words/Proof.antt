@@ -1,9 +1,6 @@
 -- `words::copy_words` meets its contract: all of src, pasted over as many words.
-use mathlib.Core.Path.{_∙_}
-use borrow.Author.Needs.{needs}
-use denote.Ref.{now}
-use Rattle.words.proofs.Laws.{paste-all}
-use Rattle.words.proofs.copy_words.Statement.{statement}
+use Rattle.words.proofs.Prelude.{needs, now, _∙_}
+use Rattle.words.proofs.{Laws.paste-all, copy_words.Statement.statement}
 use Rattle.words.proofs.copy_words.Tie as tie
 
 returns : tie.Need-returns

@@ -1,6 +1,5 @@
 -- `words::cut_out` meets its contract: a splice of nothing.
-use native.Mathlib.Omega.{arith}
-use borrow.Author.Needs.{needs}
+use Rattle.words.proofs.Prelude.{needs, arith}
 use Rattle.words.proofs.cut_out.Statement.{statement}
 use Rattle.words.proofs.cut_out.Tie as tie
 

@@ -1,12 +1,8 @@
 -- `words::move_down` meets its contract: after i turns the first i words from `from` on stand at `to`, and what was not
 -- passed is as it was.
-use mathlib.Core.Path.{_≡_, ap, _∙_}
-use Prim.Native.Nat.{ℕ, _≤_, _-_}
-use native.Mathlib.Omega.{arith}
-use lib.ListN.{length, drop, length-set}
+use Rattle.words.proofs.Prelude.{arith, _≡_, ap, _∙_, ℕ, _-_, _≤_, length-set, length, drop}
 use lib.Seq.{paste, paste-zero}
-use Rattle.words.proofs.Laws.{down-turn}
-use Rattle.words.proofs.move_down.Statement.{statement}
+use Rattle.words.proofs.{Laws.down-turn, move_down.Statement.statement}
 use Rattle.words.proofs.move_down.Tie as tie
 
 abbrev Inv-loop : tie.InvT-loop

@@ -1,11 +1,7 @@
 -- `words::move_up` meets its contract: with i words left to move, those from the i-th on stand at their places.
-use mathlib.Core.Path.{_≡_}
-use Prim.Native.Nat.{_+_, _≤_, _-_}
-use native.Mathlib.Omega.{arith}
-use lib.ListN.{length, drop, length-set}
+use Rattle.words.proofs.Prelude.{arith, _≡_, _+_, _-_, _≤_, length-set, length, drop}
 use lib.Seq.{paste}
-use Rattle.words.proofs.Laws.{up-none, up-turn, up-done}
-use Rattle.words.proofs.move_up.Statement.{statement}
+use Rattle.words.proofs.{Laws.up-none, Laws.up-turn, Laws.up-done, move_up.Statement.statement}
 use Rattle.words.proofs.move_up.Tie as tie
 
 abbrev Inv-loop : tie.InvT-loop

@@ -1,7 +1,6 @@
 -- `words::splice` meets its contract: its three calls are the three pastes of `splice-law`.
-use Rattle.words.proofs.Laws.{splice-law}
-use borrow.Author.Needs.{needs}
-use Rattle.words.proofs.splice.Statement.{statement}
+use Rattle.words.proofs.{Laws.splice-law, splice.Statement.statement}
+use Rattle.words.proofs.Prelude.{needs}
 use Rattle.words.proofs.splice.Tie as tie
 
 returns : tie.Need-returns

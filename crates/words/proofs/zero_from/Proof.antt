@@ -1,13 +1,7 @@
 -- `words::zero_from` meets its contract: the words passed and those that are left are together what is asked.
-use Prim.Native.Nat.{_-_}
-use mathlib.Core.Path.{_≡_, refl}
-use mathlib.Core.Bool.{_&&_}
-use native.Mathlib.Omega.{arith}
-use lib.Dec.{eqb}
-use lib.ListN.{length, drop}
+use Rattle.words.proofs.Prelude.{arith, _≡_, refl, _-_, _&&_, eqb, length, drop}
 use Rattle.words.specs.Words.{allZero}
-use Rattle.words.proofs.Alls.{zero-turn, all-end}
-use Rattle.words.proofs.zero_from.Statement.{statement}
+use Rattle.words.proofs.{Alls.zero-turn, Alls.all-end, zero_from.Statement.statement}
 use Rattle.words.proofs.zero_from.Tie as tie
 
 abbrev Inv-loop : tie.InvT-loop

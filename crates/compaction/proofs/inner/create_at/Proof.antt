@@ -1,16 +1,9 @@
 -- `compaction::inner::create_at` meets its contract: refusals 3 and 2, then what the fold comes to.
-use Prim.Native.Nat.{_+_, _≤_}
-use mathlib.Core.Path.{sym, _∙_}
-use mathlib.Core.Option.{some}
-use native.Mathlib.Omega.{arith}
-use denote.Ref.{now}
+use Rattle.words.proofs.Prelude.{needs, arith, now, sym, _∙_, _+_, _≤_, some}
 use Rattle.state_cache.specs.State.{Raw, raw, numbersIn}
 use Rattle.state_cache.proofs.Small.{sound-small}
-use Rattle.compaction.proofs.Moving.{target-in}
-use Rattle.compaction.proofs.Folding.{fold-needs}
-use Rattle.compaction.proofs.Creates.{target-from, create-below, create-above, create-folds}
-use borrow.Author.Needs.{needs}
-use Rattle.compaction.proofs.inner.create_at.Statement.{statement}
+use Rattle.compaction.proofs.{Moving.target-in, Folding.fold-needs, Creates.target-from, Creates.create-below}
+use Rattle.compaction.proofs.{Creates.create-above, Creates.create-folds, inner.create_at.Statement.statement}
 use Rattle.compaction.proofs.inner.create_at.Tie as tie
 
 abbrev stateAt : tie.Start → Raw

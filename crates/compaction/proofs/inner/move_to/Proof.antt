@@ -1,6 +1,5 @@
 -- `compaction::inner::move_to` meets its contract: whole entries are cut out at the log's front.
-use native.Mathlib.Omega.{arith}
-use borrow.Author.Needs.{needs}
+use Rattle.words.proofs.Prelude.{needs, arith}
 use Rattle.compaction.proofs.inner.move_to.Statement.{statement}
 use Rattle.compaction.proofs.inner.move_to.Tie as tie
 

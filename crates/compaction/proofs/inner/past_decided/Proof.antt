@@ -1,10 +1,8 @@
 -- `compaction::inner::past_decided` meets its contract: by how far is asked for.
-use mathlib.Core.Path.{sym, ap}
+use Rattle.words.proofs.Prelude.{needs, sym, ap}
 use Rattle.model.specs.Compact.{pastDecided}
 use Rattle.state_cache.specs.State.{numbersIn}
-use Rattle.entry.specs.Upto.{uptoOf}
-use Rattle.entry.specs.declared.Upto.{Upto}
-use borrow.Author.Needs.{needs}
+use Rattle.entry.specs.{Upto.uptoOf, declared.Upto.Upto}
 use Rattle.compaction.proofs.inner.past_decided.Statement.{statement}
 use Rattle.compaction.proofs.inner.past_decided.Tie as tie
 

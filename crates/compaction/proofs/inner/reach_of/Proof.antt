@@ -1,11 +1,7 @@
 -- `compaction::inner::reach_of` meets its contract: refusal 2, then by whether the target passes compacted.
-use Prim.Native.Nat.{ℕ}
-use mathlib.Core.Path.{_≡_, sym, _∙_}
-use mathlib.Core.List.{[]}
-use native.Mathlib.Omega.{arith}
+use Rattle.words.proofs.Prelude.{needs, arith, _≡_, sym, _∙_, ℕ, []}
 use Rattle.entry.specs.Guards.{first}
 use Rattle.entry.proofs.GuardLaws.{first-refuses, first-goes-on}
-use borrow.Author.Needs.{needs}
 use Rattle.compaction.proofs.inner.reach_of.Statement.{statement}
 use Rattle.compaction.proofs.inner.reach_of.Tie as tie
 

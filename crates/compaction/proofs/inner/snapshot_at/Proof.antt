@@ -1,19 +1,14 @@
 -- `compaction::inner::snapshot_at` meets its contract: by what becomes of the run's start, and by what the fold came
 -- to.
-use mathlib.Core.Path.{refl}
-use denote.Ref.{now}
-use native.Mathlib.Omega.{arith}
-use Rattle.words.specs.Coded.{entriesAt}
-use Rattle.words.specs.All.{allOf}
+use Rattle.words.proofs.Prelude.{needs, arith, now, refl}
+use Rattle.words.specs.{Coded.entriesAt, All.allOf}
 use Rattle.state_cache.specs.State.{Raw, raw}
 use Rattle.state_cache.proofs.Small.{sound-small}
 use Rattle.entry.specs.Upto.{uptoOf}
 use Rattle.compaction.specs.Inner.{Up}
-use Rattle.compaction.proofs.Moving.{in-run, movable}
-use Rattle.compaction.proofs.Folding.{fold-needs}
-use Rattle.compaction.proofs.Snapshots.{snapshot-stays, snapshot-over, snapshot-moves}
-use borrow.Author.Needs.{needs}
-use Rattle.compaction.proofs.inner.snapshot_at.Statement.{statement}
+use Rattle.compaction.proofs.{Moving.in-run, Moving.movable, Folding.fold-needs, Snapshots.snapshot-stays}
+use Rattle.compaction.proofs.{Snapshots.snapshot-over, Snapshots.snapshot-moves}
+use Rattle.compaction.proofs.{inner.snapshot_at.Statement.statement}
 use Rattle.compaction.proofs.inner.snapshot_at.Tie as tie
 
 abbrev stateAt : tie.Start → Raw

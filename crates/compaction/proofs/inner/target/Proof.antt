@@ -1,11 +1,9 @@
 -- `compaction::inner::target` meets its contract: by how far is asked for.
-use mathlib.Core.Path.{sym, ap, _∙_}
+use Rattle.words.proofs.Prelude.{needs, sym, ap, _∙_}
 use Rattle.model.specs.Compact.{target}
 use Rattle.model.proofs.Keeps.{target-least}
 use Rattle.state_cache.specs.State.{numbersIn}
-use Rattle.entry.specs.Upto.{uptoOf}
-use Rattle.entry.specs.declared.Upto.{Upto}
-use borrow.Author.Needs.{needs}
+use Rattle.entry.specs.{Upto.uptoOf, declared.Upto.Upto}
 use Rattle.compaction.proofs.inner.target.Statement.{statement}
 use Rattle.compaction.proofs.inner.target.Tie as tie
 

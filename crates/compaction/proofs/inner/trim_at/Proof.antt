@@ -1,11 +1,9 @@
 -- `compaction::inner::trim_at` meets its contract: by what becomes of the run's start.
-use denote.Ref.{now}
-use mathlib.Core.Option.{some}
+use Rattle.words.proofs.Prelude.{needs, now, some}
 use Rattle.state_cache.specs.State.{Raw, raw}
 use Rattle.state_cache.proofs.Small.{sound-small}
 use Rattle.compaction.specs.Inner.{Up}
 use Rattle.compaction.proofs.Moving.{movable, trim-stays, trim-moves}
-use borrow.Author.Needs.{needs}
 use Rattle.compaction.proofs.inner.trim_at.Statement.{statement}
 use Rattle.compaction.proofs.inner.trim_at.Tie as tie
 

@@ -1,14 +1,10 @@
 -- `diff::inner::diff_at` meets its contract: a delta past compacted, else nothing or the fold onto the held snapshot.
-use native.Mathlib.Omega.{arith}
-use borrow.Author.Tests.{not-true, not-false}
-use denote.Ref.{now}
+use Rattle.words.proofs.Prelude.{needs, arith, now, not-true, not-false}
 use Rattle.state_cache.specs.State.{Raw, raw, numbersIn}
 use Rattle.state_cache.proofs.Small.{sound-small}
 use Rattle.compaction.proofs.Folding.{decided-low, decided-high, fold-needs}
-use Rattle.diff.proofs.Giving.{start-low, part-inside, part-shows}
-use Rattle.diff.proofs.Telling.{diff-nothing, complete-wrote, delta-wrote}
-use borrow.Author.Needs.{needs}
-use Rattle.diff.proofs.inner.diff_at.Statement.{statement}
+use Rattle.diff.proofs.{Giving.start-low, Giving.part-inside, Giving.part-shows, Telling.diff-nothing}
+use Rattle.diff.proofs.{Telling.complete-wrote, Telling.delta-wrote, inner.diff_at.Statement.statement}
 use Rattle.diff.proofs.inner.diff_at.Tie as tie
 
 abbrev startOf : tie.After-log-decided → tie.Start

@@ -1,9 +1,6 @@
 -- `diff::inner::fold_part` meets its contract: a fold of the log's rest onto the empty snapshot.
-use mathlib.Core.Path.{_∙_}
-use denote.Ref.{now}
-use Rattle.diff.proofs.Giving.{rest-needs, rest-folds}
-use borrow.Author.Needs.{needs}
-use Rattle.diff.proofs.inner.fold_part.Statement.{statement}
+use Rattle.words.proofs.Prelude.{needs, now, _∙_}
+use Rattle.diff.proofs.{Giving.rest-needs, Giving.rest-folds, inner.fold_part.Statement.statement}
 use Rattle.diff.proofs.inner.fold_part.Tie as tie
 
 fold-out-requires : tie.Need-fold-out-requires

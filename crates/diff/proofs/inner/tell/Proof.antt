@@ -1,5 +1,5 @@
 -- `diff::inner::tell` meets its contract: by what the fold came to, and by the kind.
-use borrow.Author.Needs.{needs}
+use Rattle.words.proofs.Prelude.{needs}
 use Rattle.diff.proofs.inner.tell.Statement.{statement}
 use Rattle.diff.proofs.inner.tell.Tie as tie
 

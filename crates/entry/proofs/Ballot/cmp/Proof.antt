@@ -1,5 +1,5 @@
 -- `entry::Ballot::cmp` meets its contract: each callee says its own part.
-use borrow.Author.Needs.{needs}
+use Rattle.words.proofs.Prelude.{needs}
 use Rattle.entry.proofs.Ballot.cmp.Statement.{statement}
 use Rattle.entry.proofs.Ballot.cmp.Tie as tie
 

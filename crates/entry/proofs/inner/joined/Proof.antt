@@ -1,23 +1,13 @@
 -- `entry::inner::joined` meets its contract: where the `or` is below 2^48 each place passed is in form, so that only
 -- the rest is asked.
-use borrow.Author.Needs.{needs}
-use Prim.Native.Nat.{ℕ, _+_, _-_, _≤_, _<_, suc}
-use mathlib.Core.Path.{_≡_, ap, _∙_}
-use mathlib.Core.Bool.{true}
-use mathlib.Core.List.{List, _∷_}
-use native.Mathlib.Omega.{arith}
-use native.Mathlib.Numerals.{add-one}
+use Rattle.words.proofs.Prelude.{needs, arith, now, _≡_, ap, _∙_, ℕ, suc, _+_, _-_, _≤_, _<_, add-one, true, List, _∷_}
+use Rattle.words.proofs.Prelude.{drop-of-length-le, length, drop}
 use lib.Bits.{or-add-and, and-le-l, and-le-r}
-use lib.ListN.{length, drop, drop-of-length-le}
-use denote.Ref.{now}
 use Rattle.words.specs.All.{allOf}
-use Rattle.words.proofs.Alls.{all-cons}
-use Rattle.words.proofs.CodedLaws.{entries-length}
-use Rattle.entry.specs.Limits.{places}
-use Rattle.entry.specs.Change.{Change, changeCode, changeFormed, entriesFormed, entriesOf}
-use Rattle.entry.specs.Inner.{changeAt}
-use Rattle.entry.proofs.ChangeLaws.{entry-cons}
-use Rattle.entry.proofs.inner.joined.Statement.{statement}
+use Rattle.words.proofs.{Alls.all-cons, CodedLaws.entries-length}
+use Rattle.entry.specs.{Limits.places, Change.Change, Change.changeCode, Change.changeFormed}
+use Rattle.entry.specs.{Change.entriesFormed, Change.entriesOf, Inner.changeAt}
+use Rattle.entry.proofs.{ChangeLaws.entry-cons, inner.joined.Statement.statement}
 use Rattle.entry.proofs.inner.joined.Tie as tie
 
 abbrev Inv-loop : tie.InvT-loop

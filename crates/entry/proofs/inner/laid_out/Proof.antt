@@ -1,10 +1,6 @@
 -- `entry::inner::laid_out` meets its contract: each return takes the tests as far as it came.
-use Prim.Native.Nat.{_*_, _≤_, _<_}
-use native.Mathlib.Omega.{arith}
-use borrow.Author.Tests.{eq-eqb, ne-eqb, le-leb, lt-leb}
-use Rattle.entry.specs.Limits.{width}
-use Rattle.entry.specs.Change.{storedIn}
-use borrow.Author.Needs.{needs}
+use Rattle.words.proofs.Prelude.{needs, arith, _*_, _≤_, _<_, eq-eqb, ne-eqb, le-leb, lt-leb}
+use Rattle.entry.specs.{Limits.width, Change.storedIn}
 use Rattle.entry.proofs.inner.laid_out.Statement.{statement}
 use Rattle.entry.proofs.inner.laid_out.Tie as tie
 

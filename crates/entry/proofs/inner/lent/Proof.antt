@@ -1,6 +1,6 @@
 -- `entry::inner::lent` meets its contract: by what is said, and by whether a place is in form.
 use Rattle.entry.proofs.ChangeLaws.{lent-removed, lent-place, lent-none}
-use borrow.Author.Needs.{needs}
+use Rattle.words.proofs.Prelude.{needs}
 use Rattle.entry.proofs.inner.lent.Statement.{statement}
 use Rattle.entry.proofs.inner.lent.Tie as tie
 

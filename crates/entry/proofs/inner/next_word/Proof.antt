@@ -1,12 +1,7 @@
 -- `entry::inner::next_word` meets its contract: a removed place is in form, and another where it is below 2^48.
-use mathlib.Core.Path.{sym, ap, _∙_}
-use mathlib.Core.Bool.{Bool, _||_}
-use native.Mathlib.Omega.{arith}
-use borrow.Author.Tests.{eq-eqb, ne-eqb, lt-ltb}
-use lib.Dec.{ltb}
+use Rattle.words.proofs.Prelude.{arith, sym, ap, _∙_, Bool, _||_, ltb, eq-eqb, ne-eqb, lt-ltb}
 use Rattle.entry.specs.Limits.{places, lastWord}
-use Rattle.entry.proofs.ChangeLaws.{said-formed}
-use Rattle.entry.proofs.inner.next_word.Statement.{statement}
+use Rattle.entry.proofs.{ChangeLaws.said-formed, inner.next_word.Statement.statement}
 use Rattle.entry.proofs.inner.next_word.Tie as tie
 
 returns : tie.Need-returns

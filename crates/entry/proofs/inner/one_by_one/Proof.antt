@@ -1,17 +1,9 @@
 -- `entry::inner::one_by_one` meets its contract: the entries passed and those that are left are together what is asked.
-use borrow.Author.Needs.{needs}
-use Prim.Native.Nat.{_+_, _-_, _≤_}
-use mathlib.Core.Path.{_≡_, refl, ap, _∙_}
-use mathlib.Core.Bool.{Bool, _&&_}
-use native.Mathlib.Omega.{arith}
-use lib.ListN.{drop}
-use denote.Ref.{now}
-use Rattle.words.proofs.Alls.{all-turn, all-end}
-use Rattle.words.proofs.CodedLaws.{entries-length}
+use Rattle.words.proofs.Prelude.{needs, arith, now, _≡_, refl, ap, _∙_, _+_, _-_, _≤_, Bool, _&&_, drop}
+use Rattle.words.proofs.{Alls.all-turn, Alls.all-end, CodedLaws.entries-length}
 use Rattle.entry.specs.Change.{changeCode, changeFormed, entriesFormed, entriesOf}
 use Rattle.entry.specs.Inner.{changeAt}
-use Rattle.entry.proofs.ChangeLaws.{entry-cons}
-use Rattle.entry.proofs.inner.one_by_one.Statement.{statement}
+use Rattle.entry.proofs.{ChangeLaws.entry-cons, inner.one_by_one.Statement.statement}
 use Rattle.entry.proofs.inner.one_by_one.Tie as tie
 
 abbrev Inv-loop : tie.InvT-loop

@@ -1,6 +1,5 @@
 -- `entry::inner::places_formed` meets its contract: by the `or`, or one by one.
-use mathlib.Core.Path.{sym}
-use borrow.Author.Needs.{needs}
+use Rattle.words.proofs.Prelude.{needs, sym}
 use Rattle.entry.proofs.inner.places_formed.Statement.{statement}
 use Rattle.entry.proofs.inner.places_formed.Tie as tie
 

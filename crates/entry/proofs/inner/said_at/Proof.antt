@@ -1,6 +1,5 @@
 -- `entry::inner::said_at` meets its contract: a word is the removed one or a place.
-use borrow.Author.Tests.{eq-eqb, ne-eqb}
-use borrow.Author.Needs.{needs}
+use Rattle.words.proofs.Prelude.{needs, eq-eqb, ne-eqb}
 use Rattle.entry.proofs.inner.said_at.Statement.{statement}
 use Rattle.entry.proofs.inner.said_at.Tie as tie
 

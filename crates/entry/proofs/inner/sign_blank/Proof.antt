@@ -1,11 +1,7 @@
 -- `entry::inner::sign_blank` meets its contract: each callee says its own test; the arrays' lengths are known by their
 -- types.
-use mathlib.Core.Path.{_≡_}
-use lib.ListN.{length}
-use borrow.Author.Tests.{eq-eqb}
-use Rattle.entry.specs.Limits.{mostNodes, mostMetadata}
-use Rattle.entry.specs.Sign.{blank, signBlank}
-use borrow.Author.Needs.{needs}
+use Rattle.words.proofs.Prelude.{needs, _≡_, eq-eqb, length}
+use Rattle.entry.specs.{Limits.mostNodes, Limits.mostMetadata, Sign.blank, Sign.signBlank}
 use Rattle.entry.proofs.inner.sign_blank.Statement.{statement}
 use Rattle.entry.proofs.inner.sign_blank.Tie as tie
 

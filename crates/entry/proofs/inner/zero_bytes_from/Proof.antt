@@ -1,11 +1,6 @@
 -- `entry::inner::zero_bytes_from` meets its contract: the bytes passed and those that are left are together what is
 -- asked.
-use native.Mathlib.Omega.{arith}
-use Prim.Native.Nat.{_-_}
-use mathlib.Core.Path.{_≡_, refl}
-use mathlib.Core.Bool.{_&&_}
-use lib.Dec.{eqb}
-use lib.ListN.{length, drop}
+use Rattle.words.proofs.Prelude.{arith, _≡_, refl, _-_, _&&_, eqb, length, drop}
 use Rattle.words.specs.Words.{allZero}
 use Rattle.words.proofs.Alls.{zero-turn, all-end}
 use Rattle.entry.proofs.inner.zero_bytes_from.Statement.{statement}

@@ -1,7 +1,6 @@
-use mathlib.Core.Path.{sym, ap, _∙_}
+use Rattle.words.proofs.Prelude.{needs, sym, ap, _∙_}
 use Rattle.internal_storage.specs.Replies.{maybeIndexSaid}
 use Rattle.host.specs.Plain.{plain, maybeNumber}
-use borrow.Author.Needs.{needs}
 use Rattle.host.proofs.answers.accepted_idx_said.Statement.{statement}
 use Rattle.host.proofs.answers.accepted_idx_said.Tie as tie
 

@@ -1,7 +1,6 @@
-use mathlib.Core.Path.{sym, ap, _∙_}
+use Rattle.words.proofs.Prelude.{needs, sym, ap, _∙_}
 use Rattle.snapshot.specs.Calls.{folded}
 use Rattle.host.specs.Plain.{plain, aNumber}
-use borrow.Author.Needs.{needs}
 use Rattle.host.proofs.answers.folded_said.Statement.{statement}
 use Rattle.host.proofs.answers.folded_said.Tie as tie
 

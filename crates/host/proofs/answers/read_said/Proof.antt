@@ -1,5 +1,5 @@
 use Rattle.state_cache.specs.State.{Raw}
-use borrow.Author.Needs.{needs}
+use Rattle.words.proofs.Prelude.{needs}
 use Rattle.host.proofs.answers.read_said.Statement.{statement}
 use Rattle.host.proofs.answers.read_said.Tie as tie
 

@@ -1,4 +1,4 @@
-use borrow.Author.Needs.{needs}
+use Rattle.words.proofs.Prelude.{needs}
 use Rattle.host.proofs.answers.refuse.Statement.{statement}
 use Rattle.host.proofs.answers.refuse.Tie as tie
 

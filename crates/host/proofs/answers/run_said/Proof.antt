@@ -1,6 +1,6 @@
 use Rattle.words.proofs.CodedLaws.{entries-length}
 use Rattle.state_cache.specs.State.{Raw}
-use borrow.Author.Needs.{needs}
+use Rattle.words.proofs.Prelude.{needs}
 use Rattle.host.proofs.answers.run_said.Statement.{statement}
 use Rattle.host.proofs.answers.run_said.Tie as tie
 

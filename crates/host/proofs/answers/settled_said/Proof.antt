@@ -1,7 +1,6 @@
-use mathlib.Core.Path.{sym, ap, _∙_}
+use Rattle.words.proofs.Prelude.{needs, sym, ap, _∙_}
 use Rattle.state_cache.specs.Run.{settled}
 use Rattle.host.specs.Plain.{plain, nothing}
-use borrow.Author.Needs.{needs}
 use Rattle.host.proofs.answers.settled_said.Statement.{statement}
 use Rattle.host.proofs.answers.settled_said.Tie as tie
 

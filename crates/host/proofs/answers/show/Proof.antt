@@ -1,4 +1,4 @@
-use mathlib.Core.Path.{sym}
+use Rattle.words.proofs.Prelude.{sym}
 use Rattle.state_cache.specs.State.{Raw}
 use Rattle.state_cache.proofs.Stands.{given-by}
 use Rattle.reading.proofs.Showing.{lent-count}

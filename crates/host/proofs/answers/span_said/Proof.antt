@@ -1,7 +1,5 @@
-use Prim.Native.Nat.{ℕ}
-use mathlib.Core.List.{List}
+use Rattle.words.proofs.Prelude.{needs, ℕ, List}
 use Rattle.words.proofs.CodedLaws.{entries-length}
-use borrow.Author.Needs.{needs}
 use Rattle.host.proofs.answers.span_said.Statement.{statement}
 use Rattle.host.proofs.answers.span_said.Tie as tie
 

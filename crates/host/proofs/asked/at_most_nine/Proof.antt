@@ -1,6 +1,4 @@
-use mathlib.Core.Path.{refl}
-use borrow.Author.Tests.{lt-ltb, le-ltb}
-use native.Mathlib.Omega.{arith}
+use Rattle.words.proofs.Prelude.{arith, refl, lt-ltb, le-ltb}
 use Rattle.host.proofs.asked.at_most_nine.Statement.{statement}
 use Rattle.host.proofs.asked.at_most_nine.Tie as tie
 

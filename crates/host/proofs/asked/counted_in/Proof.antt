@@ -1,4 +1,4 @@
-use borrow.Author.Needs.{needs}
+use Rattle.words.proofs.Prelude.{needs}
 use Rattle.host.proofs.asked.counted_in.Statement.{statement}
 use Rattle.host.proofs.asked.counted_in.Tie as tie
 

@@ -1,4 +1,4 @@
-use borrow.Author.Tests.{eq-eqb, ne-eqb}
+use Rattle.words.proofs.Prelude.{eq-eqb, ne-eqb}
 use Rattle.host.proofs.asked.end_of.Statement.{statement}
 use Rattle.host.proofs.asked.end_of.Tie as tie
 

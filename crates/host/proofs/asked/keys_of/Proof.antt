@@ -1,5 +1,4 @@
-use mathlib.Core.Path.{sym}
-use borrow.Author.Tests.{lt-ltb, le-ltb}
+use Rattle.words.proofs.Prelude.{sym, lt-ltb, le-ltb}
 use Rattle.host.proofs.asked.keys_of.Statement.{statement}
 use Rattle.host.proofs.asked.keys_of.Tie as tie
 

@@ -1,5 +1,4 @@
-use mathlib.Core.Path.{sym, ap}
-use borrow.Author.Tests.{ne-eqb}
+use Rattle.words.proofs.Prelude.{sym, ap, ne-eqb}
 use Rattle.host.specs.Requests.{kindAt}
 use Rattle.host.proofs.asked.kind_of.Statement.{statement}
 use Rattle.host.proofs.asked.kind_of.Tie as tie

@@ -1,5 +1,4 @@
-use mathlib.Core.Path.{sym}
-use borrow.Author.Tests.{eq-eqb, ne-eqb}
+use Rattle.words.proofs.Prelude.{sym, eq-eqb, ne-eqb}
 use Rattle.host.specs.Requests.{typeAt}
 use Rattle.host.proofs.asked.type_of.Statement.{statement}
 use Rattle.host.proofs.asked.type_of.Tie as tie

@@ -1,4 +1,4 @@
-use borrow.Author.Needs.{needs}
+use Rattle.words.proofs.Prelude.{needs}
 use Rattle.host.proofs.forms.kotuseraw_ballot_cmp.Statement.{statement}
 use Rattle.host.proofs.forms.kotuseraw_ballot_cmp.Tie as tie
 

@@ -1,11 +1,8 @@
-use mathlib.Core.Path.{ap, _∙_}
-use denote.Ref.{now}
+use Rattle.words.proofs.Prelude.{needs, now, ap, _∙_}
 use Rattle.model.specs.Numbers.{logDecided}
 use Rattle.state_cache.specs.State.{raw}
-use Rattle.state_cache.proofs.Small.{sound-small}
-use Rattle.state_cache.proofs.Runs.{asked-of}
+use Rattle.state_cache.proofs.{Small.sound-small, Runs.asked-of}
 use Rattle.host.specs.Plain.{plain, aNumber}
-use borrow.Author.Needs.{needs}
 use Rattle.host.proofs.inner.kotuseraw_inner_get_decided_idx_without_stopsign.Statement.{statement}
 use Rattle.host.proofs.inner.kotuseraw_inner_get_decided_idx_without_stopsign.Tie as tie
 

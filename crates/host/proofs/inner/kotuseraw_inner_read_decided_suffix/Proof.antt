@@ -1,4 +1,4 @@
-use borrow.Author.Needs.{needs}
+use Rattle.words.proofs.Prelude.{needs}
 use Rattle.host.proofs.inner.kotuseraw_inner_read_decided_suffix.Statement.{statement}
 use Rattle.host.proofs.inner.kotuseraw_inner_read_decided_suffix.Tie as tie
 

@@ -1,7 +1,6 @@
-use Rattle.host.proofs.Carry.{carry}
+use Rattle.host.proofs.{Carry.carry, inner.kotuseraw_inner_set_promise.Statement.statement}
 use Rattle.host.specs.Plain.{nothing}
-use borrow.Author.Needs.{needs}
-use Rattle.host.proofs.inner.kotuseraw_inner_set_promise.Statement.{statement}
+use Rattle.words.proofs.Prelude.{needs}
 use Rattle.host.proofs.inner.kotuseraw_inner_set_promise.Tie as tie
 
 returns : tie.Need-returns

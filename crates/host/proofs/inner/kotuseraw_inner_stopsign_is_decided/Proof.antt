@@ -1,11 +1,8 @@
-use mathlib.Core.Path.{ap, _∙_}
-use denote.Ref.{now}
+use Rattle.words.proofs.Prelude.{needs, now, ap, _∙_}
 use Rattle.model.specs.Numbers.{stopDecided}
 use Rattle.state_cache.specs.State.{raw}
-use Rattle.state_cache.proofs.Small.{sound-small}
-use Rattle.state_cache.proofs.Runs.{asked-of}
+use Rattle.state_cache.proofs.{Small.sound-small, Runs.asked-of}
 use Rattle.host.specs.Plain.{plain, aFlag}
-use borrow.Author.Needs.{needs}
 use Rattle.host.proofs.inner.kotuseraw_inner_stopsign_is_decided.Statement.{statement}
 use Rattle.host.proofs.inner.kotuseraw_inner_stopsign_is_decided.Tie as tie
 

@@ -1,18 +1,9 @@
-use mathlib.Core.Path.{ap, _∙_}
-use mathlib.Core.List.{List, map}
-use Prim.Native.Nat.{ℕ}
-use lib.ListN.{take}
-use denote.Ref.{now}
+use Rattle.words.proofs.Prelude.{needs, now, ap, _∙_, ℕ, List, map, take}
 use Rattle.model.specs.Calls.{write}
-use Rattle.state_cache.specs.State.{raw}
-use Rattle.state_cache.specs.Run.{Outcome, run}
-use Rattle.backend.specs.Ops.{opOf, lentOf, wholeLent}
-use Rattle.backend.specs.declared.Op.{Op}
-use Rattle.host.proofs.Carry.{carry}
-use Rattle.host.specs.Plain.{nothing}
-use Rattle.host.specs.Requests.{countAt}
-use borrow.Author.Needs.{needs}
-use Rattle.host.proofs.lists.kotuseraw_write_atomically.Statement.{statement}
+use Rattle.state_cache.specs.{State.raw, Run.Outcome, Run.run}
+use Rattle.backend.specs.{Ops.opOf, Ops.lentOf, Ops.wholeLent, declared.Op.Op}
+use Rattle.host.proofs.{Carry.carry, lists.kotuseraw_write_atomically.Statement.statement}
+use Rattle.host.specs.{Plain.nothing, Requests.countAt}
 use Rattle.host.proofs.lists.kotuseraw_write_atomically.Tie as tie
 
 returns : tie.Need-returns

@@ -1,14 +1,9 @@
-use mathlib.Core.Path.{ap, _∙_}
-use denote.Ref.{now}
+use Rattle.words.proofs.Prelude.{needs, now, ap, _∙_}
 use Rattle.model.specs.Calls.{write}
-use Rattle.state_cache.specs.State.{raw}
-use Rattle.state_cache.specs.Run.{run}
-use Rattle.backend.specs.Ops.{opsIn, lentOf, wholeList}
-use Rattle.backend.specs.declared.OpList.{OpList}
-use Rattle.host.proofs.Carry.{carry}
+use Rattle.state_cache.specs.{State.raw, Run.run}
+use Rattle.backend.specs.{Ops.opsIn, Ops.lentOf, Ops.wholeList, declared.OpList.OpList}
+use Rattle.host.proofs.{Carry.carry, lists.kotuseraw_write_list.Statement.statement}
 use Rattle.host.specs.Plain.{nothing}
-use borrow.Author.Needs.{needs}
-use Rattle.host.proofs.lists.kotuseraw_write_list.Statement.{statement}
 use Rattle.host.proofs.lists.kotuseraw_write_list.Tie as tie
 
 returns : tie.Need-returns

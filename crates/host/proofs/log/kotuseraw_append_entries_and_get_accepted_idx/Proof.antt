@@ -1,6 +1,6 @@
 use Rattle.host.proofs.Carry.{carry}
 use Rattle.host.specs.Plain.{maybeNumber}
-use borrow.Author.Needs.{needs}
+use Rattle.words.proofs.Prelude.{needs}
 use Rattle.host.proofs.log.kotuseraw_append_entries_and_get_accepted_idx.Statement.{
   statement,
 }

@@ -1,15 +1,9 @@
-use mathlib.Core.Path.{ap, _∙_}
-use mathlib.Core.List.{[], _∷_}
-use mathlib.Core.Bool.{true}
-use denote.Ref.{now}
+use Rattle.words.proofs.Prelude.{needs, now, ap, _∙_, true, [], _∷_}
 use Rattle.entry.specs.Change.{Said}
 use Rattle.model.specs.Calls.{append}
-use Rattle.state_cache.specs.State.{raw}
-use Rattle.state_cache.specs.Run.{run}
-use Rattle.host.proofs.Carry.{carry}
+use Rattle.state_cache.specs.{State.raw, Run.run}
+use Rattle.host.proofs.{Carry.carry, log.kotuseraw_append_entry_with_batching.Statement.statement}
 use Rattle.host.specs.Plain.{maybeFlushed}
-use borrow.Author.Needs.{needs}
-use Rattle.host.proofs.log.kotuseraw_append_entry_with_batching.Statement.{statement}
 use Rattle.host.proofs.log.kotuseraw_append_entry_with_batching.Tie as tie
 
 returns : tie.Need-returns

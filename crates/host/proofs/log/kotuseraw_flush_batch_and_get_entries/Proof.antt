@@ -1,7 +1,6 @@
-use Rattle.host.proofs.Carry.{carry}
+use Rattle.host.proofs.{Carry.carry, log.kotuseraw_flush_batch_and_get_entries.Statement.statement}
 use Rattle.host.specs.Plain.{maybeFlushed}
-use borrow.Author.Needs.{needs}
-use Rattle.host.proofs.log.kotuseraw_flush_batch_and_get_entries.Statement.{statement}
+use Rattle.words.proofs.Prelude.{needs}
 use Rattle.host.proofs.log.kotuseraw_flush_batch_and_get_entries.Tie as tie
 
 returns : tie.Need-returns

@@ -1,14 +1,9 @@
-use mathlib.Core.Path.{ap, _∙_}
-use denote.Ref.{now}
+use Rattle.words.proofs.Prelude.{needs, now, ap, _∙_}
 use Rattle.model.specs.Calls.{sync}
-use Rattle.state_cache.specs.State.{raw}
-use Rattle.state_cache.specs.Run.{run}
-use Rattle.sync.specs.Requests.{partOf, lentWhole}
-use Rattle.sync.specs.declared.LogSync.{LogSync}
-use Rattle.host.proofs.Carry.{carry}
+use Rattle.state_cache.specs.{State.raw, Run.run}
+use Rattle.sync.specs.{Requests.partOf, Requests.lentWhole, declared.LogSync.LogSync}
+use Rattle.host.proofs.{Carry.carry, log.kotuseraw_sync_log.Statement.statement}
 use Rattle.host.specs.Plain.{aNumber}
-use borrow.Author.Needs.{needs}
-use Rattle.host.proofs.log.kotuseraw_sync_log.Statement.{statement}
 use Rattle.host.proofs.log.kotuseraw_sync_log.Tie as tie
 
 returns : tie.Need-returns

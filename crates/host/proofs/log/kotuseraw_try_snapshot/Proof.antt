@@ -1,15 +1,8 @@
-use Prim.Native.Nat.{ℕ}
-use mathlib.Core.Path.{ap, _∙_}
-use mathlib.Core.Option.{Option}
-use mathlib.Core.Bool.{true}
-use denote.Ref.{now}
+use Rattle.words.proofs.Prelude.{needs, now, ap, _∙_, ℕ, true, Option}
 use Rattle.model.specs.Calls.{snapshot}
-use Rattle.state_cache.specs.State.{raw}
-use Rattle.state_cache.specs.Run.{run}
-use Rattle.host.proofs.Carry.{carry}
+use Rattle.state_cache.specs.{State.raw, Run.run}
+use Rattle.host.proofs.{Carry.carry, log.kotuseraw_try_snapshot.Statement.statement}
 use Rattle.host.specs.Plain.{nothing}
-use borrow.Author.Needs.{needs}
-use Rattle.host.proofs.log.kotuseraw_try_snapshot.Statement.{statement}
 use Rattle.host.proofs.log.kotuseraw_try_snapshot.Tie as tie
 
 returns : tie.Need-returns

@@ -1,7 +1,6 @@
-use Rattle.host.proofs.Carry.{carry}
+use Rattle.host.proofs.{Carry.carry, log.kotuseraw_try_trim.Statement.statement}
 use Rattle.host.specs.Plain.{nothing}
-use borrow.Author.Needs.{needs}
-use Rattle.host.proofs.log.kotuseraw_try_trim.Statement.{statement}
+use Rattle.words.proofs.Prelude.{needs}
 use Rattle.host.proofs.log.kotuseraw_try_trim.Tie as tie
 
 returns : tie.Need-returns

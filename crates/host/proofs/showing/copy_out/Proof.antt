@@ -1,9 +1,5 @@
-use mathlib.Core.Path.{sym, ap}
-use borrow.Author.Tests.{le-leb, lt-leb}
-use lib.ListN.{length}
-use denote.Ref.{now}
+use Rattle.words.proofs.Prelude.{needs, now, sym, ap, le-leb, lt-leb, length}
 use Rattle.host.specs.Reads.{copied}
-use borrow.Author.Needs.{needs}
 use Rattle.host.proofs.showing.copy_out.Statement.{statement}
 use Rattle.host.proofs.showing.copy_out.Tie as tie
 

@@ -1,9 +1,5 @@
-use Prim.Native.Nat.{ℕ}
-use mathlib.Core.Path.{ap, _∙_}
-use mathlib.Core.List.{List}
-use denote.Ref.{now}
+use Rattle.words.proofs.Prelude.{needs, now, ap, _∙_, ℕ, List}
 use Rattle.host.specs.Reads.{copiedOut}
-use borrow.Author.Needs.{needs}
 use Rattle.host.proofs.showing.kotuseraw_entries_of.Statement.{statement}
 use Rattle.host.proofs.showing.kotuseraw_entries_of.Tie as tie
 

@@ -1,11 +1,7 @@
-use Prim.Native.Nat.{ℕ}
-use mathlib.Core.Path.{ap, _∙_}
-use mathlib.Core.List.{List}
-use denote.Ref.{now}
+use Rattle.words.proofs.Prelude.{needs, now, ap, _∙_, ℕ, List}
 use Rattle.model.specs.Log.{freshLog}
 use Rattle.state_cache.specs.State.{rawOf}
 use Rattle.host.specs.Reads.{copiedOut}
-use borrow.Author.Needs.{needs}
 use Rattle.host.proofs.showing.kotuseraw_entries_shown.Statement.{statement}
 use Rattle.host.proofs.showing.kotuseraw_entries_shown.Tie as tie
 

@@ -1,4 +1,4 @@
-use borrow.Author.Needs.{needs}
+use Rattle.words.proofs.Prelude.{needs}
 use Rattle.host.proofs.showing.kotuseraw_get_entries.Statement.{statement}
 use Rattle.host.proofs.showing.kotuseraw_get_entries.Tie as tie
 

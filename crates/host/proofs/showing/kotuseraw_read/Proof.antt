@@ -1,6 +1,5 @@
-use denote.Ref.{now}
+use Rattle.words.proofs.Prelude.{needs, now}
 use Rattle.state_cache.specs.State.{raw}
-use borrow.Author.Needs.{needs}
 use Rattle.host.proofs.showing.kotuseraw_read.Statement.{statement}
 use Rattle.host.proofs.showing.kotuseraw_read.Tie as tie
 

@@ -1,15 +1,8 @@
-use Prim.Native.Nat.{ℕ}
-use mathlib.Core.Path.{ap, ap₂, _∙_}
-use mathlib.Core.Bool.{true}
-use mathlib.Core.List.{List}
-use denote.Ref.{now}
-use Rattle.model.specs.Read.{Bound}
-use Rattle.model.specs.Calls.{query, read}
-use Rattle.state_cache.specs.State.{raw}
-use Rattle.state_cache.specs.Run.{run}
+use Rattle.words.proofs.Prelude.{needs, now, ap, ap₂, _∙_, ℕ, true, List}
+use Rattle.model.specs.{Read.Bound, Calls.query, Calls.read}
+use Rattle.state_cache.specs.{State.raw, Run.run}
 use Rattle.reading.specs.Replies.{partShown}
 use Rattle.host.specs.Reads.{copiedOut}
-use borrow.Author.Needs.{needs}
 use Rattle.host.proofs.showing.kotuseraw_read_entries.Statement.{statement}
 use Rattle.host.proofs.showing.kotuseraw_read_entries.Tie as tie
 

@@ -1,7 +1,4 @@
-use Prim.Native.Nat.{ℕ}
-use mathlib.Core.Path.{sym}
-use mathlib.Core.List.{List}
-use borrow.Author.Tests.{eq-eqb, ne-eqb}
+use Rattle.words.proofs.Prelude.{sym, ℕ, eq-eqb, ne-eqb, List}
 use Rattle.words.proofs.CodedLaws.{entries-length}
 use Rattle.state_cache.specs.State.{Raw}
 use Rattle.host.proofs.showing.reply_of.Statement.{statement}

@@ -1,6 +1,5 @@
-use mathlib.Core.Path.{ap, _∙_}
+use Rattle.words.proofs.Prelude.{needs, ap, _∙_}
 use Rattle.host.specs.Plain.{plain, aDiff}
-use borrow.Author.Needs.{needs}
 use Rattle.host.proofs.snapshots.kotuseraw_create_diff_snapshot.Statement.{statement}
 use Rattle.host.proofs.snapshots.kotuseraw_create_diff_snapshot.Tie as tie
 

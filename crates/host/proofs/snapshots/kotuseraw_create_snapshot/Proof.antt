@@ -1,6 +1,5 @@
-use Rattle.host.proofs.Carry.{carry-out}
-use borrow.Author.Needs.{needs}
-use Rattle.host.proofs.snapshots.kotuseraw_create_snapshot.Statement.{statement}
+use Rattle.host.proofs.{Carry.carry-out, snapshots.kotuseraw_create_snapshot.Statement.statement}
+use Rattle.words.proofs.Prelude.{needs}
 use Rattle.host.proofs.snapshots.kotuseraw_create_snapshot.Tie as tie
 
 returns : tie.Need-returns

@@ -1,4 +1,4 @@
-use borrow.Author.Needs.{needs}
+use Rattle.words.proofs.Prelude.{needs}
 use Rattle.host.proofs.state.kotuseraw_get_accepted_idx.Statement.{statement}
 use Rattle.host.proofs.state.kotuseraw_get_accepted_idx.Tie as tie
 

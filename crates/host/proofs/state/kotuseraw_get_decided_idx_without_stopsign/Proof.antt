@@ -1,4 +1,4 @@
-use borrow.Author.Needs.{needs}
+use Rattle.words.proofs.Prelude.{needs}
 use Rattle.host.proofs.state.kotuseraw_get_decided_idx_without_stopsign.Statement.{
   statement,
 }

@@ -1,4 +1,4 @@
-use borrow.Author.Needs.{needs}
+use Rattle.words.proofs.Prelude.{needs}
 use Rattle.host.proofs.state.kotuseraw_stopsign_is_decided.Statement.{statement}
 use Rattle.host.proofs.state.kotuseraw_stopsign_is_decided.Tie as tie
 

@@ -1,15 +1,11 @@
 -- `internal_storage::append::append_entries_and_get_accepted_idx` meets its contract: refusal 12, or what the append to
 -- a well-formed log comes to.
-use mathlib.Core.Path.{ap, sym, _∙_}
-use borrow.Author.Tests.{not-true, not-false}
-use denote.Ref.{now}
+use Rattle.words.proofs.Prelude.{needs, now, sym, ap, _∙_, not-true, not-false}
 use Rattle.entry.specs.Change.{entriesIn, wholeIn}
 use Rattle.model.specs.Calls.{append}
 use Rattle.state_cache.specs.State.{raw}
-use Rattle.state_cache.proofs.Stands.{ready-of}
-use Rattle.state_cache.proofs.Runs.{ill-formed}
+use Rattle.state_cache.proofs.{Stands.ready-of, Runs.ill-formed}
 use Rattle.internal_storage.specs.Replies.{withIndexOnly}
-use borrow.Author.Needs.{needs}
 use Rattle.internal_storage.proofs.append.append_entries_and_get_accepted_idx.Statement.{statement}
 use Rattle.internal_storage.proofs.append.append_entries_and_get_accepted_idx.Tie as tie
 

@@ -1,14 +1,10 @@
 -- `internal_storage::append::append_entries_with_batching` meets its contract: refusal 12, or what the append to a
 -- well-formed log comes to.
-use mathlib.Core.Path.{sym, _∙_}
-use borrow.Author.Tests.{not-true, not-false}
-use denote.Ref.{now}
+use Rattle.words.proofs.Prelude.{needs, now, sym, _∙_, not-true, not-false}
 use Rattle.entry.specs.Change.{entriesIn, wholeIn}
 use Rattle.model.specs.Calls.{append}
 use Rattle.state_cache.specs.State.{raw}
-use Rattle.state_cache.proofs.Stands.{ready-of}
-use Rattle.state_cache.proofs.Runs.{ill-formed}
-use borrow.Author.Needs.{needs}
+use Rattle.state_cache.proofs.{Stands.ready-of, Runs.ill-formed}
 use Rattle.internal_storage.proofs.append.append_entries_with_batching.Statement.{statement}
 use Rattle.internal_storage.proofs.append.append_entries_with_batching.Tie as tie
 

@@ -1,16 +1,10 @@
 -- `internal_storage::append::append_entry_with_batching` meets its contract: refusal 12, or what the append to a
 -- well-formed log comes to.
-use mathlib.Core.Path.{sym, _∙_}
-use mathlib.Core.List.{[], _∷_}
-use mathlib.Core.Bool.{true}
-use borrow.Author.Tests.{not-true, not-false}
-use denote.Ref.{now}
+use Rattle.words.proofs.Prelude.{needs, now, sym, _∙_, true, not-true, not-false, [], _∷_}
 use Rattle.entry.specs.Change.{saidIs}
 use Rattle.model.specs.Calls.{append}
 use Rattle.state_cache.specs.State.{raw}
-use Rattle.state_cache.proofs.Stands.{ready-of}
-use Rattle.state_cache.proofs.Runs.{ill-formed}
-use borrow.Author.Needs.{needs}
+use Rattle.state_cache.proofs.{Stands.ready-of, Runs.ill-formed}
 use Rattle.internal_storage.proofs.append.append_entry_with_batching.Statement.{statement}
 use Rattle.internal_storage.proofs.append.append_entry_with_batching.Tie as tie
 

@@ -1,14 +1,9 @@
 -- `internal_storage::decide::set_promise` meets its contract: refusal 12, or what the call on a well-formed log comes
 -- to.
-use mathlib.Core.Path.{sym, _∙_}
-use mathlib.Core.Bool.{true}
-use borrow.Author.Tests.{not-true, not-false}
-use denote.Ref.{now}
+use Rattle.words.proofs.Prelude.{needs, now, sym, _∙_, true, not-true, not-false}
 use Rattle.model.specs.Calls.{setPromise}
 use Rattle.state_cache.specs.State.{raw}
-use Rattle.state_cache.proofs.Stands.{ready-of}
-use Rattle.state_cache.proofs.Runs.{ill-formed}
-use borrow.Author.Needs.{needs}
+use Rattle.state_cache.proofs.{Stands.ready-of, Runs.ill-formed}
 use Rattle.internal_storage.proofs.decide.set_promise.Statement.{statement}
 use Rattle.internal_storage.proofs.decide.set_promise.Tie as tie
 

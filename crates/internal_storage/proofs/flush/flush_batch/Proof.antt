@@ -1,14 +1,9 @@
 -- `internal_storage::flush::flush_batch` meets its contract: refusal 12, or what the flush of a well-formed log comes
 -- to.
-use mathlib.Core.Path.{sym, _∙_}
-use mathlib.Core.Bool.{true}
-use borrow.Author.Tests.{not-true, not-false}
-use denote.Ref.{now}
+use Rattle.words.proofs.Prelude.{needs, now, sym, _∙_, true, not-true, not-false}
 use Rattle.model.specs.Calls.{flush}
 use Rattle.state_cache.specs.State.{raw}
-use Rattle.state_cache.proofs.Stands.{ready-of}
-use Rattle.state_cache.proofs.Runs.{ill-formed}
-use borrow.Author.Needs.{needs}
+use Rattle.state_cache.proofs.{Stands.ready-of, Runs.ill-formed}
 use Rattle.internal_storage.proofs.flush.flush_batch.Statement.{statement}
 use Rattle.internal_storage.proofs.flush.flush_batch.Tie as tie
 

@@ -1,15 +1,10 @@
 -- `internal_storage::inner::append_at` meets its contract: the first refusal, or the entries put after the batch.
-use Prim.Native.Nat.{_+_, _≤_}
-use mathlib.Core.Path.{_≡_, sym, ap, _∙_}
-use native.Mathlib.Omega.{arith}
-use denote.Ref.{now}
-use Rattle.entry.specs.Limits.{entryRoom}
-use Rattle.entry.specs.Guards.{passes, first}
+use Rattle.words.proofs.Prelude.{needs, arith, now, _≡_, sym, ap, _∙_, _+_, _≤_}
+use Rattle.entry.specs.{Limits.entryRoom, Guards.passes, Guards.first}
 use Rattle.model.specs.Append.{appendGuards}
 use Rattle.state_cache.specs.State.{Raw, raw, numbersIn}
 use Rattle.internal_storage.specs.Inner.{verdictOf}
 use Rattle.internal_storage.proofs.Effects.{append-run, append-refused, append-room}
-use borrow.Author.Needs.{needs}
 use Rattle.internal_storage.proofs.inner.append_at.Statement.{statement}
 use Rattle.internal_storage.proofs.inner.append_at.Tie as tie
 

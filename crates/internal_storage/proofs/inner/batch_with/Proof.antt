@@ -1,6 +1,5 @@
 -- `internal_storage::inner::batch_with` meets its contract: by whether the batch is flushed.
-use native.Mathlib.Omega.{arith}
-use borrow.Author.Tests.{le-leb, lt-leb}
+use Rattle.words.proofs.Prelude.{arith, le-leb, lt-leb}
 use Rattle.state_cache.proofs.Small.{sound-small}
 use Rattle.internal_storage.specs.Inner.{batchedWith}
 use Rattle.internal_storage.proofs.inner.batch_with.Statement.{statement}

@@ -1,13 +1,8 @@
 -- `internal_storage::inner::check_append` meets its contract: each return takes the tests as far as it came.
-use Prim.Native.Nat.{_+_, _≤_, _<_}
-use mathlib.Core.Path.{refl}
-use native.Mathlib.Omega.{arith}
-use borrow.Author.Tests.{lt-ltb, le-ltb}
-use Rattle.entry.specs.Guards.{passes, refuses}
-use Rattle.entry.specs.Limits.{entryRoom, lastIndex}
+use Rattle.words.proofs.Prelude.{arith, refl, _+_, _≤_, _<_, lt-ltb, le-ltb}
+use Rattle.entry.specs.{Guards.passes, Guards.refuses, Limits.entryRoom, Limits.lastIndex}
 use Rattle.entry.proofs.GuardLaws.{clear-all, passing, stopping, found}
-use Rattle.model.specs.Numbers.{acceptedOf}
-use Rattle.model.specs.Append.{appendGuards}
+use Rattle.model.specs.{Numbers.acceptedOf, Append.appendGuards}
 use Rattle.state_cache.specs.State.{numbersIn}
 use Rattle.state_cache.proofs.Small.{sound-small}
 use Rattle.internal_storage.proofs.inner.check_append.Statement.{statement}

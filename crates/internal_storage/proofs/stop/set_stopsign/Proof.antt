@@ -1,15 +1,10 @@
 -- `internal_storage::stop::set_stopsign` meets its contract: refusal 12, or what the call on a well-formed log comes
 -- to.
-use mathlib.Core.Path.{sym, _∙_}
-use mathlib.Core.Bool.{true}
-use borrow.Author.Tests.{not-true, not-false}
-use denote.Ref.{now}
+use Rattle.words.proofs.Prelude.{needs, now, sym, _∙_, true, not-true, not-false}
 use Rattle.model.specs.Calls.{setStop}
 use Rattle.state_cache.specs.State.{raw}
-use Rattle.state_cache.proofs.Stands.{ready-of}
-use Rattle.state_cache.proofs.Runs.{ill-formed}
+use Rattle.state_cache.proofs.{Stands.ready-of, Runs.ill-formed}
 use Rattle.internal_storage.specs.Replies.{asked}
-use borrow.Author.Needs.{needs}
 use Rattle.internal_storage.proofs.stop.set_stopsign.Statement.{statement}
 use Rattle.internal_storage.proofs.stop.set_stopsign.Tie as tie
 

@@ -1,9 +1,6 @@
 -- `reading::inner::between` meets its contract: one test, and the differences where it holds.
-use mathlib.Core.Bool.{true, false}
-use borrow.Author.Tests.{not-true, not-false}
-use Rattle.reading.proofs.Showing.{held, span-by}
-use borrow.Author.Needs.{needs}
-use Rattle.reading.proofs.inner.between.Statement.{statement}
+use Rattle.words.proofs.Prelude.{needs, true, false, not-true, not-false}
+use Rattle.reading.proofs.{Showing.held, Showing.span-by, inner.between.Statement.statement}
 use Rattle.reading.proofs.inner.between.Tie as tie
 
 returns : tie.Need-returns

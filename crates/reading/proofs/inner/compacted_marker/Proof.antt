@@ -1,5 +1,5 @@
 -- `reading::inner::compacted_marker` meets its contract: by whether a snapshot is held.
-use mathlib.Core.Path.{sym}
+use Rattle.words.proofs.Prelude.{sym}
 use Rattle.reading.proofs.inner.compacted_marker.Statement.{statement}
 use Rattle.reading.proofs.inner.compacted_marker.Tie as tie
 

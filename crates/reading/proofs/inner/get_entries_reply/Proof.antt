@@ -1,11 +1,9 @@
 -- `reading::inner::get_entries_reply` meets its contract: by the numbers.
-use mathlib.Core.Path.{ap, _∙_}
-use denote.Ref.{now}
+use Rattle.words.proofs.Prelude.{now, ap, _∙_}
 use Rattle.state_cache.specs.State.{raw}
 use Rattle.state_cache.proofs.Small.{sound-small}
 use Rattle.reading.specs.Replies.{spanSays}
-use Rattle.reading.proofs.Showing.{entries-answer}
-use Rattle.reading.proofs.inner.get_entries_reply.Statement.{statement}
+use Rattle.reading.proofs.{Showing.entries-answer, inner.get_entries_reply.Statement.statement}
 use Rattle.reading.proofs.inner.get_entries_reply.Tie as tie
 
 between-requires : tie.Need-between-requires

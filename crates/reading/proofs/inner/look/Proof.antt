@@ -1,18 +1,12 @@
 -- `reading::inner::look` meets its contract: what the newest entry of the key says, or what the snapshot does.
-use native.Mathlib.Omega.{arith}
-use Prim.Native.Nat.{_-_}
-use mathlib.Core.Path.{ap, _∙_}
-use mathlib.Core.Option.{some}
-use denote.Ref.{now}
-use Rattle.entry.specs.Change.{Said}
-use Rattle.entry.specs.Guards.{replied}
+use Rattle.words.proofs.Prelude.{needs, arith, now, ap, _∙_, _-_, some}
+use Rattle.entry.specs.{Change.Said, Guards.replied}
 use Rattle.snapshot.specs.Folds.{placeOf}
 use Rattle.state_cache.specs.State.{raw}
 use Rattle.state_cache.proofs.Small.{sound-small}
 use Rattle.reading.specs.Newest.{NewestIs}
 use Rattle.reading.specs.declared.inner.Newest.the-variants.{At, Nowhere}
 use Rattle.reading.proofs.Looking.{decided-low, look-inside, look-said, look-snapshot}
-use borrow.Author.Needs.{needs}
 use Rattle.reading.proofs.inner.look.Statement.{statement}
 use Rattle.reading.proofs.inner.look.Tie as tie
 

@@ -1,8 +1,6 @@
 -- `reading::inner::marker_of` meets its contract: by the kind.
-use mathlib.Core.Path.{sym, ap, _∙_}
-use Rattle.reading.specs.Inner.{markerAt}
-use Rattle.reading.specs.declared.inner.IndexEntry.{IndexEntry}
-use borrow.Author.Needs.{needs}
+use Rattle.words.proofs.Prelude.{needs, sym, ap, _∙_}
+use Rattle.reading.specs.{Inner.markerAt, declared.inner.IndexEntry.IndexEntry}
 use Rattle.reading.proofs.inner.marker_of.Statement.{statement}
 use Rattle.reading.proofs.inner.marker_of.Tie as tie
 

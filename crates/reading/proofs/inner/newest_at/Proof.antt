@@ -1,8 +1,5 @@
 -- `reading::inner::newest_at` meets its contract: the newest of all entries is that of those not yet looked at.
-use native.Mathlib.Omega.{arith}
-use Prim.Native.Nat.{ℕ, _-_}
-use mathlib.Core.Path.{refl}
-use denote.Ref.{now}
+use Rattle.words.proofs.Prelude.{arith, now, refl, ℕ, _-_}
 use Rattle.reading.proofs.Looking.{Left, newest-few, newest-found, newest-back}
 use Rattle.reading.proofs.inner.newest_at.Statement.{statement}
 use Rattle.reading.proofs.inner.newest_at.Tie as tie

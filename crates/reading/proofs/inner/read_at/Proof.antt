@@ -1,7 +1,5 @@
 -- `reading::inner::read_at` meets its contract: the kind of the last index decides.
-use Prim.Native.Nat.{_-_}
-use native.Mathlib.Omega.{arith}
-use mathlib.Core.Path.{ap, _∙_}
+use Rattle.words.proofs.Prelude.{needs, arith, ap, _∙_, _-_}
 use Rattle.model.specs.Numbers.{endOf}
 use Rattle.state_cache.specs.State.{numbersIn}
 use Rattle.state_cache.proofs.Small.{end-le}
@@ -10,7 +8,6 @@ use Rattle.reading.specs.declared.ReadReply.the-variants.{Run}
 use Rattle.reading.specs.declared.inner.IndexEntry.the-variants.{Compacted, Entry, StopSign}
 use Rattle.reading.specs.declared.inner.Kind.the-variants.{Nothing, Is}
 use Rattle.reading.proofs.Replying.{case-zero, case-marker, case-past}
-use borrow.Author.Needs.{needs}
 use Rattle.reading.proofs.inner.read_at.Statement.{statement}
 use Rattle.reading.proofs.inner.read_at.Tie as tie
 

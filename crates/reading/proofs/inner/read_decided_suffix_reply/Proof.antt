@@ -1,6 +1,5 @@
 -- `reading::inner::read_decided_suffix_reply` meets its contract: by the numbers.
-use mathlib.Core.Path.{ap, _∙_}
-use denote.Ref.{now}
+use Rattle.words.proofs.Prelude.{now, ap, _∙_}
 use Rattle.state_cache.specs.State.{raw}
 use Rattle.state_cache.proofs.Small.{sound-small}
 use Rattle.reading.specs.Replies.{readSaid}

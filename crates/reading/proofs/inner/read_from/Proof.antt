@@ -1,13 +1,9 @@
 -- `reading::inner::read_from` meets its contract: the kind of the first index decides.
-use mathlib.Core.Path.{ap, _∙_}
-use mathlib.Core.Bool.{true, false}
-use borrow.Author.Tests.{le-leb, lt-leb}
+use Rattle.words.proofs.Prelude.{needs, ap, _∙_, true, false, le-leb, lt-leb}
 use Rattle.state_cache.specs.State.{numbersIn}
-use Rattle.reading.specs.Inner.{kindIs, entryIs}
-use Rattle.reading.specs.declared.ReadReply.the-variants.{Run}
-use Rattle.reading.specs.declared.inner.Kind.the-variants.{Nothing, Is}
+use Rattle.reading.specs.{Inner.kindIs, Inner.entryIs, declared.ReadReply.the-variants.Run}
+use Rattle.reading.specs.{declared.inner.Kind.the-variants.Nothing, declared.inner.Kind.the-variants.Is}
 use Rattle.reading.proofs.Replying.{held-below, case-nothing, case-run}
-use borrow.Author.Needs.{needs}
 use Rattle.reading.proofs.inner.read_from.Statement.{statement}
 use Rattle.reading.proofs.inner.read_from.Tie as tie
 

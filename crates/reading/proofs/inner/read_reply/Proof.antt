@@ -1,17 +1,11 @@
 -- `reading::inner::read_reply` meets its contract: refusal 11, then by the numbers.
-use mathlib.Core.Path.{_≡_, sym, ap, ap₂, _∙_}
-use mathlib.Core.Bool.{Bool, true, false, _||_}
-use denote.Ref.{now}
+use Rattle.words.proofs.Prelude.{needs, now, _≡_, sym, ap, ap₂, _∙_, Bool, true, false, _||_}
 use Rattle.words.proofs.Tests.{or-left, or-right}
-use Rattle.model.specs.Read.{startPast, stopPast}
-use Rattle.model.specs.Calls.{read}
+use Rattle.model.specs.{Read.startPast, Read.stopPast, Calls.read}
 use Rattle.state_cache.specs.State.{raw}
 use Rattle.state_cache.proofs.Small.{sound-small}
 use Rattle.reading.specs.Replies.{boundOf, readSaid}
-use Rattle.reading.proofs.Answers.{bad-answer}
-use Rattle.reading.proofs.Replying.{read-answer}
-use borrow.Author.Needs.{needs}
-use Rattle.reading.proofs.inner.read_reply.Statement.{statement}
+use Rattle.reading.proofs.{Answers.bad-answer, Replying.read-answer, inner.read_reply.Statement.statement}
 use Rattle.reading.proofs.inner.read_reply.Tie as tie
 
 -- both tests of the bounds, as the model has them

@@ -1,8 +1,6 @@
 -- `reading::inner::run_of` meets its contract: the calls' results are the run's numbers.
-use mathlib.Core.Path.{_∙_}
-use Rattle.reading.proofs.Replying.{marker-at, run-is}
-use borrow.Author.Needs.{needs}
-use Rattle.reading.proofs.inner.run_of.Statement.{statement}
+use Rattle.words.proofs.Prelude.{needs, _∙_}
+use Rattle.reading.proofs.{Replying.marker-at, Replying.run-is, inner.run_of.Statement.statement}
 use Rattle.reading.proofs.inner.run_of.Tie as tie
 
 returns : tie.Need-returns

@@ -1,9 +1,7 @@
 -- `reading::inner::start_past` meets its contract: by the bound's case.
-use mathlib.Core.Path.{sym, ap}
-use Rattle.reading.specs.Replies.{boundOf}
-use Rattle.reading.specs.declared.Bound.{Bound}
+use Rattle.words.proofs.Prelude.{needs, sym, ap}
+use Rattle.reading.specs.{Replies.boundOf, declared.Bound.Bound}
 use Rattle.model.specs.Read.{startPast}
-use borrow.Author.Needs.{needs}
 use Rattle.reading.proofs.inner.start_past.Statement.{statement}
 use Rattle.reading.proofs.inner.start_past.Tie as tie
 

@@ -1,15 +1,9 @@
 -- `reading::inner::stop_at` meets its contract: by the bound's case; the sum fits, since the bound is not the last
 -- word.
-use native.Mathlib.Omega.{arith}
-use mathlib.Core.Path.{_≡_, sym, ap, _∙_}
-use mathlib.Core.Bool.{false}
-use borrow.Author.Tests.{eqb-false}
-use lib.Dec.{eqb}
+use Rattle.words.proofs.Prelude.{needs, arith, _≡_, sym, ap, _∙_, false, eqb, eqb-false}
 use Rattle.entry.specs.Limits.{lastWord}
-use Rattle.reading.specs.Replies.{boundOf}
-use Rattle.reading.specs.declared.Bound.{Bound}
+use Rattle.reading.specs.{Replies.boundOf, declared.Bound.Bound}
 use Rattle.model.specs.Read.{stopPast, stopAt}
-use borrow.Author.Needs.{needs}
 use Rattle.reading.proofs.inner.stop_at.Statement.{statement}
 use Rattle.reading.proofs.inner.stop_at.Tie as tie
 

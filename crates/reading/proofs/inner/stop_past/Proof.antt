@@ -1,9 +1,7 @@
 -- `reading::inner::stop_past` meets its contract: by the bound's case.
-use mathlib.Core.Path.{sym, ap}
-use Rattle.reading.specs.Replies.{boundOf}
-use Rattle.reading.specs.declared.Bound.{Bound}
+use Rattle.words.proofs.Prelude.{needs, sym, ap}
+use Rattle.reading.specs.{Replies.boundOf, declared.Bound.Bound}
 use Rattle.model.specs.Read.{stopPast}
-use borrow.Author.Needs.{needs}
 use Rattle.reading.proofs.inner.stop_past.Statement.{statement}
 use Rattle.reading.proofs.inner.stop_past.Tie as tie
 

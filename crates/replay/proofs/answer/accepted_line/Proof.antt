@@ -1,12 +1,8 @@
 -- `replay::answer::accepted_line` meets its contract: each arm knows its answer.
-use Prim.Native.Nat.{ℕ}
-use mathlib.Core.Path.{sym, ap, _∙_}
-use Rattle.text.specs.Answers.{lineOf}
-use Rattle.text.specs.declared.Line.the-variants.{Refused}
-use Rattle.state_cache.specs.Run.{indexSaid}
-use Rattle.state_cache.specs.declared.IndexAnswer.{IndexAnswer}
+use Rattle.words.proofs.Prelude.{needs, sym, ap, _∙_, ℕ}
+use Rattle.text.specs.{Answers.lineOf, declared.Line.the-variants.Refused}
+use Rattle.state_cache.specs.{Run.indexSaid, declared.IndexAnswer.IndexAnswer}
 use Rattle.replay.specs.Answering.{acceptedText}
-use borrow.Author.Needs.{needs}
 use Rattle.replay.proofs.answer.accepted_line.Statement.{statement}
 use Rattle.replay.proofs.answer.accepted_line.Tie as tie
 

@@ -1,11 +1,9 @@
 -- `replay::answer::append` meets its contract: the call's outcome is what is printed.
-use denote.Ref.{now}
+use Rattle.words.proofs.Prelude.{needs, now}
 use Rattle.state_cache.specs.State.{raw}
 use Rattle.internal_storage.specs.Replies.{appendSaid}
 use Rattle.replay.specs.Answering.{appendedText}
-use Rattle.replay.proofs.Telling.{tells}
-use borrow.Author.Needs.{needs}
-use Rattle.replay.proofs.answer.append.Statement.{statement}
+use Rattle.replay.proofs.{Telling.tells, answer.append.Statement.statement}
 use Rattle.replay.proofs.answer.append.Tie as tie
 
 returns : tie.Need-returns

@@ -1,12 +1,8 @@
 -- `replay::answer::appended_line` meets its contract: each arm knows its answer.
-use Prim.Native.Nat.{ℕ}
-use mathlib.Core.Path.{sym, ap, _∙_}
-use Rattle.text.specs.Answers.{lineOf}
-use Rattle.text.specs.declared.Line.the-variants.{Refused}
-use Rattle.internal_storage.specs.Replies.{appendSaid}
-use Rattle.internal_storage.specs.declared.Appended.{Appended}
+use Rattle.words.proofs.Prelude.{needs, sym, ap, _∙_, ℕ}
+use Rattle.text.specs.{Answers.lineOf, declared.Line.the-variants.Refused}
+use Rattle.internal_storage.specs.{Replies.appendSaid, declared.Appended.Appended}
 use Rattle.replay.specs.Answering.{appendedText}
-use borrow.Author.Needs.{needs}
 use Rattle.replay.proofs.answer.appended_line.Statement.{statement}
 use Rattle.replay.proofs.answer.appended_line.Tie as tie
 

@@ -1,14 +1,9 @@
 -- `replay::answer::batch` meets its contract: a fresh log, or the old one.
-use mathlib.Core.Path.{sym, ap, _∙_}
-use denote.Ref.{now}
+use Rattle.words.proofs.Prelude.{needs, now, sym, ap, _∙_}
 use Rattle.entry.specs.Refusals.{numberOf, carriedOf}
-use Rattle.state_cache.specs.State.{raw}
-use Rattle.state_cache.specs.Run.{outcome, settled}
-use Rattle.state_cache.specs.declared.Settled.{Settled}
+use Rattle.state_cache.specs.{State.raw, Run.outcome, Run.settled, declared.Settled.Settled}
 use Rattle.replay.specs.Answering.{answering}
-use Rattle.replay.proofs.Telling.{starts, stays}
-use borrow.Author.Needs.{needs}
-use Rattle.replay.proofs.answer.batch.Statement.{statement}
+use Rattle.replay.proofs.{Telling.starts, Telling.stays, answer.batch.Statement.statement}
 use Rattle.replay.proofs.answer.batch.Tie as tie
 
 returns : tie.Need-returns

@@ -1,10 +1,8 @@
 -- `replay::answer::carry_out` meets its contract: each arm knows its command.
-use mathlib.Core.Path.{sym, ap, _∙_}
-use denote.Ref.{now}
+use Rattle.words.proofs.Prelude.{needs, now, sym, ap, _∙_}
 use Rattle.state_cache.specs.State.{raw}
 use Rattle.text.specs.declared.Command.{Command}
 use Rattle.replay.specs.Answering.{answering}
-use borrow.Author.Needs.{needs}
 use Rattle.replay.proofs.answer.carry_out.Statement.{statement}
 use Rattle.replay.proofs.answer.carry_out.Tie as tie
 

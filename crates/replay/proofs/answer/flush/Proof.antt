@@ -1,11 +1,8 @@
 -- `replay::answer::flush` meets its contract: the call's outcome is what is printed.
-use denote.Ref.{now}
-use Rattle.state_cache.specs.State.{raw}
-use Rattle.state_cache.specs.Run.{indexSaid}
+use Rattle.words.proofs.Prelude.{needs, now}
+use Rattle.state_cache.specs.{State.raw, Run.indexSaid}
 use Rattle.replay.specs.Answering.{acceptedText, answering}
-use Rattle.replay.proofs.Telling.{tells}
-use borrow.Author.Needs.{needs}
-use Rattle.replay.proofs.answer.flush.Statement.{statement}
+use Rattle.replay.proofs.{Telling.tells, answer.flush.Statement.statement}
 use Rattle.replay.proofs.answer.flush.Tie as tie
 
 returns : tie.Need-returns

@@ -1,11 +1,9 @@
 -- `replay::answer::read` meets its contract: what the reply says is printed.
-use denote.Ref.{now}
+use Rattle.words.proofs.Prelude.{needs, now}
 use Rattle.model.specs.Read.{included, excluded}
 use Rattle.state_cache.specs.State.{raw}
 use Rattle.replay.specs.Answering.{answering}
-use Rattle.replay.proofs.Telling.{reads}
-use borrow.Author.Needs.{needs}
-use Rattle.replay.proofs.answer.read.Statement.{statement}
+use Rattle.replay.proofs.{Telling.reads, answer.read.Statement.statement}
 use Rattle.replay.proofs.answer.read.Tie as tie
 
 returns : tie.Need-returns

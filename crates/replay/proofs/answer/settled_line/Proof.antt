@@ -1,12 +1,8 @@
 -- `replay::answer::settled_line` meets its contract: each arm knows its answer.
-use Prim.Native.Nat.{ℕ}
-use mathlib.Core.Path.{sym, ap, _∙_}
-use Rattle.text.specs.Answers.{lineOf}
-use Rattle.text.specs.declared.Line.the-variants.{Refused}
-use Rattle.state_cache.specs.Run.{settled}
-use Rattle.state_cache.specs.declared.Settled.{Settled}
+use Rattle.words.proofs.Prelude.{needs, sym, ap, _∙_, ℕ}
+use Rattle.text.specs.{Answers.lineOf, declared.Line.the-variants.Refused}
+use Rattle.state_cache.specs.{Run.settled, declared.Settled.Settled}
 use Rattle.replay.specs.Answering.{settledText}
-use borrow.Author.Needs.{needs}
 use Rattle.replay.proofs.answer.settled_line.Statement.{statement}
 use Rattle.replay.proofs.answer.settled_line.Tie as tie
 

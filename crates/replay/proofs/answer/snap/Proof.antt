@@ -1,10 +1,8 @@
 -- `replay::answer::snap` meets its contract: the call's outcome is what is printed.
-use Rattle.state_cache.specs.State.{raw}
-use Rattle.state_cache.specs.Run.{settled}
+use Rattle.state_cache.specs.{State.raw, Run.settled}
 use Rattle.replay.specs.Answering.{settledText, answering}
-use Rattle.replay.proofs.Telling.{tells}
-use borrow.Author.Needs.{needs}
-use Rattle.replay.proofs.answer.snap.Statement.{statement}
+use Rattle.replay.proofs.{Telling.tells, answer.snap.Statement.statement}
+use Rattle.words.proofs.Prelude.{needs}
 use Rattle.replay.proofs.answer.snap.Tie as tie
 
 returns : tie.Need-returns

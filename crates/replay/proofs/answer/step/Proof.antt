@@ -1,13 +1,7 @@
 -- `replay::answer::step` meets its contract: what is printed is put.
-use Prim.Native.Nat.{ℕ}
-use mathlib.Core.Path.{ap, _∙_}
-use mathlib.Core.List.{List}
-use lib.ListN.{take}
-use denote.Ref.{now}
+use Rattle.words.proofs.Prelude.{needs, now, ap, _∙_, ℕ, List, take}
 use Rattle.state_cache.specs.State.{raw}
-use Rattle.replay.specs.Answering.{printout}
-use Rattle.replay.specs.Feeding.{after}
-use borrow.Author.Needs.{needs}
+use Rattle.replay.specs.{Answering.printout, Feeding.after}
 use Rattle.replay.proofs.answer.step.Statement.{statement}
 use Rattle.replay.proofs.answer.step.Tie as tie
 

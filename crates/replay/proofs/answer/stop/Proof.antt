@@ -1,16 +1,11 @@
 -- `replay::answer::stop` meets its contract: the call's outcome, and the accepted index after it, are what is printed.
-use mathlib.Core.Path.{ap, _∙_}
-use mathlib.Core.Bool.{true}
-use denote.Ref.{now}
+use Rattle.words.proofs.Prelude.{needs, now, ap, _∙_, true}
 use Rattle.entry.specs.declared.StopSign.{StopSign}
 use Rattle.model.specs.Calls.{appendStop}
-use Rattle.state_cache.specs.State.{raw}
-use Rattle.state_cache.specs.Run.{run, indexSaid}
+use Rattle.state_cache.specs.{State.raw, Run.run, Run.indexSaid}
 use Rattle.internal_storage.specs.Replies.{appendSaid}
 use Rattle.replay.specs.Answering.{answering}
-use Rattle.replay.proofs.Telling.{stops}
-use borrow.Author.Needs.{needs}
-use Rattle.replay.proofs.answer.stop.Statement.{statement}
+use Rattle.replay.proofs.{Telling.stops, answer.stop.Statement.statement}
 use Rattle.replay.proofs.answer.stop.Tie as tie
 
 returns : tie.Need-returns

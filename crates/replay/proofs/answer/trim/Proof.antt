@@ -1,11 +1,8 @@
 -- `replay::answer::trim` meets its contract: the call's outcome is what is printed.
-use denote.Ref.{now}
-use Rattle.state_cache.specs.State.{raw}
-use Rattle.state_cache.specs.Run.{settled}
+use Rattle.words.proofs.Prelude.{needs, now}
+use Rattle.state_cache.specs.{State.raw, Run.settled}
 use Rattle.replay.specs.Answering.{settledText, answering}
-use Rattle.replay.proofs.Telling.{tells}
-use borrow.Author.Needs.{needs}
-use Rattle.replay.proofs.answer.trim.Statement.{statement}
+use Rattle.replay.proofs.{Telling.tells, answer.trim.Statement.statement}
 use Rattle.replay.proofs.answer.trim.Tie as tie
 
 returns : tie.Need-returns

@@ -1,11 +1,7 @@
 -- `replay::feed::command_of` meets its contract.
-use mathlib.Core.Path.{sym, ap, _∙_}
-use mathlib.Core.Bool.{Bool}
-use lib.Seq.{length-take-le}
-use denote.Ref.{now}
+use Rattle.words.proofs.Prelude.{needs, now, sym, ap, _∙_, Bool, length-take-le}
 use Rattle.text.specs.Feeding.{come}
 use Rattle.replay.specs.Feeding.{meaning}
-use borrow.Author.Needs.{needs}
 use Rattle.replay.proofs.feed.command_of.Statement.{statement}
 use Rattle.replay.proofs.feed.command_of.Tie as tie
 

@@ -1,11 +1,8 @@
 -- `replay::feed::end` meets its contract: the last line has a byte exactly if one has come.
-use lib.ListN.{take}
-use denote.Ref.{now}
+use Rattle.words.proofs.Prelude.{needs, now, take}
 use Rattle.state_cache.specs.State.{raw}
 use Rattle.text.specs.Lines.{Lines}
-use Rattle.replay.proofs.Inputs.{last-line, no-last-line}
-use borrow.Author.Needs.{needs}
-use Rattle.replay.proofs.feed.end.Statement.{statement}
+use Rattle.replay.proofs.{Inputs.last-line, Inputs.no-last-line, feed.end.Statement.statement}
 use Rattle.replay.proofs.feed.end.Tie as tie
 
 returns : tie.Need-returns

@@ -1,19 +1,10 @@
 -- `replay::feed::finish` meets its contract: the answer is put where there is room for it.
-use Prim.Native.Nat.{ℕ}
-use mathlib.Core.Path.{ap, _∙_}
-use native.Mathlib.Omega.{arith}
-use lib.ListN.{take}
-use denote.Ref.{now}
+use Rattle.words.proofs.Prelude.{needs, arith, now, ap, _∙_, ℕ, take}
 use Rattle.state_cache.specs.State.{raw}
-use Rattle.text.specs.Lines.{Lines}
-use Rattle.text.specs.Feeding.{come}
-use Rattle.text.specs.declared.Command.{Command}
+use Rattle.text.specs.{Lines.Lines, Feeding.come, declared.Command.Command}
 use Rattle.text.proofs.FeedLaws.{next-low}
-use Rattle.replay.specs.Answering.{answering}
-use Rattle.replay.specs.Feeding.{meaning, lastStart, after}
-use Rattle.replay.proofs.Inputs.{finished}
-use borrow.Author.Needs.{needs}
-use Rattle.replay.proofs.feed.finish.Statement.{statement}
+use Rattle.replay.specs.{Answering.answering, Feeding.meaning, Feeding.lastStart, Feeding.after}
+use Rattle.replay.proofs.{Inputs.finished, feed.finish.Statement.statement}
 use Rattle.replay.proofs.feed.finish.Tie as tie
 
 step-requires : tie.Need-step-requires

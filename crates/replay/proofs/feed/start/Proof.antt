@@ -1,12 +1,8 @@
 -- `replay::feed::start` meets its contract: the arrays are as long as a log's slices.
-use mathlib.Core.Path.{_≡_, refl, ap, _∙_}
-use native.Mathlib.Omega.{arith}
-use lib.ListN.{length}
-use denote.Ref.{now}
+use Rattle.words.proofs.Prelude.{needs, arith, now, _≡_, refl, ap, _∙_, length}
 use Rattle.entry.specs.Limits.{logWords, snapshotWords}
 use Rattle.state_cache.specs.Run.{Outcome}
 use Rattle.state_cache.proofs.Changes.{fresh-starts}
-use borrow.Author.Needs.{needs}
 use Rattle.replay.proofs.feed.start.Statement.{statement}
 use Rattle.replay.proofs.feed.start.Tie as tie
 

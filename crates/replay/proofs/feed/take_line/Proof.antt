@@ -1,10 +1,7 @@
 -- `replay::feed::take_line` meets its contract.
-use native.Mathlib.Omega.{arith}
-use denote.Ref.{now}
+use Rattle.words.proofs.Prelude.{needs, arith, now}
 use Rattle.text.specs.Lines.{Lines, restWith}
-use Rattle.replay.proofs.Inputs.{kept}
-use borrow.Author.Needs.{needs}
-use Rattle.replay.proofs.feed.take_line.Statement.{statement}
+use Rattle.replay.proofs.{Inputs.kept, feed.take_line.Statement.statement}
 use Rattle.replay.proofs.feed.take_line.Tie as tie
 
 returns : tie.Need-returns

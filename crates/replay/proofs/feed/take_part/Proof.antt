@@ -1,18 +1,11 @@
 -- `replay::feed::take_part` meets its contract: so many bytes of the part have come.
-use Prim.Native.Nat.{ℕ, _≤_, _+_, _-_}
-use mathlib.Core.Path.{_≡_, ap}
-use native.Mathlib.Omega.{arith}
-use lib.ListN.{length, take, length-take, length-drop}
-use lib.Seq.{take-all}
-use denote.Ref.{now}
+use Rattle.words.proofs.Prelude.{arith, now, _≡_, ap, ℕ, _+_, _-_, _≤_, length-drop, length-take, length, take}
+use Rattle.words.proofs.Prelude.{take-all}
 use Rattle.entry.specs.Limits.{logWords}
 use Rattle.state_cache.specs.State.{raw}
-use Rattle.text.specs.Lines.{Lines, linesFrom}
-use Rattle.text.specs.Feeding.{come}
+use Rattle.text.specs.{Lines.Lines, Lines.linesFrom, Feeding.come, Rooms.inputLine}
 use Rattle.text.proofs.LineLaws.{lines-part}
-use Rattle.text.specs.Rooms.{inputLine}
-use Rattle.replay.specs.Feeding.{outRoom}
-use Rattle.replay.specs.Input.{Reached}
+use Rattle.replay.specs.{Feeding.outRoom, Input.Reached}
 use Rattle.replay.proofs.feed.take_part.Statement.{statement}
 use Rattle.replay.proofs.feed.take_part.Tie as tie
 

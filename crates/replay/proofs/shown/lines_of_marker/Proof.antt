@@ -1,12 +1,8 @@
 -- `replay::shown::lines_of_marker` meets its contract: each arm knows its marker.
-use Prim.Native.Nat.{ℕ}
-use mathlib.Core.Path.{sym, ap}
-use mathlib.Core.List.{List}
+use Rattle.words.proofs.Prelude.{needs, sym, ap, ℕ, List}
 use Rattle.model.specs.Log.{given}
 use Rattle.state_cache.specs.State.{oneIf}
-use Rattle.reading.specs.Replies.{markerSaid}
-use Rattle.reading.specs.declared.Marker.{Marker}
-use borrow.Author.Needs.{needs}
+use Rattle.reading.specs.{Replies.markerSaid, declared.Marker.Marker}
 use Rattle.replay.proofs.shown.lines_of_marker.Statement.{statement}
 use Rattle.replay.proofs.shown.lines_of_marker.Tie as tie
 

@@ -1,16 +1,8 @@
 -- `replay::shown::put_marker` meets its contract: each arm knows its marker.
-use Prim.Native.Nat.{ℕ}
-use mathlib.Core.Path.{sym, ap, _∙_}
-use mathlib.Core.List.{List, _++_, append-nil}
-use lib.ListN.{take}
-use denote.Ref.{now}
-use native.Mathlib.Omega.{arith}
-use Rattle.reading.specs.Replies.{markerSaid}
-use Rattle.reading.specs.declared.Marker.{Marker}
+use Rattle.words.proofs.Prelude.{needs, arith, now, sym, ap, _∙_, ℕ, List, append-nil, _++_, take}
+use Rattle.reading.specs.{Replies.markerSaid, declared.Marker.Marker}
 use Rattle.replay.specs.Answering.{markerText}
-use Rattle.replay.proofs.Telling.{snapshot-line}
-use borrow.Author.Needs.{needs}
-use Rattle.replay.proofs.shown.put_marker.Statement.{statement}
+use Rattle.replay.proofs.{Telling.snapshot-line, shown.put_marker.Statement.statement}
 use Rattle.replay.proofs.shown.put_marker.Tie as tie
 
 returns : tie.Need-returns

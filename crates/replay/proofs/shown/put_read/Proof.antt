@@ -1,17 +1,9 @@
 -- `replay::shown::put_read` meets its contract: each arm knows its reply.
-use Prim.Native.Nat.{ℕ}
-use mathlib.Core.Path.{sym, ap, _∙_}
-use mathlib.Core.List.{List, _++_}
-use lib.ListN.{take}
-use denote.Ref.{now}
-use native.Mathlib.Omega.{arith}
+use Rattle.words.proofs.Prelude.{needs, arith, now, sym, ap, _∙_, ℕ, List, _++_, take}
 use Rattle.state_cache.specs.State.{raw}
-use Rattle.text.specs.Answers.{lineOf}
-use Rattle.text.specs.declared.Line.the-variants.{Refused}
-use Rattle.reading.specs.Replies.{readSaid}
-use Rattle.reading.specs.declared.ReadReply.{ReadReply}
+use Rattle.text.specs.{Answers.lineOf, declared.Line.the-variants.Refused}
+use Rattle.reading.specs.{Replies.readSaid, declared.ReadReply.ReadReply}
 use Rattle.replay.specs.Answering.{readTextIn}
-use borrow.Author.Needs.{needs}
 use Rattle.replay.proofs.shown.put_read.Statement.{statement}
 use Rattle.replay.proofs.shown.put_read.Tie as tie
 

@@ -1,14 +1,7 @@
 -- `replay::shown::put_reply` meets its contract: each arm knows its reply.
-use Prim.Native.Nat.{ℕ}
-use mathlib.Core.Path.{sym, ap, _∙_}
-use mathlib.Core.List.{List, _++_}
-use native.Mathlib.Omega.{arith}
-use lib.ListN.{take}
-use denote.Ref.{now}
+use Rattle.words.proofs.Prelude.{needs, arith, now, sym, ap, _∙_, ℕ, List, _++_, take}
 use Rattle.state_cache.specs.State.{raw}
-use Rattle.replay.specs.declared.answer.Reply.{Reply}
-use Rattle.replay.specs.Answering.{replyText}
-use borrow.Author.Needs.{needs}
+use Rattle.replay.specs.{declared.answer.Reply.Reply, Answering.replyText}
 use Rattle.replay.proofs.shown.put_reply.Statement.{statement}
 use Rattle.replay.proofs.shown.put_reply.Tie as tie
 

@@ -1,15 +1,9 @@
 -- `replay::shown::put_shown` meets its contract: the lines one after another, and no more entries than a log has.
-use Prim.Native.Nat.{ℕ, _+_, _/_, _≤_}
-use native.Mathlib.Omega.{arith}
-use mathlib.Core.Path.{ap}
-use mathlib.Core.List.{List, []}
-use denote.Ref.{now}
-use lib.ListN.{length, take}
+use Rattle.words.proofs.Prelude.{needs, arith, now, ap, ℕ, _+_, _/_, _≤_, List, [], length, take}
 use Rattle.entry.specs.Limits.{logWords}
 use Rattle.model.specs.Log.{given}
 use Rattle.reading.specs.Replies.{markerSaid}
 use Rattle.replay.proofs.Telling.{one-few, part-few, shown-is}
-use borrow.Author.Needs.{needs}
 use Rattle.replay.proofs.shown.put_shown.Statement.{statement}
 use Rattle.replay.proofs.shown.put_shown.Tie as tie
 use Rattle.replay.proofs.shown.put_shown.Reads as reads

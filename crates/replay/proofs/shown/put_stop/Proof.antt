@@ -1,14 +1,7 @@
 -- `replay::shown::put_stop` meets its contract: by the flag.
-use mathlib.Core.Path.{sym, ap, _∙_}
-use mathlib.Core.Bool.{Bool}
-use mathlib.Core.List.{_++_, append-nil}
-use mathlib.Core.Option.{none, some}
-use lib.ListN.{take}
-use denote.Ref.{now}
-use native.Mathlib.Omega.{arith}
-use Rattle.words.specs.If.{if_then_else_}
+use Rattle.words.proofs.Prelude.{needs, arith, now, sym, ap, _∙_, Bool, if_then_else_, none, some, append-nil, _++_}
+use Rattle.words.proofs.Prelude.{take}
 use Rattle.replay.specs.Answering.{stopText}
-use borrow.Author.Needs.{needs}
 use Rattle.replay.proofs.shown.put_stop.Statement.{statement}
 use Rattle.replay.proofs.shown.put_stop.Tie as tie
 

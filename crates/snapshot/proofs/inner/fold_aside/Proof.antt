@@ -1,5 +1,5 @@
 -- `snapshot::inner::fold_aside` meets its contract: the scratch words are the snapshot's.
-use borrow.Author.Needs.{needs}
+use Rattle.words.proofs.Prelude.{needs}
 use Rattle.snapshot.proofs.inner.fold_aside.Statement.{statement}
 use Rattle.snapshot.proofs.inner.fold_aside.Tie as tie
 

@@ -1,9 +1,5 @@
 -- `snapshot::inner::fold_onto` meets its contract: the words hold the entries put so far.
-use borrow.Author.Needs.{needs}
-use Prim.Native.Nat.{_≤_, _-_}
-use lib.ListN.{length, take, length-take, length-drop}
-use native.Mathlib.Omega.{arith}
-use denote.Ref.{now}
+use Rattle.words.proofs.Prelude.{needs, arith, now, _-_, _≤_, length-drop, length-take, length, take}
 use Rattle.entry.specs.Change.{entriesOf}
 use Rattle.snapshot.specs.Folds.{foldOnto}
 use Rattle.snapshot.proofs.Putting.{Sofar, sofar-start, sofar-holds, fold-turn, fold-refused, fold-done}

@@ -1,7 +1,6 @@
 -- `snapshot::inner::fold_out` meets its contract: by what the fold came to.
-use denote.Ref.{now}
+use Rattle.words.proofs.Prelude.{needs, now}
 use Rattle.snapshot.proofs.Calling.{aside-needs, out-refused, out-written}
-use borrow.Author.Needs.{needs}
 use Rattle.snapshot.proofs.inner.fold_out.Statement.{statement}
 use Rattle.snapshot.proofs.inner.fold_out.Tie as tie
 

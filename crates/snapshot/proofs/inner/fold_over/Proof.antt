@@ -1,14 +1,9 @@
 -- `snapshot::inner::fold_over` meets its contract: by what the first fold came to.
-use mathlib.Core.Path.{_∙_}
-use denote.Ref.{now}
+use Rattle.words.proofs.Prelude.{needs, now, _∙_, length}
 use Rattle.entry.specs.Change.{entriesOf}
-use Rattle.snapshot.specs.Folds.{foldOnto}
-use Rattle.snapshot.specs.Inner.{FoldIs}
-use Rattle.snapshot.proofs.Calling.{aside-needs}
-use Rattle.snapshot.proofs.Over.{twice-refused, twice-next, twice-folds}
-use borrow.Author.Needs.{needs}
-use lib.ListN.{length}
-use Rattle.snapshot.proofs.inner.fold_over.Statement.{statement}
+use Rattle.snapshot.specs.{Folds.foldOnto, Inner.FoldIs}
+use Rattle.snapshot.proofs.{Calling.aside-needs, Over.twice-refused, Over.twice-next, Over.twice-folds}
+use Rattle.snapshot.proofs.{inner.fold_over.Statement.statement}
 use Rattle.snapshot.proofs.inner.fold_over.Tie as tie
 
 abbrev startOf : tie.After-fold-onto → tie.Start

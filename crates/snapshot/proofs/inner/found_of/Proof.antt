@@ -1,5 +1,5 @@
 -- `snapshot::inner::found_of` meets its contract: by what is said.
-use borrow.Author.Needs.{needs}
+use Rattle.words.proofs.Prelude.{needs}
 use Rattle.snapshot.proofs.inner.found_of.Statement.{statement}
 use Rattle.snapshot.proofs.inner.found_of.Tie as tie
 

@@ -1,15 +1,9 @@
 -- `snapshot::inner::keys_ascend` meets its contract: the entries passed and those that are left are together what is
 -- asked.
-use native.Mathlib.Omega.{arith}
-use Prim.Native.Nat.{_≤_, _-_}
-use mathlib.Core.Path.{_≡_, refl}
-use mathlib.Core.Bool.{_&&_}
-use lib.ListN.{drop}
-use denote.Ref.{now}
+use Rattle.words.proofs.Prelude.{arith, now, _≡_, refl, _-_, _≤_, _&&_, drop}
 use Rattle.entry.specs.Change.{entriesOf}
 use Rattle.snapshot.specs.Folds.{rising}
-use Rattle.snapshot.proofs.Rising.{rising-end, rising-turn}
-use Rattle.snapshot.proofs.inner.keys_ascend.Statement.{statement}
+use Rattle.snapshot.proofs.{Rising.rising-end, Rising.rising-turn, inner.keys_ascend.Statement.statement}
 use Rattle.snapshot.proofs.inner.keys_ascend.Tie as tie
 
 abbrev Inv-loop : tie.InvT-loop

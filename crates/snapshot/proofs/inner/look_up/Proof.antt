@@ -1,15 +1,9 @@
 -- `snapshot::inner::look_up` meets its contract: by where the search ended.
-use native.Mathlib.Omega.{arith}
-use mathlib.Core.Path.{sym, ap, _∙_}
-use mathlib.Core.Option.{Option, some}
-use denote.Ref.{now}
-use Rattle.entry.specs.Change.{Said}
-use Rattle.entry.specs.Guards.{replied}
+use Rattle.words.proofs.Prelude.{needs, arith, now, sym, ap, _∙_, Option, some}
+use Rattle.entry.specs.{Change.Said, Guards.replied}
 use Rattle.snapshot.specs.Folds.{placeOf}
-use Rattle.snapshot.proofs.Searching.{spot-inside}
-use Rattle.snapshot.proofs.Calling.{look-none, look-at}
-use borrow.Author.Needs.{needs}
-use Rattle.snapshot.proofs.inner.look_up.Statement.{statement}
+use Rattle.snapshot.proofs.{Searching.spot-inside, Calling.look-none, Calling.look-at}
+use Rattle.snapshot.proofs.{inner.look_up.Statement.statement}
 use Rattle.snapshot.proofs.inner.look_up.Tie as tie
 
 returns : tie.Need-returns

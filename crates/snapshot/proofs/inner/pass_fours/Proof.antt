@@ -1,11 +1,8 @@
 -- `snapshot::inner::pass_fours` meets its contract.
-use Prim.Native.Nat.{_≤_, _-_}
-use native.Mathlib.Omega.{arith}
-use denote.Ref.{now}
+use Rattle.words.proofs.Prelude.{arith, now, _-_, _≤_}
 use Rattle.entry.specs.Change.{entriesOf}
 use Rattle.snapshot.specs.Inner.{Passed}
-use Rattle.snapshot.proofs.Searching.{passed-none, pass-four}
-use Rattle.snapshot.proofs.inner.pass_fours.Statement.{statement}
+use Rattle.snapshot.proofs.{Searching.passed-none, Searching.pass-four, inner.pass_fours.Statement.statement}
 use Rattle.snapshot.proofs.inner.pass_fours.Tie as tie
 
 abbrev Inv-loop : tie.InvT-loop

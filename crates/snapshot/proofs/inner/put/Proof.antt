@@ -1,11 +1,7 @@
 -- `snapshot::inner::put` meets its contract: an insert is a splice at the spot that the search found.
-use mathlib.Core.Path.{sym, _∙_}
-use native.Mathlib.Omega.{arith}
-use denote.Ref.{now}
-use Rattle.snapshot.proofs.Searching.{spot-inside}
-use Rattle.snapshot.proofs.Putting.{before-inside, put-at, put-before, put-full}
-use borrow.Author.Needs.{needs}
-use Rattle.snapshot.proofs.inner.put.Statement.{statement}
+use Rattle.words.proofs.Prelude.{needs, arith, now, sym, _∙_}
+use Rattle.snapshot.proofs.{Searching.spot-inside, Putting.before-inside, Putting.put-at, Putting.put-before}
+use Rattle.snapshot.proofs.{Putting.put-full, inner.put.Statement.statement}
 use Rattle.snapshot.proofs.inner.put.Tie as tie
 
 mul-splice : tie.Need-mul-splice

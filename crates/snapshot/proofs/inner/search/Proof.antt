@@ -1,7 +1,5 @@
 -- `snapshot::inner::search` meets its contract: the answer for all entries is the answer for those that are left.
-use Prim.Native.Nat.{_≤_, _-_}
-use native.Mathlib.Omega.{arith}
-use denote.Ref.{now}
+use Rattle.words.proofs.Prelude.{arith, now, _-_, _≤_}
 use Rattle.entry.specs.Change.{entriesOf}
 use Rattle.snapshot.specs.Inner.{Passed}
 use Rattle.snapshot.proofs.Searching.{search-end, search-more, search-at, search-before}

@@ -1,9 +1,7 @@
 -- `state_cache::inner::accepted` meets its contract: a sum.
-use native.Mathlib.Omega.{arith}
+use Rattle.words.proofs.Prelude.{needs, arith}
 use Rattle.model.specs.Numbers.{endOf, acceptedOf}
-use Rattle.state_cache.proofs.Small.{one-le}
-use borrow.Author.Needs.{needs}
-use Rattle.state_cache.proofs.inner.accepted.Statement.{statement}
+use Rattle.state_cache.proofs.{Small.one-le, inner.accepted.Statement.statement}
 use Rattle.state_cache.proofs.inner.accepted.Tie as tie
 
 add-result : tie.Need-add-result

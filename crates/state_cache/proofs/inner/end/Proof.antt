@@ -1,7 +1,6 @@
 -- `state_cache::inner::end` meets its contract: a sum.
-use mathlib.Core.Path.{refl}
+use Rattle.words.proofs.Prelude.{needs, refl}
 use Rattle.model.specs.Numbers.{endOf}
-use borrow.Author.Needs.{needs}
 use Rattle.state_cache.proofs.inner.end.Statement.{statement}
 use Rattle.state_cache.proofs.inner.end.Tie as tie
 

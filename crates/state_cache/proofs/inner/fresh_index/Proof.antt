@@ -1,7 +1,7 @@
 -- `state_cache::inner::fresh_index` meets its contract: field by field.
 use Rattle.model.specs.Log.{freshLog}
 use Rattle.state_cache.specs.State.{indexOf}
-use borrow.Author.Needs.{needs}
+use Rattle.words.proofs.Prelude.{needs}
 use Rattle.state_cache.proofs.inner.fresh_index.Statement.{statement}
 use Rattle.state_cache.proofs.inner.fresh_index.Tie as tie
 

@@ -1,8 +1,6 @@
 -- `state_cache::inner::log_decided` meets its contract: by whether the stop-sign is decided.
-use mathlib.Core.Path.{sym, _∙_}
-use native.Mathlib.Omega.{arith}
+use Rattle.words.proofs.Prelude.{needs, arith, sym, _∙_}
 use Rattle.model.specs.Numbers.{logDecided}
-use borrow.Author.Needs.{needs}
 use Rattle.state_cache.proofs.inner.log_decided.Statement.{statement}
 use Rattle.state_cache.proofs.inner.log_decided.Tie as tie
 

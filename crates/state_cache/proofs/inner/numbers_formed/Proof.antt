@@ -1,10 +1,8 @@
 -- `state_cache::inner::numbers_formed` meets its contract: its tests are the definition's.
-use native.Mathlib.Omega.{arith}
+use Rattle.words.proofs.Prelude.{needs, arith}
 use Rattle.model.specs.Numbers.{endOf, numbersFormed}
 use Rattle.state_cache.specs.State.{numbersIn}
-use Rattle.state_cache.proofs.Small.{accepted-le}
-use borrow.Author.Needs.{needs}
-use Rattle.state_cache.proofs.inner.numbers_formed.Statement.{statement}
+use Rattle.state_cache.proofs.{Small.accepted-le, inner.numbers_formed.Statement.statement}
 use Rattle.state_cache.proofs.inner.numbers_formed.Tie as tie
 
 add-result : tie.Need-add-result

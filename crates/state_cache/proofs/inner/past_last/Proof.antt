@@ -1,7 +1,6 @@
 -- `state_cache::inner::past_last` meets its contract: by what is left of the indexes.
-use Rattle.state_cache.proofs.Small.{past-high, past-long}
-use borrow.Author.Needs.{needs}
-use Rattle.state_cache.proofs.inner.past_last.Statement.{statement}
+use Rattle.state_cache.proofs.{Small.past-high, Small.past-long, inner.past_last.Statement.statement}
+use Rattle.words.proofs.Prelude.{needs}
 use Rattle.state_cache.proofs.inner.past_last.Tie as tie
 
 returns : tie.Need-returns

@@ -1,11 +1,7 @@
 -- `state_cache::inner::reload` meets its contract: the batch's words are cut off, and its count is zero.
-use native.Mathlib.Omega.{arith}
-use denote.Ref.{now}
+use Rattle.words.proofs.Prelude.{needs, arith, now}
 use Rattle.state_cache.specs.State.{raw}
-use Rattle.state_cache.proofs.Small.{sound-small}
-use Rattle.state_cache.proofs.Changes.{reload-runs}
-use borrow.Author.Needs.{needs}
-use Rattle.state_cache.proofs.inner.reload.Statement.{statement}
+use Rattle.state_cache.proofs.{Small.sound-small, Changes.reload-runs, inner.reload.Statement.statement}
 use Rattle.state_cache.proofs.inner.reload.Tie as tie
 
 cut-out-requires : tie.Need-cut-out-requires

@@ -1,5 +1,5 @@
 -- `state_cache::inner::sizes_formed` meets its contract: its tests are the definition's.
-use mathlib.Core.Path.{refl}
+use Rattle.words.proofs.Prelude.{refl}
 use Rattle.state_cache.specs.Inner.{sizesFormed}
 use Rattle.state_cache.proofs.inner.sizes_formed.Statement.{statement}
 use Rattle.state_cache.proofs.inner.sizes_formed.Tie as tie

@@ -1,11 +1,6 @@
 -- `state_cache::inner::snapshot_held_formed` meets its contract: the callee says its own test.
-use mathlib.Core.Path.{sym, ap, _∙_}
-use mathlib.Core.Bool.{Bool, _&&_, _||_}
-use denote.Ref.{now}
-use lib.Dec.{eqb}
-use Rattle.state_cache.proofs.Stands.{snapshot-tests}
-use borrow.Author.Needs.{needs}
-use Rattle.state_cache.proofs.inner.snapshot_held_formed.Statement.{statement}
+use Rattle.words.proofs.Prelude.{needs, now, sym, ap, _∙_, Bool, _&&_, _||_, eqb}
+use Rattle.state_cache.proofs.{Stands.snapshot-tests, inner.snapshot_held_formed.Statement.statement}
 use Rattle.state_cache.proofs.inner.snapshot_held_formed.Tie as tie
 
 returns : tie.Need-returns

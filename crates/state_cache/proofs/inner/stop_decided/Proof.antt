@@ -1,6 +1,6 @@
 -- `state_cache::inner::stop_decided` meets its contract: its two tests.
 use Rattle.model.specs.Numbers.{stopDecided}
-use borrow.Author.Needs.{needs}
+use Rattle.words.proofs.Prelude.{needs}
 use Rattle.state_cache.proofs.inner.stop_decided.Statement.{statement}
 use Rattle.state_cache.proofs.inner.stop_decided.Tie as tie
 

@@ -1,6 +1,6 @@
 -- `state_cache::inner::stop_formed` meets its contract: each callee says its own test.
 use Rattle.state_cache.specs.State.{signHeld}
-use borrow.Author.Needs.{needs}
+use Rattle.words.proofs.Prelude.{needs}
 use Rattle.state_cache.proofs.inner.stop_formed.Statement.{statement}
 use Rattle.state_cache.proofs.inner.stop_formed.Tie as tie
 

@@ -1,22 +1,13 @@
 -- `sync::inner::check_sync` meets its contract: past the k-th test the verdict is that of the refusals from there on.
-use Prim.Native.Nat.{ℕ, _+_, _≤_}
-use mathlib.Core.Path.{_≡_, refl, sym, _∙_}
-use mathlib.Core.Bool.{true, false, _&&_, _||_}
-use mathlib.Core.List.{List}
-use native.Mathlib.Omega.{arith}
-use borrow.Author.Tests.{lt-ltb, le-ltb, ltb-false}
-use lib.Dec.{ltb}
-use lib.ListN.{drop}
-use Rattle.entry.specs.Limits.{lastIndex}
-use Rattle.entry.specs.Guards.{Guard, first}
+use Rattle.words.proofs.Prelude.{needs, arith, _≡_, refl, sym, _∙_, ℕ, _+_, _≤_, true, false, _&&_, _||_, ltb, lt-ltb}
+use Rattle.words.proofs.Prelude.{le-ltb, ltb-false, List, drop}
+use Rattle.entry.specs.{Limits.lastIndex, Guards.Guard, Guards.first}
 use Rattle.entry.proofs.GuardLaws.{clear-all, passing, stopping, found, first-goes-on}
-use Rattle.model.specs.Numbers.{Numbers, endOf}
-use Rattle.model.specs.Sync.{partNumberGuards}
+use Rattle.model.specs.{Numbers.Numbers, Numbers.endOf, Sync.partNumberGuards}
 use Rattle.state_cache.specs.State.{numbersIn, oneIf}
 use Rattle.state_cache.proofs.Small.{one-le}
 use Rattle.sync.specs.Requests.{plainBy, numbersBy}
 use Rattle.sync.proofs.Checking.{past-is, outside-is, above-is, kept-few, no-room, room, above-accepted, not-above}
-use borrow.Author.Needs.{needs}
 use Rattle.sync.proofs.inner.check_sync.Statement.{statement}
 use Rattle.sync.proofs.inner.check_sync.Tie as tie
 

@@ -1,12 +1,10 @@
 -- `sync::inner::hold` meets its contract: by the snapshot's kind.
-use mathlib.Core.Path.{sym, ap, _∙_}
-use denote.Ref.{now}
+use Rattle.words.proofs.Prelude.{needs, now, sym, ap, _∙_}
 use Rattle.state_cache.specs.State.{Raw, raw, numbersIn}
 use Rattle.state_cache.proofs.Small.{sound-small}
 use Rattle.compaction.proofs.Folding.{decided-low, decided-high, fold-needs}
 use Rattle.sync.specs.Requests.{plainBy}
 use Rattle.sync.proofs.Holding.{held-shows, hold-plain, hold-complete, hold-delta}
-use borrow.Author.Needs.{needs}
 use Rattle.sync.proofs.inner.hold.Statement.{statement}
 use Rattle.sync.proofs.inner.hold.Tie as tie
 

@@ -1,5 +1,5 @@
 -- `sync::inner::kept_of` meets its contract: by whether the sync is plain.
-use borrow.Author.Needs.{needs}
+use Rattle.words.proofs.Prelude.{needs}
 use Rattle.sync.proofs.inner.kept_of.Statement.{statement}
 use Rattle.sync.proofs.inner.kept_of.Tie as tie
 

@@ -1,5 +1,5 @@
 -- `sync::inner::mark` meets its contract: two fields are set.
-use borrow.Author.Needs.{needs}
+use Rattle.words.proofs.Prelude.{needs}
 use Rattle.sync.proofs.inner.mark.Statement.{statement}
 use Rattle.sync.proofs.inner.mark.Tie as tie
 

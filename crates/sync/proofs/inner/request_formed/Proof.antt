@@ -1,6 +1,6 @@
 -- `sync::inner::request_formed` meets its contract: the tests are joined as the definition joins them.
 use Rattle.sync.specs.Requests.{lentWhole, requestFormed}
-use borrow.Author.Needs.{needs}
+use Rattle.words.proofs.Prelude.{needs}
 use Rattle.sync.proofs.inner.request_formed.Statement.{statement}
 use Rattle.sync.proofs.inner.request_formed.Tie as tie
 

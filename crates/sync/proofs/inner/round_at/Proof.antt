@@ -1,7 +1,6 @@
 -- `sync::inner::round_at` meets its contract: refusal 6, or the marks.
-use Rattle.sync.proofs.Checking.{round-refused, round-passes}
-use borrow.Author.Needs.{needs}
-use Rattle.sync.proofs.inner.round_at.Statement.{statement}
+use Rattle.sync.proofs.{Checking.round-refused, Checking.round-passes, inner.round_at.Statement.statement}
+use Rattle.words.proofs.Prelude.{needs}
 use Rattle.sync.proofs.inner.round_at.Tie as tie
 
 returns : tie.Need-returns

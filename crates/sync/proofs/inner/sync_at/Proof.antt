@@ -1,16 +1,10 @@
-use Prim.Native.Nat.{_/_}
-use mathlib.Core.Path.{_≡_, sym, ap, _∙_}
-use denote.Ref.{now}
-use lib.ListN.{length}
-use Rattle.entry.specs.Limits.{width}
-use Rattle.entry.specs.Guards.{passes, first}
+use Rattle.words.proofs.Prelude.{needs, now, _≡_, sym, ap, _∙_, _/_, length}
+use Rattle.entry.specs.{Limits.width, Guards.passes, Guards.first}
 use Rattle.model.specs.Sync.{partNumberGuards}
 use Rattle.state_cache.specs.State.{Raw, raw, numbersIn}
 use Rattle.internal_storage.specs.Inner.{verdictOf}
-use Rattle.sync.specs.Requests.{numbersBy}
-use Rattle.sync.specs.Inner.{marked, Taken}
+use Rattle.sync.specs.{Requests.numbersBy, Inner.marked, Inner.Taken}
 use Rattle.sync.proofs.Syncing.{sync-refused, fits, fits-small, sync-over, sync-stands}
-use borrow.Author.Needs.{needs}
 use Rattle.sync.proofs.inner.sync_at.Statement.{statement}
 use Rattle.sync.proofs.inner.sync_at.Tie as tie
 

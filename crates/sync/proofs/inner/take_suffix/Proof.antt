@@ -1,9 +1,6 @@
 -- `sync::inner::take_suffix` meets its contract: whole entries are put in the place of others.
-use native.Mathlib.Omega.{arith}
-use denote.Ref.{now}
+use Rattle.words.proofs.Prelude.{needs, arith, now, _≤_}
 use Rattle.sync.proofs.Taking.{kept-is, kept-few, splice-needs, taken}
-use borrow.Author.Needs.{needs}
-use Prim.Native.Nat.{_≤_}
 use Rattle.sync.proofs.inner.take_suffix.Statement.{statement}
 use Rattle.sync.proofs.inner.take_suffix.Tie as tie
 

@@ -1,13 +1,7 @@
 -- `text::inner::gap` meets its contract: what is left of the slice still has its first b `i` bytes on.
-use Prim.Native.Nat.{_≤_, _+_, _-_}
-use mathlib.Core.Path.{_≡_, sym}
-use native.Mathlib.Omega.{arith}
-use lib.ListN.{length, drop}
-use lib.Seq.{length-take-le}
-use denote.Ref.{now}
+use Rattle.words.proofs.Prelude.{arith, now, _≡_, sym, _+_, _-_, _≤_, length, drop, length-take-le}
 use Rattle.text.specs.Bytes.{gapOf}
-use Rattle.text.proofs.ParseLaws.{gap-step, gap-here, gap-end}
-use Rattle.text.proofs.inner.gap.Statement.{statement}
+use Rattle.text.proofs.{ParseLaws.gap-step, ParseLaws.gap-here, ParseLaws.gap-end, inner.gap.Statement.statement}
 use Rattle.text.proofs.inner.gap.Tie as tie
 
 abbrev Inv-loop : tie.InvT-loop

@@ -1,9 +1,6 @@
 -- `text::inner::keep` meets its contract.
-use denote.Ref.{now}
-use native.Mathlib.Omega.{arith}
-use Rattle.text.proofs.FeedLaws.{joined-cut, joined-more}
-use borrow.Author.Needs.{needs}
-use Rattle.text.proofs.inner.keep.Statement.{statement}
+use Rattle.words.proofs.Prelude.{needs, arith, now}
+use Rattle.text.proofs.{FeedLaws.joined-cut, FeedLaws.joined-more, inner.keep.Statement.statement}
 use Rattle.text.proofs.inner.keep.Tie as tie
 
 returns : tie.Need-returns

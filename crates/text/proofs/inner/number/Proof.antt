@@ -1,11 +1,8 @@
 -- `text::inner::number` meets its contract: the digits that are left make of the number already read what the whole
 -- makes of none.
-use Prim.Native.Nat.{_≤_, _<_, _-_, _^_}
-use mathlib.Core.Path.{_≡_, sym, _∙_}
+use Rattle.words.proofs.Prelude.{arith, now, _≡_, sym, _∙_, _-_, _≤_, _<_, length, drop}
+use Prim.Native.Nat.{_^_}
 use mathlib.Core.Logic.{⊎-elim}
-use native.Mathlib.Omega.{arith}
-use lib.ListN.{length, drop}
-use denote.Ref.{now}
 use Rattle.text.specs.Number.{numeralOf}
 use Rattle.text.proofs.ParseLaws.{whole, number-empty, number-zero, number-one, number-more, whole-step, whole-below, whole-above, whole-over, whole-end}
 use Rattle.text.proofs.inner.number.Statement.{statement}

@@ -1,11 +1,6 @@
 -- `text::inner::put` meets its contract: the first i bytes of `src` stand in `out` from `at` on.
-use Prim.Native.Nat.{_≤_, _-_}
-use mathlib.Core.Path.{_≡_, refl}
-use native.Mathlib.Omega.{arith}
-use native.Mathlib.Numerals.{add-one}
-use lib.ListN.{length, length-set}
-use lib.Seq.{paste, paste-zero, paste-suc, take-paste, take-all}
-use denote.Ref.{now}
+use Rattle.words.proofs.Prelude.{arith, now, _≡_, refl, _-_, _≤_, add-one, length-set, length, take-all}
+use lib.Seq.{paste, paste-zero, paste-suc, take-paste}
 use Rattle.text.proofs.inner.put.Statement.{statement}
 use Rattle.text.proofs.inner.put.Tie as tie
 

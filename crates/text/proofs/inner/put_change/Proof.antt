@@ -1,7 +1,5 @@
 -- `text::inner::put_change` meets its contract: by what is said of the key.
-use mathlib.Core.Path.{_∙_}
-use mathlib.Core.List.{append-assoc}
-use borrow.Author.Needs.{needs}
+use Rattle.words.proofs.Prelude.{needs, _∙_, append-assoc}
 use Rattle.text.proofs.inner.put_change.Statement.{statement}
 use Rattle.text.proofs.inner.put_change.Tie as tie
 

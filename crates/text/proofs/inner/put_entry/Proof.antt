@@ -1,6 +1,6 @@
 -- `text::inner::put_entry` meets its contract.
 use Rattle.text.specs.Answers.{entryLine}
-use borrow.Author.Needs.{needs}
+use Rattle.words.proofs.Prelude.{needs}
 use Rattle.text.proofs.inner.put_entry.Statement.{statement}
 use Rattle.text.proofs.inner.put_entry.Tie as tie
 

@@ -1,6 +1,6 @@
 -- `text::inner::put_line` meets its contract: each arm knows its line.
 use Rattle.text.specs.Answers.{lineOf}
-use borrow.Author.Needs.{needs}
+use Rattle.words.proofs.Prelude.{needs}
 use Rattle.text.proofs.inner.put_line.Statement.{statement}
 use Rattle.text.proofs.inner.put_line.Tie as tie
 

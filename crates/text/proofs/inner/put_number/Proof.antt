@@ -1,8 +1,6 @@
 -- `text::inner::put_number` meets its contract: `io::decimal` writes the fewest digits.
-use native.Mathlib.Omega.{arith}
-use Rattle.text.proofs.AnswerLaws.{decimal-is, decimal-most}
-use borrow.Author.Needs.{needs}
-use Rattle.text.proofs.inner.put_number.Statement.{statement}
+use Rattle.words.proofs.Prelude.{needs, arith}
+use Rattle.text.proofs.{AnswerLaws.decimal-is, AnswerLaws.decimal-most, inner.put_number.Statement.statement}
 use Rattle.text.proofs.inner.put_number.Tie as tie
 
 put-requires : tie.Need-put-requires

@@ -1,10 +1,7 @@
 -- `text::inner::put_one` meets its contract: three pieces, one after the other.
-use lib.ListN.{take}
-use denote.Ref.{now}
+use Rattle.words.proofs.Prelude.{needs, now, take}
 use Rattle.text.specs.Answers.{decimalOf}
-use Rattle.text.proofs.AnswerLaws.{glue}
-use borrow.Author.Needs.{needs}
-use Rattle.text.proofs.inner.put_one.Statement.{statement}
+use Rattle.text.proofs.{AnswerLaws.glue, inner.put_one.Statement.statement}
 use Rattle.text.proofs.inner.put_one.Tie as tie
 
 returns : tie.Need-returns

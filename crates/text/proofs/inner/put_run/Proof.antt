@@ -1,16 +1,9 @@
 -- `text::inner::put_run` meets its contract: the lines that are put and those of the entries that are left make the
 -- whole.
-use Prim.Native.Nat.{ℕ, _≤_, _+_, _-_, _*_}
-use mathlib.Core.Path.{_≡_, refl, ap, _∙_}
-use mathlib.Core.List.{List, _++_, append-nil}
-use native.Mathlib.Omega.{arith}
-use lib.Dec.{ltb}
-use lib.ListN.{length, take, drop}
-use denote.Ref.{now}
-use Rattle.entry.specs.Change.{Said, entriesOf}
-use Rattle.entry.specs.Inner.{changeAt}
-use Rattle.text.specs.Rooms.{outputLine}
-use Rattle.text.specs.Answers.{entryLine, entryLines}
+use Rattle.words.proofs.Prelude.{arith, now, _≡_, refl, ap, _∙_, ℕ, _+_, _-_, _*_, _≤_, ltb, List, append-nil, _++_}
+use Rattle.words.proofs.Prelude.{length, take, drop}
+use Rattle.entry.specs.{Change.Said, Change.entriesOf, Inner.changeAt}
+use Rattle.text.specs.{Rooms.outputLine, Answers.entryLine, Answers.entryLines}
 use Rattle.text.proofs.AnswerLaws.{lines-next, lines-end, turn}
 use Rattle.text.proofs.inner.put_run.Statement.{statement}
 use Rattle.text.proofs.inner.put_run.Tie as tie

@@ -1,6 +1,6 @@
 -- `text::inner::put_stop` meets its contract.
 use Rattle.text.specs.Answers.{lineOf}
-use borrow.Author.Needs.{needs}
+use Rattle.words.proofs.Prelude.{needs}
 use Rattle.text.proofs.inner.put_stop.Statement.{statement}
 use Rattle.text.proofs.inner.put_stop.Tie as tie
 

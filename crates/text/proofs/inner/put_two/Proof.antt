@@ -1,11 +1,7 @@
 -- `text::inner::put_two` meets its contract.
-use lib.ListN.{take}
-use denote.Ref.{now}
-use Rattle.text.specs.Bytes.{bytes}
-use Rattle.text.specs.Answers.{decimalOf}
-use Rattle.text.proofs.AnswerLaws.{glue-two}
-use borrow.Author.Needs.{needs}
-use Rattle.text.proofs.inner.put_two.Statement.{statement}
+use Rattle.words.proofs.Prelude.{needs, now, take}
+use Rattle.text.specs.{Bytes.bytes, Answers.decimalOf}
+use Rattle.text.proofs.{AnswerLaws.glue-two, inner.put_two.Statement.statement}
 use Rattle.text.proofs.inner.put_two.Tie as tie
 
 returns : tie.Need-returns

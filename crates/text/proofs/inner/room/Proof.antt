@@ -1,9 +1,5 @@
 -- `text::inner::room` meets its contract.
-use mathlib.Core.Path.{sym}
-use native.Mathlib.Omega.{arith}
-use lib.Seq.{length-take-le}
-use borrow.Author.Tests.{le-leb, lt-leb}
-use borrow.Author.Needs.{needs}
+use Rattle.words.proofs.Prelude.{needs, arith, sym, le-leb, lt-leb, length-take-le}
 use Rattle.text.proofs.inner.room.Statement.{statement}
 use Rattle.text.proofs.inner.room.Tie as tie
 

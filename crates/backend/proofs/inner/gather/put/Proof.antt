@@ -1,7 +1,6 @@
 -- `backend::inner::gather::put` meets its contract: whether there is room.
-use borrow.Author.Tests.{lt-ltb, le-ltb}
+use Rattle.words.proofs.Prelude.{needs, lt-ltb, le-ltb}
 use Rattle.backend.specs.Inner.{putOf}
-use borrow.Author.Needs.{needs}
 use Rattle.backend.proofs.inner.gather.put.Statement.{statement}
 use Rattle.backend.proofs.inner.gather.put.Tie as tie
 

@@ -1,15 +1,9 @@
-use Prim.Native.Nat.{_+_}
-use mathlib.Core.Path.{_≡_, sym, _∙_}
-use native.Mathlib.Omega.{arith}
-use borrow.Author.Tests.{ne-eqb, not-true, not-false}
-use denote.Ref.{now}
-use lib.Dec.{ltb}
+use Rattle.words.proofs.Prelude.{needs, arith, now, _≡_, sym, _∙_, _+_, ltb, not-true, not-false, ne-eqb}
 use Rattle.entry.specs.Limits.{lastIndex}
 use Rattle.model.specs.Numbers.{acceptedOf}
 use Rattle.state_cache.specs.State.{Raw, raw, numbersIn}
 use Rattle.state_cache.proofs.Small.{one-le}
 use Rattle.backend.proofs.Lasts.{past-sum, formed-numbers, last-past, last-small, last-apart, last-unformed, last-stands}
-use borrow.Author.Needs.{needs}
 use Rattle.backend.proofs.inner.list.judge_last.Statement.{statement}
 use Rattle.backend.proofs.inner.list.judge_last.Tie as tie
 

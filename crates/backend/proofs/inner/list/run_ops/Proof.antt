@@ -1,20 +1,13 @@
 -- `backend::inner::list::run_ops` meets its contract: what is left of the list, from the state so far, comes to what
 -- the whole list does.
-use Prim.Native.Nat.{_-_, _≤_}
-use mathlib.Core.Path.{_≡_, sym, _∙_}
-use mathlib.Core.List.{map}
-use native.Mathlib.Omega.{arith}
-use denote.Ref.{now}
-use lib.ListN.{length, take, drop, length-map}
+use Rattle.words.proofs.Prelude.{needs, arith, now, _≡_, sym, _∙_, _-_, _≤_, map, length-map, length, take, drop}
 use Rattle.entry.specs.Limits.{mostOps}
 use Rattle.model.specs.Backend.{Lent}
 use Rattle.state_cache.specs.State.{Raw, raw, numbersIn}
 use Rattle.state_cache.proofs.Small.{sound-small}
-use Rattle.backend.specs.Ops.{opOf, opsIn, lentOf}
-use Rattle.backend.specs.Inner.{midstOf, Kept}
+use Rattle.backend.specs.{Ops.opOf, Ops.opsIn, Ops.lentOf, Inner.midstOf, Inner.Kept}
 use Rattle.backend.proofs.Turns.{Left, asked, end, is-supplied, turn-refused, turn-held, turn-left, ended, all-left, wrote-refused, wrote, ops-supplied}
 use Rattle.backend.proofs.Amid.{ready-held}
-use borrow.Author.Needs.{needs}
 use Rattle.backend.proofs.inner.list.run_ops.Statement.{statement}
 use Rattle.backend.proofs.inner.list.run_ops.Tie as tie
 

@@ -1,18 +1,11 @@
 -- `backend::inner::list::write_at` meets its contract: the list runs on copies, which are written back where it stands.
-use mathlib.Core.Path.{sym, ap, ap₂, _∙_}
-use mathlib.Core.List.{List}
-use Prim.Native.Nat.{ℕ}
-use denote.Ref.{now}
+use Rattle.words.proofs.Prelude.{needs, now, sym, ap, ap₂, _∙_, ℕ, List}
 use Rattle.entry.specs.Guards.{replied}
 use Rattle.model.specs.Backend.{Lent}
-use Rattle.state_cache.specs.State.{Raw, raw}
-use Rattle.state_cache.specs.Inner.{Ready}
-use Rattle.state_cache.specs.Run.{outcome, settled}
+use Rattle.state_cache.specs.{State.Raw, State.raw, Inner.Ready, Run.outcome, Run.settled}
 use Rattle.state_cache.proofs.Stands.{ready-of}
-use Rattle.backend.specs.Ops.{opsIn, lentOf}
-use Rattle.backend.specs.Inner.{Wrote}
+use Rattle.backend.specs.{Ops.opsIn, Ops.lentOf, Inner.Wrote}
 use Rattle.backend.proofs.Turns.{write-refused, write-stands, listed-copy, wrote-copy}
-use borrow.Author.Needs.{needs}
 use Rattle.backend.proofs.inner.list.write_at.Statement.{statement}
 use Rattle.backend.proofs.inner.list.write_at.Tie as tie
 

@@ -1,18 +1,12 @@
 -- `backend::inner::request::all_supplied` meets its contract: the operations passed and those that are left are
 -- together what is asked.
-use Prim.Native.Nat.{_-_, _≤_}
-use mathlib.Core.Path.{_≡_, refl}
-use mathlib.Core.Bool.{_&&_}
-use mathlib.Core.List.{[], map}
-use native.Mathlib.Omega.{arith}
-use lib.ListN.{length, take, drop, length-map}
+use Rattle.words.proofs.Prelude.{needs, arith, _≡_, refl, _-_, _≤_, _&&_, [], map, length-map, length, take, drop}
 use Rattle.entry.specs.Limits.{mostOps}
 use Rattle.words.specs.All.{allOf}
 use Rattle.words.proofs.Alls.{all-end}
 use Rattle.model.specs.Backend.{supplied}
 use Rattle.backend.specs.Ops.{opOf, lentOf}
 use Rattle.backend.proofs.Requests.{ops-length, supplied-turn}
-use borrow.Author.Needs.{needs}
 use Rattle.backend.proofs.inner.request.all_supplied.Statement.{statement}
 use Rattle.backend.proofs.inner.request.all_supplied.Tie as tie
 

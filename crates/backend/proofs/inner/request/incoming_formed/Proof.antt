@@ -1,6 +1,6 @@
 -- `backend::inner::request::incoming_formed` meets its contract: both tests joined.
 use Rattle.backend.specs.Ops.{incomingFormed}
-use borrow.Author.Needs.{needs}
+use Rattle.words.proofs.Prelude.{needs}
 use Rattle.backend.proofs.inner.request.incoming_formed.Statement.{statement}
 use Rattle.backend.proofs.inner.request.incoming_formed.Tie as tie
 

@@ -1,10 +1,7 @@
 -- `backend::inner::request::request_formed` meets its contract: over eight operations, or all tests joined.
-use mathlib.Core.Path.{_≡_}
-use lib.ListN.{length, length-map}
-use denote.Ref.{now}
+use Rattle.words.proofs.Prelude.{needs, now, _≡_, length-map, length}
 use Rattle.entry.specs.Limits.{mostOps}
 use Rattle.backend.proofs.Requests.{too-many, request-is}
-use borrow.Author.Needs.{needs}
 use Rattle.backend.proofs.inner.request.request_formed.Statement.{statement}
 use Rattle.backend.proofs.inner.request.request_formed.Tie as tie
 

@@ -1,6 +1,6 @@
 -- `backend::inner::request::supplied` meets its contract: by the operation's kind.
 use Rattle.backend.proofs.Requests.{sign-supplied, snapshot-supplied}
-use borrow.Author.Needs.{needs}
+use Rattle.words.proofs.Prelude.{needs}
 use Rattle.backend.proofs.inner.request.supplied.Statement.{statement}
 use Rattle.backend.proofs.inner.request.supplied.Tie as tie
 

@@ -1,10 +1,7 @@
-use native.Mathlib.Omega.{arith}
-use denote.Ref.{now}
+use Rattle.words.proofs.Prelude.{needs, arith, now}
 use Rattle.state_cache.specs.State.{Raw, raw}
 use Rattle.entry.proofs.SliceLaws.{slice-whole}
-use Rattle.backend.proofs.Goings.{put-refused, put-goes}
-use borrow.Author.Needs.{needs}
-use Rattle.backend.proofs.inner.step.put_at.Statement.{statement}
+use Rattle.backend.proofs.{Goings.put-refused, Goings.put-goes, inner.step.put_at.Statement.statement}
 use Rattle.backend.proofs.inner.step.put_at.Tie as tie
 
 abbrev stateAt : tie.Start → Raw

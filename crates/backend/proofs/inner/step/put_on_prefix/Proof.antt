@@ -1,9 +1,8 @@
 -- `backend::inner::step::put_on_prefix` meets its contract: refusal 7 on either side of the run, then as at a place of
 -- the run.
-use denote.Ref.{now}
+use Rattle.words.proofs.Prelude.{needs, now}
 use Rattle.state_cache.specs.State.{Raw, raw, numbersIn}
 use Rattle.backend.proofs.Goings.{prefix-outside, prefix-inside, prefix-goes}
-use borrow.Author.Needs.{needs}
 use Rattle.backend.proofs.inner.step.put_on_prefix.Statement.{statement}
 use Rattle.backend.proofs.inner.step.put_on_prefix.Tie as tie
 

@@ -1,9 +1,5 @@
-use mathlib.Core.Path.{_≡_, refl}
-use mathlib.Core.List.{List}
-use Prim.Native.Nat.{ℕ}
-use denote.Ref.{now}
-use Rattle.model.specs.Numbers.{Numbers}
-use Rattle.model.specs.Backend.{Lent, Midst}
+use Rattle.words.proofs.Prelude.{needs, now, _≡_, refl, ℕ, List}
+use Rattle.model.specs.{Numbers.Numbers, Backend.Lent, Backend.Midst}
 use Rattle.state_cache.specs.State.{Raw, raw, numbersIn}
 use Rattle.backend.specs.Ops.{ofKind, opOf, lentOf}
 use Rattle.backend.specs.Inner.{midstOf, Steps}
@@ -12,7 +8,6 @@ use Rattle.backend.specs.declared.inner.step.Stepped.{Stepped}
 use Rattle.backend.specs.declared.OpKind.the-variants.{AppendEntries, AppendOnPrefix, SetPromise, SetDecidedIndex, SetAcceptedRound, SetCompactedIdx, Trim, SetStopsign, SetSnapshot}
 use Rattle.backend.proofs.Requests.{long-incoming}
 use Rattle.backend.proofs.Goings.{goes-of, append-goes, on-prefix-goes, promise-goes, decided-goes, round-goes, compacted-goes, trimmed-goes, is-supplied, sign-goes, snapshot-goes}
-use borrow.Author.Needs.{needs}
 use Rattle.backend.proofs.inner.step.step.Statement.{statement}
 use Rattle.backend.proofs.inner.step.step.Tie as tie
 

@@ -1,9 +1,6 @@
-use native.Mathlib.Omega.{arith}
-use denote.Ref.{now}
+use Rattle.words.proofs.Prelude.{needs, arith, now}
 use Rattle.state_cache.specs.State.{raw}
-use Rattle.backend.proofs.Goings.{trim-goes}
-use borrow.Author.Needs.{needs}
-use Rattle.backend.proofs.inner.step.trim_to.Statement.{statement}
+use Rattle.backend.proofs.{Goings.trim-goes, inner.step.trim_to.Statement.statement}
 use Rattle.backend.proofs.inner.step.trim_to.Tie as tie
 
 cut-out-requires : tie.Need-cut-out-requires

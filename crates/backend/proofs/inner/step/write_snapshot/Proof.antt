@@ -1,9 +1,6 @@
 -- `backend::inner::step::write_snapshot` meets its contract: a copy, or zeros over all.
-use mathlib.Core.Path.{_∙_}
-use denote.Ref.{now}
-use Rattle.backend.proofs.Amid.{cleared}
-use borrow.Author.Needs.{needs}
-use Rattle.backend.proofs.inner.step.write_snapshot.Statement.{statement}
+use Rattle.words.proofs.Prelude.{needs, now, _∙_}
+use Rattle.backend.proofs.{Amid.cleared, inner.step.write_snapshot.Statement.statement}
 use Rattle.backend.proofs.inner.step.write_snapshot.Tie as tie
 
 returns : tie.Need-returns

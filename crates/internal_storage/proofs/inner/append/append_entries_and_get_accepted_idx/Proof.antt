@@ -1,7 +1,7 @@
 -- `internal_storage::inner::append::append_entries_and_get_accepted_idx` meets its contract: the append's, with less
 -- said.
 use Rattle.internal_storage.proofs.Effects.{index-told}
-use borrow.Author.Needs.{needs}
+use Rattle.words.proofs.Prelude.{needs}
 use Rattle.internal_storage.proofs.inner.append.append_entries_and_get_accepted_idx.Statement.{statement}
 use Rattle.internal_storage.proofs.inner.append.append_entries_and_get_accepted_idx.Tie as tie
 

@@ -1,12 +1,9 @@
 -- `internal_storage::inner::append::append_entries_with_batching` meets its contract: refusal 11, then the append.
-use mathlib.Core.Path.{refl, sym, _∙_}
-use borrow.Author.Tests.{not-true, not-false}
-use denote.Ref.{now}
+use Rattle.words.proofs.Prelude.{needs, now, refl, sym, _∙_, not-true, not-false}
 use Rattle.entry.specs.Change.{entriesIn}
 use Rattle.model.specs.Calls.{append, malformed}
 use Rattle.state_cache.specs.State.{Raw, raw}
 use Rattle.internal_storage.proofs.Arguments.{slice-refused, slice-run, slice-appends}
-use borrow.Author.Needs.{needs}
 use Rattle.internal_storage.proofs.inner.append.append_entries_with_batching.Statement.{statement}
 use Rattle.internal_storage.proofs.inner.append.append_entries_with_batching.Tie as tie
 

@@ -1,10 +1,8 @@
 -- `internal_storage::inner::append::append_entry_with_batching` meets its contract: the append of its words.
-use mathlib.Core.Path.{_∙_}
-use denote.Ref.{now}
+use Rattle.words.proofs.Prelude.{needs, now, _∙_}
 use Rattle.entry.specs.Change.{saidIs}
 use Rattle.state_cache.specs.State.{raw}
 use Rattle.internal_storage.proofs.Arguments.{one-run}
-use borrow.Author.Needs.{needs}
 use Rattle.internal_storage.proofs.inner.append.append_entry_with_batching.Statement.{statement}
 use Rattle.internal_storage.proofs.inner.append.append_entry_with_batching.Tie as tie
 

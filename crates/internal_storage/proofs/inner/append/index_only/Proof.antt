@@ -1,8 +1,6 @@
 -- `internal_storage::inner::append::index_only` meets its contract: by the answer.
-use mathlib.Core.Path.{sym, ap}
-use Rattle.internal_storage.specs.Replies.{appendSaid, indexOnly}
-use Rattle.internal_storage.specs.declared.Appended.{Appended}
-use borrow.Author.Needs.{needs}
+use Rattle.words.proofs.Prelude.{needs, sym, ap}
+use Rattle.internal_storage.specs.{Replies.appendSaid, Replies.indexOnly, declared.Appended.Appended}
 use Rattle.internal_storage.proofs.inner.append.index_only.Statement.{statement}
 use Rattle.internal_storage.proofs.inner.append.index_only.Tie as tie
 

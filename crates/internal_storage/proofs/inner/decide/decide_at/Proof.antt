@@ -1,14 +1,10 @@
 -- `internal_storage::inner::decide::decide_at` meets its contract: each return takes the tests as far as it came.
-use mathlib.Core.Path.{refl}
-use borrow.Author.Tests.{lt-ltb, le-ltb}
+use Rattle.words.proofs.Prelude.{needs, refl, lt-ltb, le-ltb}
 use Rattle.entry.specs.Guards.{passes, refuses}
 use Rattle.entry.proofs.GuardLaws.{clear-all, passing, stopping}
 use Rattle.model.specs.Calls.{decideGuards}
-use Rattle.state_cache.specs.State.{numbersIn}
-use Rattle.state_cache.specs.Inner.{withDecided}
-use Rattle.internal_storage.proofs.Numbered.{told-by}
-use borrow.Author.Needs.{needs}
-use Rattle.internal_storage.proofs.inner.decide.decide_at.Statement.{statement}
+use Rattle.state_cache.specs.{State.numbersIn, Inner.withDecided}
+use Rattle.internal_storage.proofs.{Numbered.told-by, inner.decide.decide_at.Statement.statement}
 use Rattle.internal_storage.proofs.inner.decide.decide_at.Tie as tie
 
 returns : tie.Need-returns

@@ -1,6 +1,5 @@
 -- `internal_storage::inner::decide::set_decided_idx` meets its contract: by the numbers.
-use mathlib.Core.Path.{refl}
-use denote.Ref.{now}
+use Rattle.words.proofs.Prelude.{now, refl}
 use Rattle.model.specs.Calls.{decide, decideGuards, malformed, further, replyOf}
 use Rattle.state_cache.specs.State.{raw}
 use Rattle.state_cache.proofs.Small.{sound-small}

@@ -1,6 +1,5 @@
 -- `internal_storage::inner::decide::set_promise` meets its contract: the promise set.
-use mathlib.Core.Path.{refl}
-use denote.Ref.{now}
+use Rattle.words.proofs.Prelude.{now, refl}
 use Rattle.model.specs.Calls.{setPromise, malformed, further, replyOf}
 use Rattle.state_cache.specs.State.{raw}
 use Rattle.internal_storage.proofs.Effects.{quiet-stands, promised-stands}

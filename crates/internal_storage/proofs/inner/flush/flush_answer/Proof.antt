@@ -1,8 +1,7 @@
 -- `internal_storage::inner::flush::flush_answer` meets its contract: by whether the batch is empty.
-use borrow.Author.Tests.{eq-eqb, ne-eqb}
+use Rattle.words.proofs.Prelude.{needs, eq-eqb, ne-eqb}
 use Rattle.internal_storage.specs.Inner.{flushSays}
 use Rattle.internal_storage.proofs.Effects.{flushed-small, flush-answered}
-use borrow.Author.Needs.{needs}
 use Rattle.internal_storage.proofs.inner.flush.flush_answer.Statement.{statement}
 use Rattle.internal_storage.proofs.inner.flush.flush_answer.Tie as tie
 

@@ -1,5 +1,5 @@
 -- `internal_storage::inner::flush::flush_batch_and_get_entries` meets its contract: the batch flushed.
-use denote.Ref.{now}
+use Rattle.words.proofs.Prelude.{now}
 use Rattle.state_cache.specs.State.{raw}
 use Rattle.internal_storage.specs.Replies.{appendSaid}
 use Rattle.internal_storage.proofs.Effects.{flush-entries-run}

@@ -1,22 +1,12 @@
 -- `internal_storage::inner::stop::append_stop_at` meets its contract: each return takes the tests as far as it came.
-use Prim.Native.Nat.{_+_, _≤_, _<_}
-use mathlib.Core.Path.{ap₂, _∙_}
-use mathlib.Core.Bool.{true}
-use native.Mathlib.Omega.{arith}
-use borrow.Author.Tests.{lt-ltb, le-ltb}
-use mathlib.Core.Option.{Option}
-use Rattle.entry.specs.Guards.{passes, refuses, Answer}
-use Rattle.entry.specs.Limits.{lastIndex}
+use Rattle.words.proofs.Prelude.{arith, ap₂, _∙_, _+_, _≤_, _<_, true, lt-ltb, le-ltb, Option}
+use Rattle.entry.specs.{Guards.passes, Guards.refuses, Guards.Answer, Limits.lastIndex}
 use Rattle.entry.proofs.GuardLaws.{clear-all, passing, stopping}
-use Rattle.model.specs.Numbers.{acceptedOf}
-use Rattle.model.specs.Append.{Flushed, appendStopGuards}
-use Rattle.state_cache.specs.State.{numbersIn}
-use Rattle.state_cache.specs.declared.IndexRecord.{IndexRecord}
-use Rattle.state_cache.specs.Inner.{withStop}
+use Rattle.model.specs.{Numbers.acceptedOf, Append.Flushed, Append.appendStopGuards}
+use Rattle.state_cache.specs.{State.numbersIn, declared.IndexRecord.IndexRecord, Inner.withStop}
 use Rattle.state_cache.proofs.Small.{sound-small}
 use Rattle.internal_storage.specs.Inner.{indexed, flushSays, allFlushed}
-use Rattle.internal_storage.proofs.Numbered.{told-by}
-use Rattle.internal_storage.proofs.inner.stop.append_stop_at.Statement.{statement}
+use Rattle.internal_storage.proofs.{Numbered.told-by, inner.stop.append_stop_at.Statement.statement}
 use Rattle.internal_storage.proofs.inner.stop.append_stop_at.Tie as tie
 
 accepted-requires : tie.Need-accepted-requires

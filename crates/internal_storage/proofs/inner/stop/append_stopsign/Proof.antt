@@ -1,15 +1,10 @@
 -- `internal_storage::inner::stop::append_stopsign` meets its contract: refusal 11, then by the numbers.
-use mathlib.Core.Path.{sym, ap, _∙_}
-use mathlib.Core.Bool.{not}
-use borrow.Author.Tests.{not-true, not-false}
-use denote.Ref.{now}
+use Rattle.words.proofs.Prelude.{needs, now, sym, ap, _∙_, not, not-true, not-false}
 use Rattle.model.specs.Calls.{appendStop, malformed}
 use Rattle.state_cache.specs.State.{Raw, raw}
 use Rattle.state_cache.proofs.Runs.{bad-call}
 use Rattle.internal_storage.specs.Replies.{appendSaid}
-use Rattle.internal_storage.proofs.Effects.{append-stop-run}
-use borrow.Author.Needs.{needs}
-use Rattle.internal_storage.proofs.inner.stop.append_stopsign.Statement.{statement}
+use Rattle.internal_storage.proofs.{Effects.append-stop-run, inner.stop.append_stopsign.Statement.statement}
 use Rattle.internal_storage.proofs.inner.stop.append_stopsign.Tie as tie
 
 abbrev stateAt : tie.Start → Raw

@@ -1,18 +1,11 @@
 -- `internal_storage::inner::stop::set_stop_at` meets its contract: each return takes the tests as far as it came.
-use Prim.Native.Nat.{_+_, _≤_, _<_}
-use mathlib.Core.Path.{refl, sym, _∙_}
-use native.Mathlib.Omega.{arith}
-use borrow.Author.Tests.{lt-ltb, le-ltb}
-use Rattle.entry.specs.Guards.{passes, refuses}
-use Rattle.entry.specs.Limits.{lastIndex}
+use Rattle.words.proofs.Prelude.{arith, refl, sym, _∙_, _+_, _≤_, _<_, lt-ltb, le-ltb}
+use Rattle.entry.specs.{Guards.passes, Guards.refuses, Limits.lastIndex}
 use Rattle.entry.proofs.GuardLaws.{clear-all, passing, stopping}
-use Rattle.model.specs.Numbers.{endOf, acceptedOf}
-use Rattle.model.specs.Append.{setStopGuards}
-use Rattle.state_cache.specs.State.{numbersIn}
-use Rattle.state_cache.specs.Inner.{withStop}
+use Rattle.model.specs.{Numbers.endOf, Numbers.acceptedOf, Append.setStopGuards}
+use Rattle.state_cache.specs.{State.numbersIn, Inner.withStop}
 use Rattle.state_cache.proofs.Small.{sound-small, accepted-le}
-use Rattle.internal_storage.proofs.Numbered.{told-by}
-use Rattle.internal_storage.proofs.inner.stop.set_stop_at.Statement.{statement}
+use Rattle.internal_storage.proofs.{Numbered.told-by, inner.stop.set_stop_at.Statement.statement}
 use Rattle.internal_storage.proofs.inner.stop.set_stop_at.Tie as tie
 
 accepted-requires : tie.Need-accepted-requires

@@ -1,11 +1,7 @@
 -- `internal_storage::inner::stop::set_stopsign` meets its contract: refusal 11, then by the numbers.
-use mathlib.Core.Path.{sym, ap, _∙_}
-use mathlib.Core.Bool.{Bool, _&&_, not}
-use denote.Ref.{now}
-use Rattle.state_cache.specs.State.{Raw, raw}
-use Rattle.state_cache.specs.Run.{indexSaid}
+use Rattle.words.proofs.Prelude.{needs, now, sym, ap, _∙_, Bool, _&&_, not}
+use Rattle.state_cache.specs.{State.Raw, State.raw, Run.indexSaid}
 use Rattle.internal_storage.proofs.Effects.{set-stop-bad, set-stop-run}
-use borrow.Author.Needs.{needs}
 use Rattle.internal_storage.proofs.inner.stop.set_stopsign.Statement.{statement}
 use Rattle.internal_storage.proofs.inner.stop.set_stopsign.Tie as tie
 

@@ -7,9 +7,11 @@ use Rattle.words.specs.{Words.laid, Words.spliced, Coded.wordsOf}
 use Rattle.words.proofs.Tests.{reach, reached, short, and-left, and-right}
 use Rattle.words.proofs.Laws.{paste-all}
 use Rattle.words.proofs.Alls.{all-join, all-left, all-right, all-take, all-drop}
-use Rattle.words.proofs.CodedLaws.{entries-length, entries-add, entries-first, entries-second, words-entries, spliced-laid, spliced-trim, spliced-sync}
+use Rattle.words.proofs.CodedLaws.{entries-length, entries-add, entries-first, entries-second, words-entries}
+use Rattle.words.proofs.CodedLaws.{spliced-laid, spliced-trim, spliced-sync}
 use Rattle.entry.specs.Limits.{width, entryRoom, logWords, snapshotWords}
-use Rattle.entry.specs.Change.{Change, changeCode, changeFormed, entriesFormed, entriesOf, entriesIn, sliceFormed, stored, storedIn}
+use Rattle.entry.specs.Change.{Change, changeCode, changeFormed, entriesFormed, entriesOf, entriesIn, sliceFormed}
+use Rattle.entry.specs.Change.{stored, storedIn}
 use Rattle.entry.proofs.ChangeLaws.{changeOk}
 use Rattle.entry.proofs.SliceLaws.{laid-of, stored-laid, slice-whole, slice-fine}
 use Rattle.snapshot.specs.Calls.{snapshotFormed}
@@ -70,11 +72,14 @@ module _ (r : Raw) (h : Kept r) where
 
   -- whole entries cut and put in
   spliced-are : (at cut : ℕ) (new : List ℕ) (ns : List Change) → new ≡ wordsOf changeCode ns
-      → laid (length (r .log)) (spliced (at * width) (cut * width) new (take ((r .index .retained + r .index .batched) * width) (r .log)))
+      → laid (length (r .log)) (spliced (at * width)
+      (cut * width) new (take ((r .index .retained + r .index .batched) * width) (r .log)))
       ≡ stored logWords (spliced at cut ns (kept ++ batch))
   spliced-are at cut new ns e =
-      spliced-laid changeCode changeOk (r .index .retained + r .index .batched) at cut (r .log) new ns (omega (arith, h .log .fits, h .log .long)) e
-      ∙ ap (λ (n : ℕ). stored n (spliced at cut ns (entriesOf (r .index .retained + r .index .batched) (r .log)))) (h .log .long)
+      spliced-laid changeCode changeOk (r .index .retained + r .index .batched) at cut (r .log) new ns
+      (omega (arith, h .log .fits, h .log .long)) e
+      ∙ ap (λ (n : ℕ). stored n (spliced at cut ns (entriesOf (r .index .retained + r .index .batched) (r .log))))
+      (h .log .long)
       ∙ ap (λ (es : List Change). stored logWords (spliced at cut ns es)) held-are
 
   module _ (run : List Change) (words : List ℕ) (k : ℕ) (e : words ≡ stored logWords (run ++ batch))
@@ -91,7 +96,8 @@ module _ (r : Raw) (h : Kept r) where
         first = rw (many, e) (entries-first changeCode changeOk logWords run batch fine)
 
         second : entriesOf (r .index .batched) (drop (k * width) words) ≡ batch
-        second = rw (many, e) (ap (λ (j : ℕ). entriesOf j (drop (length run * width) (stored logWords (run ++ batch)))) (sym batch-count) ∙ entries-second changeCode changeOk logWords run batch batch-fine)
+        second = rw (many, e) (ap (λ (j : ℕ). entriesOf j (drop (length run * width) (stored logWords (run ++ batch))))
+            (sym batch-count) ∙ entries-second changeCode changeOk logWords run batch batch-fine)
 
         fields : (a b : List Change) → a ≡ run → b ≡ batch
             → _≡_ {A = Log} (record {
@@ -104,7 +110,8 @@ module _ (r : Raw) (h : Kept r) where
     rerun-held : Kept x
     unfolding signHeld
     rerun-held = record {
-      log = rw (counted, e) (laid-of logWords (length (run ++ batch)) (stored logWords (run ++ batch)) (stored-laid logWords (run ++ batch) (omega (arith, counted, room)) (all-join changeFormed run batch fine batch-fine)));
+      log = rw (counted, e) (laid-of logWords (length (run ++ batch)) (stored logWords (run ++ batch)) (stored-laid
+          logWords (run ++ batch) (omega (arith, counted, room)) (all-join changeFormed run batch fine batch-fine)));
       snapshot = h .snapshot;
       none-held = h .none-held;
       sign = h .sign;
@@ -115,7 +122,8 @@ module _ (r : Raw) (h : Kept r) where
 
   -- the run cut after its first entries, and others put there
   module _ (at : ℕ) (entries words : List ℕ) (inside : at ≤ r .index .retained) (whole : sliceFormed entries ≡ true)
-      (e : words ≡ laid (length (r .log)) (spliced (at * width) ((r .index .retained - at) * width) entries (take ((r .index .retained + r .index .batched) * width) (r .log)))) where
+      (e : words ≡ laid (length (r .log)) (spliced (at * width) ((r .index .retained - at) * width) entries
+      (take ((r .index .retained + r .index .batched) * width) (r .log)))) where
     abbrev es : List Change
     es = entriesIn entries
 
@@ -123,10 +131,12 @@ module _ (r : Raw) (h : Kept r) where
     put-words =
         e ∙ spliced-are at (r .index .retained - at) entries es (slice-coded entries whole)
         ∙ ap (stored logWords)
-        (ap (λ (j : ℕ). spliced at (j - at) es (kept ++ batch)) (sym kept-count) ∙ spliced-sync at kept batch es (omega (arith, kept-count)) ∙ sym (append-assoc (take at kept) es batch))
+        (ap (λ (j : ℕ). spliced at (j - at) es (kept ++ batch)) (sym kept-count)
+        ∙ spliced-sync at kept batch es (omega (arith, kept-count)) ∙ sym (append-assoc (take at kept) es batch))
 
     put-fine : entriesFormed (take at kept ++ es) ≡ true
-    put-fine = all-join changeFormed (take at kept) es (all-take changeFormed at kept kept-fine) (slice-fine entries whole)
+    put-fine = all-join changeFormed (take at kept) es (all-take changeFormed at kept kept-fine)
+        (slice-fine entries whole)
 
     module _ (k : ℕ) (many : k ≡ at + length es) (room : k + r .index .batched ≤ entryRoom) where
       counted : k ≡ length (take at kept ++ es)
@@ -142,12 +152,14 @@ module _ (r : Raw) (h : Kept r) where
 
   -- entries dropped from its front
   module _ (below gone : ℕ) (words : List ℕ) (least : gone ≡ min below (r .index .retained))
-      (e : words ≡ laid (length (r .log)) (spliced 0 (gone * width) [] (take ((r .index .retained + r .index .batched) * width) (r .log)))) where
+      (e : words ≡ laid (length (r .log))
+      (spliced 0 (gone * width) [] (take ((r .index .retained + r .index .batched) * width) (r .log)))) where
     trim-words : words ≡ stored logWords (drop below kept ++ batch)
     trim-words =
         let g : gone ≡ min below (length kept) = omega (arith, kept-count) in
         e ∙ spliced-are 0 gone [] [] (unfold wordsOf in refl)
-        ∙ ap (stored logWords) (spliced-trim gone kept batch (omega arith) ∙ ap (λ (j : ℕ). drop j kept ++ batch) g ∙ ap (λ (l : List Change). l ++ batch) (drop-least below kept))
+        ∙ ap (stored logWords) (spliced-trim gone kept batch (omega arith) ∙ ap (λ (j : ℕ). drop j kept ++ batch) g
+        ∙ ap (λ (l : List Change). l ++ batch) (drop-least below kept))
 
     trim-count : r .index .retained - gone ≡ length (drop below kept)
     trim-count = omega (arith, length-drop below kept, kept-count)
@@ -155,12 +167,14 @@ module _ (r : Raw) (h : Kept r) where
     trim-room : r .index .retained - gone + r .index .batched ≤ entryRoom
     trim-room = omega (arith, h .log .fits)
 
-    pub trim-log : logOf (raw (withEntries (r .index .retained - gone) (r .index .batched) (r .index)) words (r .snapshot)) ≡ withRun (retaining (drop below (logOf r .run .retained)) (logOf r .run)) (logOf r)
+    pub trim-log : logOf (raw (withEntries (r .index .retained - gone) (r .index .batched) (r .index)) words
+        (r .snapshot)) ≡ withRun (retaining (drop below (logOf r .run .retained)) (logOf r .run)) (logOf r)
     unfolding logOf
     trim-log = rerun-log (drop below kept) words (r .index .retained - gone) trim-words trim-count
         (all-drop changeFormed below kept kept-fine) trim-room
 
-    pub trim-held : Kept (raw (withEntries (r .index .retained - gone) (r .index .batched) (r .index)) words (r .snapshot))
+    pub trim-held : Kept (raw (withEntries (r .index .retained - gone) (r .index .batched) (r .index))
+        words (r .snapshot))
     trim-held = rerun-held (drop below kept) words (r .index .retained - gone) trim-words trim-count
         (all-drop changeFormed below kept kept-fine) trim-room
 

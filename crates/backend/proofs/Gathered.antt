@@ -32,7 +32,8 @@ unfolding putAll
 put-few l held [] long h few = rw (append-nil held) h
 put-few l held (o ∷ os) long h few =
     rw (put-room l o (omega (arith, h .count)), ← append-assoc held (o ∷ []) os)
-    (put-few (record { count = l .count + 1; ops = set (l .ops) (l .count) o }) (held ++ (o ∷ [])) os (length-set (l .ops) (l .count) o ∙ long) next (omega (arith, more)))
+    (put-few (record { count = l .count + 1; ops = set (l .ops) (l .count) o })
+    (held ++ (o ∷ [])) os (length-set (l .ops) (l .count) o ∙ long) next (omega (arith, more)))
   where
     more : length (held ++ (o ∷ [])) ≡ length held + 1
     more = length-append held (o ∷ [])
@@ -40,7 +41,8 @@ put-few l held (o ∷ os) long h few =
     next : Holding (record { count = l .count + 1; ops = set (l .ops) (l .count) o }) (held ++ (o ∷ []))
     next = record {
       count = omega (arith, more, h .count);
-      ops = rw (add-one (l .count)) (take-suc-set (l .ops) (l .count) o (omega (arith, h .count, long)) ∙ ap (λ (t : List CodeOp). t ++ (o ∷ [])) (h .ops));
+      ops = rw (add-one (l .count)) (take-suc-set (l .ops) (l .count) o (omega (arith, h .count, long))
+          ∙ ap (λ (t : List CodeOp). t ++ (o ∷ [])) (h .ops));
     }
 
 put-many : (l : OpList) (os : List CodeOp) → l .count ≤ mostOps + 1 → mostOps < l .count + length os
@@ -74,14 +76,16 @@ module _ (b : CodeLent) (entries incoming : List ℕ) (os : List CodeOp) (r : Ra
       (wholeList b entries incoming (putAll noOps os)) r ≡ run (write lent (map opOf os)) whole r
   few-run h =
       let g = put-few noOps [] os (length-replicate mostOps noOp) (record { count = refl; ops = refl }) (omega arith) in
-      ap₂ (λ (ops : List CodeOp) (n : ℕ). run (write lent (map opOf ops)) (whole && leb n mostOps) r) (g .ops) (g .count)
+      ap₂ (λ (ops : List CodeOp) (n : ℕ). run (write lent (map opOf ops)) (whole && leb n mostOps) r)
+      (g .ops) (g .count)
       ∙ ap (λ (t : Bool). run (write lent (map opOf os)) t r) (rw (le-leb (length os) mostOps h) (and-true whole))
 
   many-run : mostOps < length os
       → run (write lent (opsIn (putAll noOps os))) (wholeList b entries incoming (putAll noOps os)) r
       ≡ run (write lent (map opOf os)) whole r
   many-run h =
-      ap (λ (n : ℕ). run (write lent (opsIn (putAll noOps os))) (whole && leb n mostOps) r) (put-many noOps os (omega arith) (omega arith))
+      ap (λ (n : ℕ). run (write lent (opsIn (putAll noOps os))) (whole && leb n mostOps) r)
+      (put-many noOps os (omega arith) (omega arith))
       ∙ ap (λ (t : Bool). run (write lent (opsIn (putAll noOps os))) t r) (and-false whole)
       ∙ go (formed r) refl
     where

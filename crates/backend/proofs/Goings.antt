@@ -18,7 +18,8 @@ use Rattle.snapshot.specs.{Folds.rising, Calls.snapshotFormed, Inner.Holds}
 use Rattle.snapshot.proofs.Calling.{snapshot-holds}
 use Rattle.model.specs.Numbers.{Numbers, endOf}
 use Rattle.model.specs.Log.{given, ifGiven, retaining, withRun as logWithRun}
-use Rattle.model.specs.Backend.{Op, appendEntries, appendOnPrefix, setDecided, setCompacted, trim, setPromise, setRound, setSign, setSnapshot, Lent, supplied, Midst, step, stepGuards}
+use Rattle.model.specs.Backend.{Op, appendEntries, appendOnPrefix, setDecided, setCompacted, trim, setPromise, setRound}
+use Rattle.model.specs.Backend.{setSign, setSnapshot, Lent, supplied, Midst, step, stepGuards}
 use Rattle.state_cache.specs.{State.Raw, State.raw, State.signHeld, State.logOf, Inner.withEntries, Inner.withStop}
 use Rattle.state_cache.specs.{Inner.withDecided, Inner.withPromise, declared.IndexRecord.IndexRecord}
 use Rattle.state_cache.specs.{declared.Settled.Settled, declared.Settled.the-variants.Done}
@@ -82,7 +83,11 @@ blank-none = refl
 
 empty-holds : Holds snapshotWords 0 (replicate snapshotWords 0)
 unfolding laid wordsOf rising allOf entriesAt
-empty-holds = record { laid = laid-of snapshotWords 0 (replicate snapshotWords 0) (stored-laid snapshotWords [] (omega arith) refl); rises = refl }
+empty-holds = record {
+  laid = laid-of snapshotWords 0 (replicate snapshotWords 0)
+      (stored-laid snapshotWords [] (omega arith) refl);
+  rises = refl;
+}
 
 module _ (start : ℕ) (r : Raw) (h : Kept r) where
   abbrev m : Midst
@@ -105,15 +110,18 @@ module _ (start : ℕ) (r : Raw) (h : Kept r) where
     room-is = omega (arith, counted, batch-count r h)
 
     pub put-refused : (words : List ℕ) → entryRoom < at + r .index .batched + length entries / width
-        → Goes (roomGuards at (length es) m) (rejoined at es m) (stepped (Refused NoRoom) start (r .index)) words (r .snapshot)
+        → Goes (roomGuards at (length es) m) (rejoined at es m)
+        (stepped (Refused NoRoom) start (r .index)) words (r .snapshot)
     put-refused words over =
         goes-refused (roomGuards at (length es) m) (rejoined at es m) start (r .index) words (r .snapshot) NoRoom
-        (found {gs = roomGuards at (length es) m} {v = refuses 1 0} (stopping (lt-ltb entryRoom wanted (omega (arith, room-is, over))) refl))
+        (found {gs = roomGuards at (length es) m} {v = refuses 1 0}
+        (stopping (lt-ltb entryRoom wanted (omega (arith, room-is, over))) refl))
 
     pub put-goes : (words : List ℕ) → at + r .index .batched + length entries / width ≤ entryRoom
         → at ≤ r .index .retained → sliceFormed entries ≡ true
         → words ≡ laid (length (r .log))
-        (spliced (at * width) ((r .index .retained - at) * width) entries (take ((r .index .retained + r .index .batched) * width) (r .log)))
+        (spliced (at * width) ((r .index .retained - at) * width) entries
+        (take ((r .index .retained + r .index .batched) * width) (r .log)))
         → Goes (roomGuards at (length es) m) (rejoined at es m)
         (stepped Done start (withEntries (at + length entries / width) (r .index .batched) (r .index))) words
         (r .snapshot)
@@ -121,8 +129,10 @@ module _ (start : ℕ) (r : Raw) (h : Kept r) where
         let k : at + length entries / width ≡ at + length es = omega (arith, counted) in
         goes-done (roomGuards at (length es) m) (rejoined at es m) start
         (withEntries (at + length entries / width) (r .index .batched) (r .index)) words (r .snapshot)
-        (found {gs = roomGuards at (length es) m} {v = passes} (passing (le-ltb entryRoom wanted (omega (arith, room-is, fits))) clear-all))
-        (ap (λ (g : _). record { start = start; log = g }) (put-log r h at entries words inside whole e _ k (omega (arith, fits))))
+        (found {gs = roomGuards at (length es) m} {v = passes}
+        (passing (le-ltb entryRoom wanted (omega (arith, room-is, fits))) clear-all))
+        (ap (λ (g : _). record { start = start; log = g })
+        (put-log r h at entries words inside whole e _ k (omega (arith, fits))))
         (put-held r h at entries words inside whole e _ k (omega (arith, fits)))
 
   -- at an index of the run: refusal 7 first
@@ -144,7 +154,8 @@ module _ (start : ℕ) (r : Raw) (h : Kept r) where
             → (t || ltb (r .index .retained) kept) ≡ (t || ltb (start + length (logOf r .run .retained)) i)
         go true e = refl
         go false e = let low : start ≤ i = ltb-false i start e in
-            ltb-same (r .index .retained) kept (start + length (logOf r .run .retained)) i (λ k. omega (arith, counted)) (λ k. omega (arith, counted))
+            ltb-same (r .index .retained) kept (start + length (logOf r .run .retained)) i (λ k. omega (arith, counted))
+            (λ k. omega (arith, counted))
 
     pub prefix-outside : (end : ℕ) → end ≡ endOf n → beside ≡ true
         → Steps n l (appendOnPrefix i) m
@@ -159,19 +170,23 @@ module _ (start : ℕ) (r : Raw) (h : Kept r) where
     prefix-inside e = ltb-false (r .index .retained) kept (or-right (ltb i start) (ltb (r .index .retained) kept) e)
 
     pub prefix-goes : (s : Stepped) → beside ≡ false
-        → Goes (roomGuards kept (length (entriesIn entries)) m) (rejoined kept (entriesIn entries) m) s words (r .snapshot)
+        → Goes (roomGuards kept (length (entriesIn entries)) m)
+        (rejoined kept (entriesIn entries) m) s words (r .snapshot)
         → Steps n l (appendOnPrefix i) m s words (r .snapshot)
     unfolding stepGuards step
     prefix-goes s e g =
         goes-as _ _ _ _ s words (r .snapshot)
-        (ap (λ (k : ℕ). first (roomGuards k (length (entriesIn entries)) m)) far ∙ sym (first-goes-on 7 (endOf n) (ltb i start || ltb (start + length (logOf r .run .retained)) i) (roomGuards (i - start) (length (entriesIn entries)) m) (sym beside-is ∙ e)))
+        (ap (λ (k : ℕ). first (roomGuards k (length (entriesIn entries)) m)) far
+        ∙ sym (first-goes-on 7 (endOf n) (ltb i start || ltb (start + length (logOf r .run .retained)) i)
+        (roomGuards (i - start) (length (entriesIn entries)) m) (sym beside-is ∙ e)))
         (ap (λ (k : ℕ). rejoined k (entriesIn entries) m) far) g
 
   -- ---- entries dropped
 
   pub trim-goes : (i below gone next : ℕ) (words : List ℕ) → below ≡ i - start → gone ≡ min below (r .index .retained)
       → next ≡ max start i
-      → words ≡ laid (length (r .log)) (spliced 0 (gone * width) [] (take ((r .index .retained + r .index .batched) * width) (r .log)))
+      → words ≡ laid (length (r .log))
+      (spliced 0 (gone * width) [] (take ((r .index .retained + r .index .batched) * width) (r .log)))
       → Goes [] (step (onlyEntries []) (trim i) m)
       (stepped Done next (withEntries (r .index .retained - gone) (r .index .batched) (r .index))) words
       (r .snapshot)
@@ -180,20 +195,24 @@ module _ (start : ℕ) (r : Raw) (h : Kept r) where
       goes-done [] (step (onlyEntries []) (trim i) m) next
       (withEntries (r .index .retained - gone) (r .index .batched) (r .index)) words (r .snapshot) refl
       (ap₂ (λ (a : ℕ) (g : _). record { start = a; log = g }) q
-      (trim-log r h below gone words least e ∙ ap (λ (k : ℕ). logWithRun (retaining (drop k (logOf r .run .retained)) (logOf r .run)) (logOf r)) p))
+      (trim-log r h below gone words least e
+      ∙ ap (λ (k : ℕ). logWithRun (retaining (drop k (logOf r .run .retained)) (logOf r .run)) (logOf r)) p))
       (trim-held r h below gone words least e)
 
   -- ---- the operations
 
   module _ (n : Numbers) (l : Lent) where
     pub append-goes : (s : Stepped) (words : List ℕ)
-        → Goes (roomGuards (r .index .retained) (length (l .entries)) m) (rejoined (r .index .retained) (l .entries) m) s words (r .snapshot)
+        → Goes (roomGuards (r .index .retained) (length (l .entries)) m)
+        (rejoined (r .index .retained) (l .entries) m) s words (r .snapshot)
         → Steps n l appendEntries m s words (r .snapshot)
     unfolding stepGuards step logOf
     append-goes s words g =
         goes-as _ _ _ _ s words (r .snapshot)
         (ap (λ (k : ℕ). first (roomGuards k (length (l .entries)) m)) (sym (kept-count r h)))
-        (ap (λ (run : List Change). record { start = start; log = logWithRun (retaining (run ++ l .entries) (logOf r .run)) (logOf r) }) (take-all (r .index .retained) (logOf r .run .retained) (omega (arith, kept-count r h))))
+        (ap (λ (run : List Change).
+        record { start = start; log = logWithRun (retaining (run ++ l .entries) (logOf r .run)) (logOf r) })
+        (take-all (r .index .retained) (logOf r .run .retained) (omega (arith, kept-count r h))))
         g
 
     pub on-prefix-goes : (entries : List ℕ) (i : ℕ) (s : Stepped) (words : List ℕ) → l .entries ≡ entriesIn entries
@@ -250,7 +269,8 @@ module _ (start : ℕ) (r : Raw) (h : Kept r) where
         (stepped Done start (withStop t (signIf t (b .stop)) (r .index))) (r .log) (r .snapshot)
     unfolding stepGuards step first
     sign-goes t e =
-        goes-done [] (step lent (setSign t) m) start (withStop t (signIf t (b .stop)) (r .index)) (r .log) (r .snapshot) refl
+        goes-done [] (step lent (setSign t) m) start (withStop t (signIf t (b .stop)) (r .index)) (r .log)
+        (r .snapshot) refl
         (unfold logOf in ap (λ (g : Option StopSign). record { start = start; log = record { run = logOf r .run; tail = record { batched = logOf r .tail .batched; size = logOf r .tail .size; sign = g }; marks = logOf r .marks } })
         (set t (b .«stop_lent») e))
         (record { log = h .log; snapshot = h .snapshot; none-held = h .none-held; sign = unfold signHeld in fine t (b .«stop_lent») e (f .sign) })

@@ -1,6 +1,5 @@
 -- What is judged after the last operation: refusal 9, then 12. In the midst of a list the words are always in form, so
--- the state is
--- well formed exactly if its log is.
+-- the state is well formed exactly if its log is.
 use Rattle.words.proofs.Prelude.{arith, _≡_, refl, sym, ap, _∙_, ℕ, _+_, Bool, true, false, and-true, _&&_, not, eqb}
 use Rattle.words.proofs.Prelude.{ltb, not-false, eq-eqb, ltb-false, List, length}
 use Rattle.words.proofs.{Tests.and-left, Tests.and-right, Tests.both-true, CodedLaws.entries-length}
@@ -20,7 +19,8 @@ use Rattle.backend.specs.Inner.{midstOf, Kept}
 -- the numbers of the log that a record and words stand for are the record's
 pub numbers-of : (r : Raw) → numbersOf (logOf r) ≡ numbersIn (r .index)
 unfolding logOf
-numbers-of r = fields _ _ _ (entries-length changeCode _ _) (entries-length changeCode _ _) (given-by (r .index .«stop_held») (r .index .stop))
+numbers-of r = fields _ _ _ (entries-length changeCode _ _) (entries-length changeCode _ _)
+    (given-by (r .index .«stop_held») (r .index .stop))
   where
     fields : (a b : ℕ) (t : Bool) → a ≡ r .index .retained → b ≡ r .index .batched → t ≡ r .index .«stop_held»
         → _≡_ {A = Numbers} (record {
@@ -46,13 +46,17 @@ unfolding formed snapshotFormed
 formed-numbers r h = sym (and-true (numbersFormed (numbersIn (r .index))))
     ∙ ap (λ (t : Bool). numbersFormed (numbersIn (r .index)) && t) (sym rest)
   where
-    rest : (signHeld (r .index) && (storedIn logWords (r .index .retained + r .index .batched) (r .log) && snapshotHeld (r .index) (r .snapshot))) ≡ true
+    rest : (signHeld (r .index) && (storedIn logWords (r .index .retained + r .index .batched) (r .log)
+        && snapshotHeld (r .index) (r .snapshot))) ≡ true
     rest =
         both-true (signHeld (r .index)) _ (h .sign)
-        (both-true (storedIn logWords (r .index .retained + r .index .batched) (r .log)) _ (stored-of logWords _ (r .log) (h .log))
+        (both-true (storedIn logWords (r .index .retained + r .index .batched) (r .log))
+        _ (stored-of logWords _ (r .log) (h .log))
         (snapshot-tests (r .index) (r .snapshot)
-        ∙ both-true (storedIn snapshotWords (r .index .keys) (r .snapshot) && rising (entriesOf (r .index .keys) (r .snapshot))) _
-        (both-true (storedIn snapshotWords (r .index .keys) (r .snapshot)) _ (stored-of snapshotWords _ (r .snapshot) (h .snapshot .laid)) (h .snapshot .rises))
+        ∙ both-true (storedIn snapshotWords (r .index .keys) (r .snapshot)
+        && rising (entriesOf (r .index .keys) (r .snapshot))) _
+        (both-true (storedIn snapshotWords (r .index .keys) (r .snapshot))
+        _ (stored-of snapshotWords _ (r .snapshot) (h .snapshot .laid)) (h .snapshot .rises))
         (h .none-held)))
 
 pub formed-is : (r : Raw) → Kept r → formed r ≡ wellFormed (logOf r)
@@ -60,7 +64,8 @@ formed-is r h = go (formed r) (wellFormed (logOf r)) refl refl
   where
     back : wellFormed (logOf r) ≡ true → formed r ≡ true
     back e = sym (formed-numbers r h)
-        ∙ (unfold wellFormed in ap numbersFormed (sym (numbers-of r)) ∙ and-left (numbersFormed (numbersOf (logOf r))) _ e)
+        ∙ (unfold wellFormed in ap numbersFormed (sym (numbers-of r))
+        ∙ and-left (numbersFormed (numbersOf (logOf r))) _ e)
 
     go : (a b : Bool) → formed r ≡ a → wellFormed (logOf r) ≡ b → formed r ≡ wellFormed (logOf r)
     go true b p q = p ∙ sym (log-formed r p)
@@ -125,7 +130,8 @@ module _ (n : Numbers) (start : ℕ) (r : Raw) (h : Kept r) where
     unfolding lastGuards logOf
     last-stands p e =
         judged passes (passing (past-is ∙ inside)
-        (passing (ap not (both-true (eqb start (r .index .compacted .0)) _ (eq-eqb start (r .index .compacted .0) p) (log-formed r e))) clear-all))
+        (passing (ap not (both-true (eqb start (r .index .compacted .0)) _ (eq-eqb start (r .index .compacted .0) p)
+        (log-formed r e))) clear-all))
 
   -- a list that stands leaves a well-formed state
   pub last-formed : first gs ≡ passes → formed r ≡ true

@@ -12,7 +12,8 @@ use Rattle.entry.specs.{declared.StopSign.StopSign}
 use Rattle.snapshot.specs.Calls.{snapshotFormed}
 use Rattle.snapshot.proofs.Calling.{snapshot-holds}
 use Rattle.model.specs.Log.{given, ifGiven, keysFormed}
-use Rattle.model.specs.Backend.{Op, appendEntries, appendOnPrefix, setDecided, setCompacted, trim, setPromise, setRound, setSign, setSnapshot, Lent, supplied, opsFormed}
+use Rattle.model.specs.Backend.{Op, appendEntries, appendOnPrefix, setDecided, setCompacted, trim, setPromise, setRound}
+use Rattle.model.specs.Backend.{setSign, setSnapshot, Lent, supplied, opsFormed}
 use Rattle.model.specs.Calls.{write, malformed}
 use Rattle.model.proofs.Forms.{of-snapshot}
 use Rattle.state_cache.specs.{State.Raw, State.formed, Run.outcome, Run.run}
@@ -41,7 +42,8 @@ module _ (b : CodeLent) (entries incoming : List ℕ) (f : Lends b entries incom
   pub long-incoming : length incoming ≡ snapshotWords
   unfolding incomingFormed
   long-incoming = eqb-true (length incoming) snapshotWords
-      (and-left (eqb (length incoming) snapshotWords) (not (b .«snapshot_lent») || snapshotFormed (b .keys) incoming) (f .snapshot))
+      (and-left (eqb (length incoming) snapshotWords)
+      (not (b .«snapshot_lent») || snapshotFormed (b .keys) incoming) (f .snapshot))
 
 -- the operations of a list by value, one after the other
 module _ (ops : List CodeOp) (n : ℕ) (few : n ≤ mostOps) (eight : length ops ≡ mostOps) where
@@ -52,7 +54,8 @@ module _ (ops : List CodeOp) (n : ℕ) (few : n ≤ mostOps) (eight : length ops
       → drop i (map opOf (take n ops)) ≡ opOf (getD ops i d) ∷ drop (suc i) (map opOf (take n ops))
   op-cons i d h =
       drop-cons (map opOf (take n ops)) i (opOf d) (omega (arith, ops-length))
-      ∙ ap (λ (o : Op). o ∷ drop (suc i) (map opOf (take n ops))) (List·getD-map opOf (take n ops) i d ∙ ap opOf (getD-take n ops i d h))
+      ∙ ap (λ (o : Op). o ∷ drop (suc i) (map opOf (take n ops)))
+      (List·getD-map opOf (take n ops) i d ∙ ap opOf (getD-take n ops i d h))
 
 -- one turn of the test that each operation is supplied
 pub supplied-turn : (b : CodeLent) (ops : List CodeOp) (n : ℕ) → n ≤ mostOps → length ops ≡ mostOps → (i : ℕ) → i < n
@@ -61,7 +64,8 @@ pub supplied-turn : (b : CodeLent) (ops : List CodeOp) (n : ℕ) → n ≤ mostO
     → (ok && allOf (supplied (lentOf b [] [])) (drop i (map opOf (take n ops)))) ≡ asked
     → (ok && t && allOf (supplied (lentOf b [] [])) (drop (i + 1) (map opOf (take n ops)))) ≡ asked
 supplied-turn b ops n few eight i h ok t asked e inv =
-    rw e (all-turn (supplied (lentOf b [] [])) (map opOf (take n ops)) i ok asked inv (opOf (getD ops i noOp)) (op-cons ops n few eight i noOp h))
+    rw e (all-turn (supplied (lentOf b [] [])) (map opOf (take n ops)) i ok asked inv (opOf (getD ops i noOp))
+    (op-cons ops n few eight i noOp h))
 
 -- ---- the tests of a request, in the code's order and in the model's
 
@@ -82,14 +86,16 @@ supplied-any b entries incoming (setPromise x) = refl
 supplied-any b entries incoming (setRound x) = refl
 supplied-any b entries incoming (setSign t) = refl
 supplied-any b entries incoming (setSnapshot t) =
-    ap (λ (u : Bool). not t || u) (given-by (b .«snapshot_lent») (entriesOf (b .keys) []) ∙ sym (given-by (b .«snapshot_lent») (entriesOf (b .keys) incoming)))
+    ap (λ (u : Bool). not t || u) (given-by (b .«snapshot_lent») (entriesOf (b .keys) [])
+    ∙ sym (given-by (b .«snapshot_lent») (entriesOf (b .keys) incoming)))
 
 -- a snapshot that is lent in form
 snapshot-lent : (b : CodeLent) (entries incoming : List ℕ) → incomingFormed b incoming ≡ true
     → ifGiven keysFormed (lentOf b entries incoming .snapshot) ≡ true
 unfolding incomingFormed
 snapshot-lent b entries incoming e =
-    go (b .«snapshot_lent») (and-right (eqb (length incoming) snapshotWords) (not (b .«snapshot_lent») || snapshotFormed (b .keys) incoming) e)
+    go (b .«snapshot_lent») (and-right (eqb (length incoming) snapshotWords)
+    (not (b .«snapshot_lent») || snapshotFormed (b .keys) incoming) e)
   where
     go : (t : Bool) → (not t || snapshotFormed (b .keys) incoming) ≡ true
         → ifGiven keysFormed (if t then some (entriesOf (b .keys) incoming) else none) ≡ true
@@ -133,7 +139,8 @@ module _ (b : CodeLent) (entries incoming : List ℕ) (list : OpList) where
       go false = refl
 
   module _ (few : list .count ≤ mostOps) (eight : length (list .ops) ≡ mostOps) where
-    pub request-is : (sliceFormed entries && (incomingFormed b incoming && ((not (b .«stop_lent») || signFormed (b .stop)) && (leb 1 (list .count) && allOf (supplied (lentOf b [] [])) (opsIn list)))))
+    pub request-is : (sliceFormed entries && (incomingFormed b incoming && ((not (b .«stop_lent»)
+        || signFormed (b .stop)) && (leb 1 (list .count) && allOf (supplied (lentOf b [] [])) (opsIn list)))))
         ≡ (whole && opsFormed lent (opsIn list))
     unfolding sliceFormed wholeLent opsFormed
     request-is =
@@ -143,7 +150,8 @@ module _ (b : CodeLent) (entries incoming : List ℕ) (list : OpList) where
           all-same (supplied (lentOf b [] [])) (supplied lent) (supplied-any b entries incoming) (opsIn list),
           sign-lent (b .«stop_lent») (b .stop),
         )
-        (shuffle (wholeIn entries) (entriesFormed (entriesIn entries)) (incomingFormed b incoming) (ifGiven signFormed (lent .sign)) (leb 1 (list .count)) (allOf (supplied lent) (opsIn list))
+        (shuffle (wholeIn entries) (entriesFormed (entriesIn entries)) (incomingFormed b incoming)
+        (ifGiven signFormed (lent .sign)) (leb 1 (list .count)) (allOf (supplied lent) (opsIn list))
         (ifGiven keysFormed (lent .snapshot)) (snapshot-lent b entries incoming))
 
   -- what a request in form is known to be, and one that is not is refused
@@ -185,4 +193,5 @@ module _ (b : CodeLent) (entries incoming : List ℕ) (list : OpList) where
 
     pub request-run : (whole && opsFormed lent (opsIn list)) ≡ true
         → run (write lent (opsIn list)) true r ≡ run (write lent (opsIn list)) whole r
-    request-run e = ap (λ (t : Bool). run (write lent (opsIn list)) t r) (sym (and-left whole (opsFormed lent (opsIn list)) e))
+    request-run e = ap (λ (t : Bool). run (write lent (opsIn list)) t r)
+        (sym (and-left whole (opsFormed lent (opsIn list)) e))

@@ -55,7 +55,8 @@ module _ (n : Numbers) (l : Lent) (codes : List CodeOp) (count : ℕ) (few : cou
         unfolding opGuards
         turn-refused f e =
             sym (left .verdict) ∙ ap (λ (os : List Op). first (opGuards n l os m)) cons
-            ∙ sym (first-left (stepGuards n l o m) (opGuards n l (drop (suc i) ops) (step l o m)) (numberOf f) (carriedOf f)
+            ∙ sym (first-left (stepGuards n l o m) (opGuards n l (drop (suc i) ops) (step l o m))
+            (numberOf f) (carriedOf f)
             (settle-refused (first (stepGuards n l o m)) (numberOf f) (carriedOf f) (ap settled (sym e) ∙ g .verdict)))
 
         pub turn-held : s .answer ≡ Done → Kept (raw (s .index) log snapshot)
@@ -68,7 +69,8 @@ module _ (n : Numbers) (l : Lent) (codes : List CodeOp) (count : ℕ) (few : cou
             rw (add-one i, g .after (ap settled e) .0)
             (record {
               verdict =
-                  sym (first-right (stepGuards n l o m) (opGuards n l (drop (suc i) ops) (step l o m)) (settle-replied (first (stepGuards n l o m)) (ap settled (sym e) ∙ g .verdict)))
+                  sym (first-right (stepGuards n l o m) (opGuards n l (drop (suc i) ops) (step l o m))
+                  (settle-replied (first (stepGuards n l o m)) (ap settled (sym e) ∙ g .verdict)))
                   ∙ ap (λ (os : List Op). first (opGuards n l os m)) (sym cons) ∙ left .verdict;
               after = ap (λ (os : List Op). steps l os m) (sym cons) ∙ left .after;
             })
@@ -86,7 +88,11 @@ module _ (r : Raw) (l : Lent) (ops : List Op) where
 
   pub all-left : Left (numbersIn (r .index)) l ops (midstOf (r .index .compacted .0) r) asked end
   unfolding writeGuards logOf
-  all-left = record { verdict = ap (λ (n : Numbers). first (opGuards n l ops (midst (logOf r)))) (sym (numbers-of r)); after = refl }
+  all-left = record {
+    verdict = ap (λ (n : Numbers). first (opGuards n l ops (midst (logOf r))))
+        (sym (numbers-of r));
+    after = refl;
+  }
 
   pub wrote-refused : (f : Refusal) (x : Raw) → asked ≡ refuses (numberOf f) (carriedOf f) → Wrote r l ops (Refused f) x
   wrote-refused f x e = record { verdict = ap (λ (v : Verdict). settle v tt) (sym e); after = λ q. absurd (never q) }
@@ -99,7 +105,8 @@ module _ (r : Raw) (l : Lent) (ops : List Op) where
   unfolding opGuards steps listWritten
   wrote n start x a h left e = record {
     verdict = e ∙ ap (λ (v : Verdict). settle v tt) (left .verdict);
-    after = λ q. (last-formed n start x h (sym (settle-replied _ (sym q ∙ e))), ap (λ (m : Midst). m .log) (left .after));
+    after =
+        λ q. (last-formed n start x h (sym (settle-replied _ (sym q ∙ e))), ap (λ (m : Midst). m .log) (left .after));
   }
 
   module _ (ok : formed r ≡ true) (fine : opsFormed l ops ≡ true) (a : Settled) (x : Raw) (w : Wrote r l ops a x) where

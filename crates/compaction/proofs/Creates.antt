@@ -54,7 +54,8 @@ module _ (r : Raw) (i : ℕ) (out : List ℕ) where
     unfolding further queryGuards createGuards
     create-below h =
         told (refuses 3 (r .index .compacted .0))
-        (found {gs = createGuards i s} {v = refuses 3 (r .index .compacted .0)} (stopping (lt-ltb i (s .run .compacted) (omega (arith, st .run .start, h))) (sym (st .run .start))))
+        (found {gs = createGuards i s} {v = refuses 3 (r .index .compacted .0)}
+        (stopping (lt-ltb i (s .run .compacted) (omega (arith, st .run .start, h))) (sym (st .run .start))))
 
     module _ (low : r .index .compacted .0 ≤ i) where
       from : ltb i (s .run .compacted) ≡ false
@@ -77,8 +78,10 @@ module _ (r : Raw) (i : ℕ) (out : List ℕ) where
           ∙ told (first (foldGuards (created i s))) verdict
         where
           asked : foldedTo to (s .run) ≡ created i s
-          asked = unfold foldedUpto in ap (λ (j : ℕ). foldedTo j (s .run)) (e ∙ ap (target (some i)) (sym (numbers r ok)))
+          asked = unfold foldedUpto in
+              ap (λ (j : ℕ). foldedTo j (s .run)) (e ∙ ap (target (some i)) (sym (numbers r ok)))
 
           verdict : first (foldGuards (created i s)) ≡ first (further c s)
           verdict = unfold further queryGuards createGuards in
-              sym (first-goes-on 3 (s .run .compacted) (ltb i (s .run .compacted)) _ from ∙ first-goes-on 2 (s .marks .decided) (pastDecided (some i) (numbersOf s)) _ (rw (numbers r ok) h))
+              sym (first-goes-on 3 (s .run .compacted) (ltb i (s .run .compacted)) _ from
+              ∙ first-goes-on 2 (s .marks .decided) (pastDecided (some i) (numbersOf s)) _ (rw (numbers r ok) h))

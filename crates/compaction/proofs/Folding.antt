@@ -25,7 +25,8 @@ module _ (r : Raw) (ok : formed r ≡ true) where
   snapshot-is =
       let st = stands-of r ok in
       ap₂ entriesOf (sym (st .run .snapshot-keys)) (sym (st .snapshot))
-      ∙ stored-entries snapshotWords (orEmpty (s .run .held)) (snapshot-held (s .run .held) (formed-of s (log-formed r ok) .snapshot) .fine)
+      ∙ stored-entries snapshotWords (orEmpty (s .run .held))
+      (snapshot-held (s .run .held) (formed-of s (log-formed r ok) .snapshot) .fine)
 
   module _ (to : ℕ) (in-run : to ≤ r .index .compacted .0 + r .index .retained) where
     below : take (to - s .run .compacted) (s .run .retained) ≡ entriesOf (to - r .index .compacted .0) (r .log)
@@ -45,7 +46,8 @@ module _ (r : Raw) (ok : formed r ≡ true) where
           base-holds = g .snapshot;
           entries-show = record {
             inside = omega (arith, g .log .fits, g .log .long);
-            sound = rw (← below) (all-take changeFormed (to - s .run .compacted) (s .run .retained) (formed-of s (log-formed r ok) .entries));
+            sound = rw (← below) (all-take changeFormed (to - s .run .compacted) (s .run .retained)
+                (formed-of s (log-formed r ok) .entries));
           };
           room = roomy;
         }

@@ -92,8 +92,10 @@ module _ (r : Raw) (ok : formed r ≡ true) (upto : Option ℕ) where
       tail = st .tail;
       marks = st .marks;
       log =
-          ap (stored logWords) (sym (spliced-trim (to - s .run .compacted) (s .run .retained) (s .tail .batched) gone-le))
-          ∙ rw (st .run .start) (sym (m .words ∙ log-spliced s r st (log-formed r ok) 0 (to - r .index .compacted .0) [] [] (unfold wordsOf in refl)));
+          ap (stored logWords)
+          (sym (spliced-trim (to - s .run .compacted) (s .run .retained) (s .tail .batched) gone-le))
+          ∙ rw (st .run .start) (sym (m .words
+          ∙ log-spliced s r st (log-formed r ok) 0 (to - r .index .compacted .0) [] [] (unfold wordsOf in refl)));
       snapshot = e;
     })
 
@@ -116,7 +118,8 @@ module _ (r : Raw) (ok : formed r ≡ true) (i : ℕ) where
   unfolding malformed
   trim-stays Done p = trim-stands (p .verdict) r (unmoved-stands r ok (some i) (p .low refl) (t .run .held))
   trim-stays (Refused x) p =
-      call-refused (trim i) r ok refl (numberOf x) (carriedOf x) (past-stops r ok (some i) (trim i) [] only (numberOf x) (carriedOf x) (p .verdict))
+      call-refused (trim i) r ok refl (numberOf x) (carriedOf x)
+      (past-stops r ok (some i) (trim i) [] only (numberOf x) (carriedOf x) (p .verdict))
 
   pub trim-moves : (to : ℕ) (u : Up (some i) (r .index) to) (y : IndexRecord) (words : List ℕ)
       → Moved to (r .index .«snapshot_held») (r .index .keys) (r .index) (r .log) y words
@@ -124,4 +127,5 @@ module _ (r : Raw) (ok : formed r ≡ true) (i : ℕ) where
   trim-moves to u y words m =
       let st = stands-of r ok in
       trim-stands (u .verdict) (raw y words (r .snapshot))
-      (moved-stands r ok (some i) to u (r .index .«snapshot_held») (r .index .keys) y words m (t .run .held) (r .snapshot) (st .run .snapshot) (st .run .snapshot-keys) (st .snapshot))
+      (moved-stands r ok (some i) to u (r .index .«snapshot_held») (r .index .keys) y words m (t .run .held)
+      (r .snapshot) (st .run .snapshot) (st .run .snapshot-keys) (st .snapshot))

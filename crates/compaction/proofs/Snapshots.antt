@@ -17,7 +17,8 @@ use Rattle.state_cache.specs.{declared.Settled.the-variants.Done}
 use Rattle.state_cache.specs.{declared.Settled.the-variants.Refused as SettledRefused}
 use Rattle.state_cache.proofs.{Stands.Stands, Runs.call-refused, Runs.call-stands}
 use Rattle.compaction.specs.Inner.{Stay, Up, Moved}
-use Rattle.compaction.proofs.Moving.{past-stops, past-goes-on, not-past, unmoved-stands, in-run, ends-at, is-past, moved-stands}
+use Rattle.compaction.proofs.Moving.{past-stops, past-goes-on, not-past, unmoved-stands, in-run, ends-at}
+use Rattle.compaction.proofs.Moving.{is-past, moved-stands}
 use Rattle.compaction.proofs.Folding.{fold-is}
 
 module _ (r : Raw) (ok : formed r ≡ true) (upto : Option ℕ) where
@@ -40,7 +41,8 @@ module _ (r : Raw) (ok : formed r ≡ true) (upto : Option ℕ) where
   pub snapshot-stays : (a : Settled) → Stay upto (r .index) a → outcome (settled a) r ≡ run (snapshot upto) true r
   unfolding malformed first
   snapshot-stays Done p =
-      snapshot-stands (sym (past-goes-on r ok upto (snapshot upto) (foldGuards due) both (p .verdict) ∙ rw (not-past r ok upto (p .low refl)))) r
+      snapshot-stands (sym (past-goes-on r ok upto (snapshot upto) (foldGuards due) both (p .verdict)
+      ∙ rw (not-past r ok upto (p .low refl)))) r
       (unmoved-stands r ok upto (p .low refl) (some (foldedUpto upto s)))
   snapshot-stays (SettledRefused x) p =
       call-refused (snapshot upto) r ok refl (numberOf x) (carriedOf x)
@@ -48,8 +50,10 @@ module _ (r : Raw) (ok : formed r ≡ true) (upto : Option ℕ) where
 
   -- a fold of the entries below the target, with nothing folded after it
   module _ (to : ℕ) (u : Up upto (r .index) to) (a : Folded) (exit : List ℕ)
-      (f : snapshotOutcome (folded a) exit ≡ foldWritten (foldOnto (foldOnto (entriesOf (r .index .keys) (r .snapshot)) (entriesOf (to - r .index .compacted .0) (r .log))) (entriesOf 0 [])) (r .snapshot)) where
-    folds : foldOnto (foldOnto (entriesOf (r .index .keys) (r .snapshot)) (entriesOf (to - r .index .compacted .0) (r .log))) (entriesOf 0 []) ≡ foldedUpto upto s
+      (f : snapshotOutcome (folded a) exit ≡ foldWritten (foldOnto (foldOnto (entriesOf (r .index .keys) (r .snapshot))
+      (entriesOf (to - r .index .compacted .0) (r .log))) (entriesOf 0 [])) (r .snapshot)) where
+    folds : foldOnto (foldOnto (entriesOf (r .index .keys) (r .snapshot))
+        (entriesOf (to - r .index .compacted .0) (r .log))) (entriesOf 0 []) ≡ foldedUpto upto s
     unfolding foldOnto entriesAt foldedUpto
     folds = fold-is r ok to (in-run r ok upto to u) ∙ ap (λ (j : ℕ). foldedTo j (s .run)) (sym (ends-at r ok upto to u))
 
@@ -65,7 +69,8 @@ module _ (r : Raw) (ok : formed r ≡ true) (upto : Option ℕ) where
         → outcome (refusedBy x) (raw (r .index) (r .log) exit) ≡ run (snapshot upto) true r
     unfolding malformed
     snapshot-over x p =
-        let q = wrote-nothing (first (foldGuards (foldedUpto upto s))) (foldedUpto upto s) (r .snapshot) exit a wrote x p in
+        let q = wrote-nothing (first (foldGuards (foldedUpto upto s))) (foldedUpto upto s)
+        (r .snapshot) exit a wrote x p in
         ap (λ (ws : List ℕ). outcome (refusedBy x) (raw (r .index) (r .log) ws)) (q .1)
         ∙ call-refused (snapshot upto) r ok refl (numberOf x) (carriedOf x) (sym (verdict ∙ q .0))
 
@@ -73,6 +78,7 @@ module _ (r : Raw) (ok : formed r ≡ true) (upto : Option ℕ) where
         → Moved to true k (r .index) (r .log) y words
         → outcome (replied tt) (raw y words exit) ≡ run (snapshot upto) true r
     snapshot-moves k p y words m =
-        let q = wrote-keys (first (foldGuards (foldedUpto upto s))) (foldedUpto upto s) (r .snapshot) exit a wrote k p in
+        let q = wrote-keys (first (foldGuards (foldedUpto upto s))) (foldedUpto upto s)
+        (r .snapshot) exit a wrote k p in
         snapshot-stands (sym (verdict ∙ q .0)) (raw y words exit)
         (moved-stands r ok upto to u true k y words m (some (foldedUpto upto s)) exit refl (sym (q .1)) (sym (q .2)))

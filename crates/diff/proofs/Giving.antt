@@ -21,7 +21,11 @@ use Rattle.compaction.proofs.Folding.{decided-low, decided-high}
 abbrev diffTo : ℕ → ℕ → Run → Given
 diffTo last i r =
     if leb i (r .compacted)
-    then (if ltb (r .compacted) last then complete (foldedTo last r) else elim (r .held) [ none ↦ plain | some h ↦ complete h ])
+    then (if ltb (r .compacted) last then complete (foldedTo last r) else elim (r .held) [
+      | none ↦
+          plain
+      | some h ↦ complete h
+    ])
     else delta (fold (between i last r))
 
 -- a snapshot with nothing folded onto it
@@ -56,7 +60,11 @@ module _ (last i : ℕ) (r : Run) where
         sole false e = e
 
         go : Reach last (r .compacted)
-            → (if ltb (r .compacted) last then complete (foldedTo last r) else elim (r .held) [ none ↦ plain | some t ↦ complete t ]) ≡ complete (foldedTo last r)
+            → (if ltb (r .compacted) last then complete (foldedTo last r) else elim (r .held) [
+              | none ↦ plain
+              | some t ↦
+                  complete t
+            ]) ≡ complete (foldedTo last r)
         go (reached x) =
             let e = le-ltb (r .compacted) last x in
             rw e (held (r .held) (sole (given (r .held)) (rw e at g)) ∙ ap complete (sym (fold-none last r x)))
@@ -81,7 +89,8 @@ module _ (first n : ℕ) (log out : List ℕ) where
 
   pub rest-needs : Shows n (drop (first * width) log) → length out ≡ snapshotWords
       → Aside 0 (replicate snapshotWords 0) n (take (length log - first * width) (drop (first * width) log)) out
-  rest-needs h roomy = rw rest (record { base-holds = snapshot-holds 0 (replicate snapshotWords 0) empty-formed; entries-show = h; room = roomy })
+  rest-needs h roomy = rw rest (record
+      { base-holds = snapshot-holds 0 (replicate snapshotWords 0) empty-formed; entries-show = h; room = roomy })
 
   pub rest-folds : foldedOut 0 (replicate snapshotWords 0) n
       (take (length log - first * width) (drop (first * width) log)) out
@@ -106,12 +115,15 @@ module _ (r : Raw) (ok : formed r ≡ true) (i last : ℕ) (l : last ≡ logDeci
   diff-plain h e =
       diff-is
       ∙ to-plain last i (s .run) (omega (arith, st .run .start, h))
-      (omega (arith, st .run .start, ltb-false (r .index .compacted .0) last (or-right (r .index .«snapshot_held») _ e))) (st .run .snapshot ∙ or-left _ _ e)
+      (omega
+      (arith, st .run .start, ltb-false (r .index .compacted .0) last (or-right (r .index .«snapshot_held») _ e)))
+      (st .run .snapshot ∙ or-left _ _ e)
 
   pub diff-complete : i ≤ r .index .compacted .0
       → (r .index .«snapshot_held» || ltb (r .index .compacted .0) last) ≡ true
       → diffOf i s ≡ complete (foldedTo last (s .run))
-  diff-complete h e = diff-is ∙ to-complete last i (s .run) (omega (arith, st .run .start, h)) (rw (st .run .snapshot, st .run .start) e)
+  diff-complete h e = diff-is
+      ∙ to-complete last i (s .run) (omega (arith, st .run .start, h)) (rw (st .run .snapshot, st .run .start) e)
 
   pub complete-formed : entriesFormed (foldedTo last (s .run)) ≡ true
   complete-formed = snapshot-folded last s (formed-of s (log-formed r ok)) .fine
@@ -128,19 +140,22 @@ module _ (r : Raw) (ok : formed r ≡ true) (i last : ℕ) (l : last ≡ logDeci
     unfolding logOf
     part-is =
         let first : ℕ = start - r .index .compacted .0 in
-        sym (ap (take (last - start)) (entries-drop changeCode first (r .index .retained) (r .log) (omega (arith, start-low, decided-high (numbersIn (r .index)) (ready-of r ok .numbers) last l)))
+        sym (ap (take (last - start)) (entries-drop changeCode first (r .index .retained) (r .log)
+        (omega (arith, start-low, decided-high (numbersIn (r .index)) (ready-of r ok .numbers) last l)))
         ∙ entries-take changeCode (last - start) (r .index .retained - first) (drop (first * width) (r .log))
         (omega (arith, start-low, decided-low (numbersIn (r .index)) (ready-of r ok .numbers) last l, decided-high (numbersIn (r .index)) (ready-of r ok .numbers) last l)))
 
     pub diff-delta : diffOf i s ≡ delta (fold part)
     diff-delta =
         diff-is ∙ to-delta last i (s .run) (omega (arith, st .run .start, h))
-        ∙ ap (λ (es : List Change). delta (fold es)) (sym (part-is ∙ ap (λ (k : ℕ). between k last (s .run)) e ∙ between-least i last (s .run)))
+        ∙ ap (λ (es : List Change). delta (fold es))
+        (sym (part-is ∙ ap (λ (k : ℕ). between k last (s .run)) e ∙ between-least i last (s .run)))
 
     part-formed : entriesFormed part ≡ true
     part-formed =
         rw part-is
-        (all-take changeFormed (last - start) _ (all-drop changeFormed (start - s .run .compacted) (s .run .retained) (formed-of s (log-formed r ok) .entries)))
+        (all-take changeFormed (last - start) _ (all-drop changeFormed (start - s .run .compacted) (s .run .retained)
+        (formed-of s (log-formed r ok) .entries)))
 
     pub delta-formed : entriesFormed (fold part) ≡ true
     delta-formed = formed-fold part part-formed

@@ -58,21 +58,24 @@ module _ (r : Raw) (i : ℕ) (out : List ℕ) where
   answerOf o = o .answer
 
   pub diff-ill-formed : (whole : Bool) → formed r ≡ false → Told (Refused IllFormed) out whole
-  diff-ill-formed whole e = told (Refused IllFormed) out whole (refused 12 0) (ap answerOf (ill-formed c whole r e)) refl refl
+  diff-ill-formed whole e =
+      told (Refused IllFormed) out whole (refused 12 0) (ap answerOf (ill-formed c whole r e)) refl refl
 
   pub told-whole : (a : Diff) (exit : List ℕ) (whole : Bool) → whole ≡ true → Told a exit true → Told a exit whole
   told-whole a exit whole e t = rw e t
 
   module _ (ok : formed r ≡ true) where
     pub diff-malformed : (whole : Bool) → whole ≡ false → Told (Refused Malformed) out whole
-    diff-malformed whole e = told (Refused Malformed) out whole (refused 11 0) (ap answerOf (not-whole c whole r ok e)) refl refl
+    diff-malformed whole e = told (Refused Malformed) out whole (refused 11 0)
+        (ap answerOf (not-whole c whole r ok e)) refl refl
 
     module _ (last : ℕ) (l : last ≡ logDecided (numbersIn (r .index))) where
       answers : (v : Verdict) → v ≡ first (further c s) → settle v (reply (diffOf i s) last) ≡ run c true r .answer
       unfolding malformed effect replyOf queryReply
       answers passes e =
           ap answerOf
-          (call-stands c r ok refl e (reply (diffOf i s) last) r (ap (reply (diffOf i s)) (l ∙ ap logDecided (sym (numbers r ok)))) (stands-of r ok))
+          (call-stands c r ok refl e (reply (diffOf i s) last) r
+          (ap (reply (diffOf i s)) (l ∙ ap logDecided (sym (numbers r ok)))) (stands-of r ok))
       answers (refuses n k) e = ap answerOf (call-refused c r ok refl n k e)
 
       -- refusal 8 looks at what is given
@@ -88,10 +91,12 @@ module _ (r : Raw) (i : ℕ) (out : List ℕ) where
       diff-nothing h g =
           let e = diff-plain r ok i last l h g in
           told (Nothing (record { 0 = last })) out true (replied (reply plain last))
-          (ap (λ (x : Given). replied (reply x last)) (sym e) ∙ answers passes (verdict [] (ap (λ (x : Given). orEmpty (snapshotIn x)) e))) refl refl
+          (ap (λ (x : Given). replied (reply x last)) (sym e)
+          ∙ answers passes (verdict [] (ap (λ (x : Given). orEmpty (snapshotIn x)) e))) refl refl
 
       -- a snapshot written out, of either kind
-      module _ (kind : Bool) (es : List Change) (is : diffOf i s ≡ kindOf kind es) (fine : entriesFormed es ≡ true) (exit : List ℕ) where
+      module _ (kind : Bool) (es : List Change) (is : diffOf i s ≡ kindOf kind es) (fine : entriesFormed es ≡ true)
+          (exit : List ℕ) where
         given-is : orEmpty (snapshotIn (diffOf i s)) ≡ es
         given-is = ap (λ (g : Given). orEmpty (snapshotIn g)) is ∙ ap orEmpty (kind-holds kind es)
 
@@ -99,14 +104,17 @@ module _ (r : Raw) (i : ℕ) (out : List ℕ) where
             → Told (foldTold kind (record { 0 = last }) a) exit true
         wrote (FoldRefused x) f =
             let q = wrote-nothing (first (foldGuards es)) es out exit (FoldRefused x) f x refl in
-            told (Refused x) exit true (refusedBy x) (answers (refuses (numberOf x) (carriedOf x)) (sym (q .0) ∙ verdict es given-is)) refl (q .1)
+            told (Refused x) exit true (refusedBy x)
+            (answers (refuses (numberOf x) (carriedOf x)) (sym (q .0) ∙ verdict es given-is)) refl (q .1)
         wrote (Keys k) f =
             let q = wrote-keys (first (foldGuards es)) es out exit (Keys k) f k refl in
             told (keysTold kind (record { 0 = last }) k) exit true (replied (reply (kindOf kind es) last))
             (ap (λ (g : Given). replied (reply g last)) (sym is) ∙ answers passes (sym (q .0) ∙ verdict es given-is))
             (kind-says kind k last exit
-            ∙ ap (λ (t : List Change). replied (reply (kindOf kind t) last)) (ap₂ entriesOf (q .1) (q .2) ∙ stored-entries snapshotWords es fine))
-            (q .2 ∙ ap (λ (o : Option (List Change)). elim o [ none ↦ out | some t ↦ stored snapshotWords t ]) (sym (kind-holds kind es)))
+            ∙ ap (λ (t : List Change). replied (reply (kindOf kind t) last))
+            (ap₂ entriesOf (q .1) (q .2) ∙ stored-entries snapshotWords es fine))
+            (q .2 ∙ ap (λ (o : Option (List Change)). elim o [ none ↦ out | some t ↦ stored snapshotWords t ])
+            (sym (kind-holds kind es)))
 
       -- of all that is decided
       pub complete-wrote : i ≤ r .index .compacted .0
@@ -116,10 +124,12 @@ module _ (r : Raw) (i : ℕ) (out : List ℕ) where
           → Told (foldTold false (record { 0 = last }) a) exit true
       complete-wrote h g a exit f =
           wrote false (foldedTo last (s .run)) (diff-complete r ok i last l h g) (complete-formed r ok i last l) exit a
-          (f ∙ ap (λ (es : List Change). foldWritten es out) (fold-is r ok last (decided-high (numbersIn (r .index)) (ready-of r ok .numbers) last l)))
+          (f ∙ ap (λ (es : List Change). foldWritten es out)
+          (fold-is r ok last (decided-high (numbersIn (r .index)) (ready-of r ok .numbers) last l)))
 
       -- of what is decided from an index on
-      pub delta-wrote : (h : r .index .compacted .0 < i) (start : ℕ) (e : start ≡ min i last) (a : Folded) (exit : List ℕ)
+      pub delta-wrote : (h : r .index .compacted .0 < i) (start : ℕ) (e : start ≡ min i last)
+          (a : Folded) (exit : List ℕ)
           → snapshotOutcome (folded a) exit
           ≡ foldedOut 0 [] (last - start) (drop ((start - r .index .compacted .0) * width) (r .log)) out
           → Told (foldTold true (record { 0 = last }) a) exit true

@@ -75,4 +75,8 @@ module _ (k : ℕ) where
 
     pub lent-none : places ≤ p → LentAs (record { key = k; said = place p }) (k ∷ (places ∷ []))
     unfolding entriesAt allOf
-    lent-none h = record { whole = refl; same-form = rw (le-ltb p places h); same-entry = λ e. absurd (true≢false (sym e ∙ le-ltb p places h)) }
+    lent-none h = record {
+      whole = refl;
+      same-form = rw (le-ltb p places h);
+      same-entry = λ e. absurd (true≢false (sym e ∙ le-ltb p places h));
+    }

@@ -1,7 +1,9 @@
 -- A refusal is known by its number and what it carries: two that agree in both are one.
 use Rattle.words.proofs.Prelude.{_≡_, refl, sym, ap₂, _∙_, ℕ, eqb, if_then_else_}
 use Rattle.entry.specs.declared.Refusal.{Refusal}
-use Rattle.entry.specs.declared.Refusal.the-variants.{NoRoom, AboveDecided, BelowCompacted, Stopped, BelowDecided, AboveAccepted, OutsideRun, TooManyKeys, PastLastIndex, BatchHeld, Malformed, IllFormed}
+use Rattle.entry.specs.declared.Refusal.the-variants.{NoRoom, AboveDecided, BelowCompacted, Stopped, BelowDecided}
+use Rattle.entry.specs.declared.Refusal.the-variants.{AboveAccepted, OutsideRun, TooManyKeys, PastLastIndex}
+use Rattle.entry.specs.declared.Refusal.the-variants.{BatchHeld, Malformed, IllFormed}
 use Rattle.entry.specs.Refusals.{numberOf, carriedOf}
 use Rattle.entry.specs.Guards.{refusedBy}
 

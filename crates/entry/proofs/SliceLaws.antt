@@ -8,7 +8,8 @@ use Rattle.words.proofs.{Tests.and-left, Tests.and-right, Tests.both-true, Alls
 use Rattle.words.proofs.{Alls.zeros-pass, Laws.length-laid, Laws.drop-laid, CodedLaws.entries-append}
 use Rattle.words.proofs.{CodedLaws.entries-laid, CodedLaws.laid-entries, CodedLaws.words-length}
 use Rattle.entry.specs.Limits.{width}
-use Rattle.entry.specs.Change.{Change, changeCode, changeFormed, entriesFormed, entriesOf, entriesIn, sliceFormed, stored, storedIn, Laid}
+use Rattle.entry.specs.Change.{Change, changeCode, changeFormed, entriesFormed, entriesOf, entriesIn, sliceFormed}
+use Rattle.entry.specs.Change.{stored, storedIn, Laid}
 use Rattle.entry.proofs.ChangeLaws.{changeOk}
 
 pub laid-of : (words n : ℕ) (ws : List ℕ) → storedIn words n ws ≡ true → Laid words n ws
@@ -26,7 +27,8 @@ laid-of words n ws e =
       fine = and-left _ _ e₃;
       zeros = sym (take-append-drop (n * width) ws)
           ∙ ap (λ (d : List ℕ). take (n * width) ws ++ d)
-          (zeros-are (drop (n * width) ws) (and-right (entriesFormed (entriesOf n ws)) _ e₃) ∙ ap (λ (m : ℕ). replicate m 0) k);
+          (zeros-are (drop (n * width) ws) (and-right (entriesFormed (entriesOf n ws)) _ e₃)
+          ∙ ap (λ (m : ℕ). replicate m 0) k);
     }
 
 -- the slice is its entries laid out
@@ -35,7 +37,8 @@ laid-stored words n ws l =
     rw (← l .long) (laid-entries changeCode changeOk n ws (omega (arith, l .long, l .fits)) (l .zeros))
 
 pub stored-length : (words : ℕ) (es : List Change) → length es * width ≤ words → length (stored words es) ≡ words
-stored-length words es h = length-laid words (wordsOf changeCode es) (omega (arith, words-length changeCode changeOk es))
+stored-length words es h =
+    length-laid words (wordsOf changeCode es) (omega (arith, words-length changeCode changeOk es))
 
 pub stored-entries : (words : ℕ) (es : List Change) → entriesFormed es ≡ true
     → entriesOf (length es) (stored words es) ≡ es
@@ -76,4 +79,5 @@ slice-join a b p q =
     let n : length b % width ≡ 0 = slice-whole b q in
     both-true (eqb (length (a ++ b) % width) 0) (entriesFormed (entriesIn (a ++ b)))
     (eq-eqb (length (a ++ b) % width) 0 (simp length-append (omega arith)))
-    (ap entriesFormed (entries-join a b m) ∙ all-join changeFormed (entriesIn a) (entriesIn b) (slice-fine a p) (slice-fine b q))
+    (ap entriesFormed (entries-join a b m)
+    ∙ all-join changeFormed (entriesIn a) (entriesIn b) (slice-fine a p) (slice-fine b q))

@@ -25,7 +25,8 @@ unfolding sliceFormed
 slice-run c ws r e = ap (λ (t : Bool). run c t r) (sym (and-left (wholeIn ws) _ e))
 
 pub slice-appends : (ws : List ℕ) (r : Raw) → formed r ≡ true → sliceFormed ws ≡ true → Appends r (length ws / width) ws
-slice-appends ws r ok e = record { ready = ready-of r ok; whole = omega (arith, slice-whole ws e); fine = slice-fine ws e }
+slice-appends ws r ok e =
+    record { ready = ready-of r ok; whole = omega (arith, slice-whole ws e); fine = slice-fine ws e }
 
 -- one entry, by the words that it is lent as
 pub one-run : (c : Change) (ws : List ℕ) → LentAs c ws → (r : Raw)

@@ -11,8 +11,10 @@ use Rattle.entry.specs.{Guards.refused, Guards.replied, declared.Ballot.Ballot,
 use Rattle.entry.proofs.{ChangeLaws.changeOk, GuardLaws.passed}
 use Rattle.model.specs.Numbers.{Numbers, acceptedOf}
 use Rattle.model.specs.Log.{Log, ifGiven, numbersOf, waiting, withTail}
-use Rattle.model.specs.Append.{Flushed, appendGuards, appendStopGuards, setStopGuards, joined, batchWith, fills, appended, appendedNow, flushed, stopAppended, stopSet, appendReply, flushReply}
-use Rattle.model.specs.Calls.{Call, Reply, append, appendNow, flush, flushEntries, appendStop, setStop, setPromise, decide, malformed, further, effect, replyOf}
+use Rattle.model.specs.Append.{Flushed, appendGuards, appendStopGuards, setStopGuards, joined, batchWith, fills}
+use Rattle.model.specs.Append.{appended, appendedNow, flushed, stopAppended, stopSet, appendReply, flushReply}
+use Rattle.model.specs.Calls.{Call, Reply, append, appendNow, flush, flushEntries, appendStop, setStop, setPromise}
+use Rattle.model.specs.Calls.{decide, malformed, further, effect, replyOf}
 use Rattle.model.specs.Inner.{Sound}
 use Rattle.state_cache.specs.{State.Raw, State.raw, State.numbersIn, State.formed, State.logOf, Inner.Small}
 use Rattle.state_cache.specs.{Inner.withEntries, Inner.withStop, Inner.withDecided, Inner.withPromise, Run.Outcome}
@@ -21,7 +23,8 @@ use Rattle.state_cache.proofs.{Small.sound-small, Stands.Stands, Stands.stands-
 use Rattle.state_cache.proofs.{Stands.log-formed, Stands.given-by, Stands.sign-by, Runs.bad-call, Runs.call-refused}
 use Rattle.state_cache.proofs.{Runs.call-stands, Changes.held-length, Changes.log-spliced}
 use Rattle.internal_storage.specs.Replies.{appendSaid, asked, indexOnly, withIndexOnly}
-use Rattle.internal_storage.specs.Inner.{Indexed, indexed, byNumbers, flushedAt, heldAt, batchedWith, allFlushed, flushSays}
+use Rattle.internal_storage.specs.Inner.{Indexed, indexed, byNumbers, flushedAt, heldAt, batchedWith, allFlushed}
+use Rattle.internal_storage.specs.Inner.{flushSays}
 
 module _ (r : Raw) (ok : formed r ≡ true) where
   abbrev s : Log
@@ -34,13 +37,15 @@ module _ (r : Raw) (ok : formed r ≡ true) where
   numbers = numbers-are s r st
 
   -- a call whose refusals are a function of the numbers
-  module _ (c : Call) (gs : Numbers → List Guard) (same : further c s ≡ gs (numbersOf s)) (m : malformed c ≡ false) where
+  module _ (c : Call) (gs : Numbers → List Guard) (same : further c s ≡ gs (numbersOf s))
+      (m : malformed c ≡ false) where
     here : first (further c s) ≡ first (gs (numbersIn (r .index)))
     here = ap first same ∙ ap (λ (n : Numbers). first (gs n)) numbers
 
     -- one that moves no word
     pub numbers-run : (y : Reply c) (next : IndexRecord)
-        → (passes ≡ first (gs (numbersIn (r .index))) → (y ≡ replyOf c s) × Stands (effect c s) (raw next (r .log) (r .snapshot)))
+        → (passes ≡ first (gs (numbersIn (r .index))) → (y ≡ replyOf c s)
+        × Stands (effect c s) (raw next (r .log) (r .snapshot)))
         → (a : Answer (Reply c)) (x : IndexRecord)
         → indexed a x ≡ byNumbers (first (gs (numbersIn (r .index)))) y next (r .index)
         → outcome a (raw x (r .log) (r .snapshot)) ≡ run c true r
@@ -48,7 +53,8 @@ module _ (r : Raw) (ok : formed r ≡ true) where
       where
         told : (v : Verdict) → first (gs (numbersIn (r .index))) ≡ v
             → outcome a (raw x (r .log) (r .snapshot))
-            ≡ outcome (byNumbers v y next (r .index) .answer) (raw (byNumbers v y next (r .index) .index) (r .log) (r .snapshot))
+            ≡ outcome (byNumbers v y next (r .index) .answer)
+            (raw (byNumbers v y next (r .index) .index) (r .log) (r .snapshot))
         told v q = ap (λ (z : Indexed (Reply c)). outcome (z .answer) (raw (z .index) (r .log) (r .snapshot)))
             (e ∙ ap (λ (u : Verdict). byNumbers u y next (r .index)) q)
 
@@ -65,7 +71,8 @@ module _ (r : Raw) (ok : formed r ≡ true) where
 
   -- ---- marks
 
-  pub decided-stands : (i : ℕ) → Stands (effect (decide i) s) (raw (withDecided (record { 0 = i }) (r .index)) (r .log) (r .snapshot))
+  pub decided-stands : (i : ℕ)
+      → Stands (effect (decide i) s) (raw (withDecided (record { 0 = i }) (r .index)) (r .log) (r .snapshot))
   unfolding effect
   decided-stands i = record {
     run = st .run;
@@ -88,7 +95,8 @@ module _ (r : Raw) (ok : formed r ≡ true) where
 
   -- ---- the batch joins the run: no word moves
 
-  pub flushed-stands : Stands (flushed s) (raw (withEntries (r .index .retained + r .index .batched) 0 (r .index)) (r .log) (r .snapshot))
+  pub flushed-stands : Stands (flushed s)
+      (raw (withEntries (r .index .retained + r .index .batched) 0 (r .index)) (r .log) (r .snapshot))
   unfolding flushed
   flushed-stands = record {
     run = record {
@@ -104,7 +112,8 @@ module _ (r : Raw) (ok : formed r ≡ true) where
   }
 
   pub stop-stands : (g : StopSign)
-      → Stands (stopAppended g s) (raw (withStop true g (withEntries (r .index .retained + r .index .batched) 0 (r .index))) (r .log) (r .snapshot))
+      → Stands (stopAppended g s) (raw
+      (withStop true g (withEntries (r .index .retained + r .index .batched) 0 (r .index))) (r .log) (r .snapshot))
   unfolding stopAppended
   stop-stands g =
       let f = flushed-stands in
@@ -121,7 +130,8 @@ module _ (r : Raw) (ok : formed r ≡ true) where
   unfolding stopSet
   stop-set-stands held g = record {
     run = st .run;
-    tail = record { count = st .tail .count; sized = st .tail .sized; stopped = given-by held g; sign = sign-by held g };
+    tail =
+        record { count = st .tail .count; sized = st .tail .sized; stopped = given-by held g; sign = sign-by held g };
     marks = st .marks;
     log = st .log;
     snapshot = st .snapshot;
@@ -131,7 +141,8 @@ module _ (r : Raw) (ok : formed r ≡ true) where
   unfolding replyOf flushReply flushSays
   flush-says =
       ap₂ (λ (k a : ℕ). if eqb k 0 then none else some (record { accepted = a; count = k })) (sym (st .tail .count))
-      (ap acceptedOf (sym (numbers-are (flushed s) (raw (allFlushed (r .index)) (r .log) (r .snapshot)) flushed-stands)))
+      (ap acceptedOf
+      (sym (numbers-are (flushed s) (raw (allFlushed (r .index)) (r .log) (r .snapshot)) flushed-stands)))
 
   pub flush-entries-run : (a : Answer (Option Flushed)) (x : IndexRecord) → a ≡ replied (flushSays (r .index))
       → x ≡ allFlushed (r .index)
@@ -139,7 +150,8 @@ module _ (r : Raw) (ok : formed r ≡ true) where
   unfolding further malformed effect
   flush-entries-run a x e p =
       ap₂ (λ (b : Answer (Option Flushed)) (z : IndexRecord). outcome b (raw z (r .log) (r .snapshot))) e p
-      ∙ quiet-stands flushEntries refl refl (flushSays (r .index)) (raw (allFlushed (r .index)) (r .log) (r .snapshot)) flush-says flushed-stands
+      ∙ quiet-stands flushEntries refl refl (flushSays (r .index))
+      (raw (allFlushed (r .index)) (r .log) (r .snapshot)) flush-says flushed-stands
 
   pub flush-run : (y : ℕ) (x : IndexRecord) → x ≡ allFlushed (r .index) → y ≡ acceptedOf (numbersIn x)
       → outcome (replied y) (raw x (r .log) (r .snapshot)) ≡ run flush true r
@@ -147,7 +159,8 @@ module _ (r : Raw) (ok : formed r ≡ true) where
   flush-run y x e p =
       ap (λ (z : IndexRecord). outcome (replied y) (raw z (r .log) (r .snapshot))) e
       ∙ quiet-stands flush refl refl y (raw (allFlushed (r .index)) (r .log) (r .snapshot))
-      (p ∙ ap (λ (z : IndexRecord). acceptedOf (numbersIn z)) e ∙ ap acceptedOf (sym (numbers-are (flushed s) (raw (allFlushed (r .index)) (r .log) (r .snapshot)) flushed-stands)))
+      (p ∙ ap (λ (z : IndexRecord). acceptedOf (numbersIn z)) e ∙ ap acceptedOf
+      (sym (numbers-are (flushed s) (raw (allFlushed (r .index)) (r .log) (r .snapshot)) flushed-stands)))
       flushed-stands
 
   pub append-stop-run : (g : StopSign) → signFormed g ≡ true → (a : Answer (Option Flushed)) (x : IndexRecord)
@@ -179,11 +192,16 @@ module _ (r : Raw) (ok : formed r ≡ true) where
         → outcome a (raw x (r .log) (r .snapshot)) ≡ run (setStop (asked held g)) true r
     unfolding further effect replyOf
     set-stop-run m k is a x e =
-        let set : Stands (stopSet (asked held g) s) (raw (withStop held k (r .index)) (r .log) (r .snapshot)) = rw is (stop-set-stands held g) in
+        let set : Stands (stopSet (asked held g) s) (raw (withStop held k (r .index)) (r .log) (r .snapshot)) =
+        rw is (stop-set-stands held g) in
         numbers-run (setStop (asked held g)) (setStopGuards held)
         (ap (λ (t : Bool). setStopGuards t (numbersOf s)) (given-by held g)) (set-malformed ∙ m)
         (acceptedOf (numbersIn (withStop held k (r .index)))) (withStop held k (r .index))
-        (λ q. (ap acceptedOf (sym (numbers-are (stopSet (asked held g) s) (raw (withStop held k (r .index)) (r .log) (r .snapshot)) set)), set)) a x e
+        (λ q. (
+          ap acceptedOf (sym (numbers-are (stopSet (asked held g) s)
+              (raw (withStop held k (r .index)) (r .log) (r .snapshot)) set)),
+          set,
+        )) a x e
 
   -- ---- entries put into the log's words
 
@@ -198,10 +216,12 @@ module _ (r : Raw) (ok : formed r ≡ true) where
     many = entries-length changeCode n entries
 
     -- after the batch
-    module _ (put : words ≡ laid (length (r .log)) (spliced ((r .index .retained + r .index .batched) * width) 0 entries (take ((r .index .retained + r .index .batched) * width) (r .log)))) where
+    module _ (put : words ≡ laid (length (r .log)) (spliced ((r .index .retained + r .index .batched) * width) 0 entries
+        (take ((r .index .retained + r .index .batched) * width) (r .log)))) where
       words-are : stored logWords (s .run .retained ++ batchWith es s) ≡ words
       words-are =
-          ap (stored logWords) (sym (append-assoc (s .run .retained) (s .tail .batched) es) ∙ sym (spliced-append (s .run .retained ++ s .tail .batched) es))
+          ap (stored logWords) (sym (append-assoc (s .run .retained) (s .tail .batched) es)
+          ∙ sym (spliced-append (s .run .retained ++ s .tail .batched) es))
           ∙ rw (held-length s r st (log-formed r ok))
           (sym (put ∙ log-spliced s r st (log-formed r ok) (r .index .retained + r .index .batched) 0 entries es coded))
 
@@ -227,7 +247,8 @@ module _ (r : Raw) (ok : formed r ≡ true) where
           (raw (withEntries (r .index .retained) (r .index .batched + n) (r .index)) words (r .snapshot))
       held-all = record {
         run = st .run;
-        tail = record { count = batch-count; sized = st .tail .sized; stopped = st .tail .stopped; sign = st .tail .sign };
+        tail =
+            record { count = batch-count; sized = st .tail .sized; stopped = st .tail .stopped; sign = st .tail .sign };
         marks = st .marks;
         log = words-are;
         snapshot = st .snapshot;
@@ -248,14 +269,16 @@ module _ (r : Raw) (ok : formed r ≡ true) where
       hold-effect e = rw e held-all
 
       abbrev flush-told : Option Flushed
-      flush-told = some (record { accepted = acceptedOf (numbersIn (flushedAt n (r .index) .index)); count = r .index .batched + n })
+      flush-told = some
+          (record { accepted = acceptedOf (numbersIn (flushedAt n (r .index) .index)); count = r .index .batched + n })
 
       flush-reply : fills es s ≡ true → flush-told ≡ replyOf (append es) s
       unfolding replyOf appendReply appended
       flush-reply e =
           rw e
           (ap₂ (λ (a k : ℕ). some (record { accepted = a; count = k }))
-          (ap acceptedOf (sym (numbers-are (joined (batchWith es s) [] s) (raw (flushedAt n (r .index) .index) words (r .snapshot)) flushed-all)))
+          (ap acceptedOf (sym (numbers-are (joined (batchWith es s) [] s)
+          (raw (flushedAt n (r .index) .index) words (r .snapshot)) flushed-all)))
           (sym batch-count))
 
       hold-reply : fills es s ≡ false → none ≡ replyOf (append es) s
@@ -286,8 +309,10 @@ module _ (r : Raw) (ok : formed r ≡ true) where
                 (raw (heldAt n (r .index) .index) words (r .snapshot)) (hold-reply e) (hold-effect e)
 
     -- before the batch
-    module _ (put : words ≡ laid (length (r .log)) (spliced (r .index .retained * width) 0 entries (take ((r .index .retained + r .index .batched) * width) (r .log)))) where
-      now-stands : Stands (appendedNow es s) (raw (withEntries (r .index .retained + n) (r .index .batched) (r .index)) words (r .snapshot))
+    module _ (put : words ≡ laid (length (r .log)) (spliced (r .index .retained * width) 0 entries
+        (take ((r .index .retained + r .index .batched) * width) (r .log)))) where
+      now-stands : Stands (appendedNow es s)
+          (raw (withEntries (r .index .retained + n) (r .index .batched) (r .index)) words (r .snapshot))
       unfolding appendedNow
       now-stands = record {
         run = record {
@@ -299,33 +324,40 @@ module _ (r : Raw) (ok : formed r ≡ true) where
         tail = st .tail;
         marks = st .marks;
         log =
-            ap (stored logWords) (append-assoc (s .run .retained) es (s .tail .batched) ∙ sym (spliced-before (s .run .retained) (s .tail .batched) es))
-            ∙ rw (st .run .count) (sym (put ∙ log-spliced s r st (log-formed r ok) (r .index .retained) 0 entries es coded));
+            ap (stored logWords) (append-assoc (s .run .retained) es (s .tail .batched)
+            ∙ sym (spliced-before (s .run .retained) (s .tail .batched) es))
+            ∙ rw (st .run .count)
+            (sym (put ∙ log-spliced s r st (log-formed r ok) (r .index .retained) 0 entries es coded));
         snapshot = st .snapshot;
       }
 
       pub now-run : entriesFormed es ≡ true → passes ≡ first (appendGuards n (numbersIn (r .index))) → (y : ℕ)
           → y ≡ acceptedOf (numbersIn (withEntries (r .index .retained + n) (r .index .batched) (r .index)))
-          → outcome (replied y) (raw (withEntries (r .index .retained + n) (r .index .batched) (r .index)) words (r .snapshot)) ≡ run (appendNow es) true r
+          → outcome (replied y) (raw (withEntries (r .index .retained + n) (r .index .batched) (r .index)) words
+          (r .snapshot)) ≡ run (appendNow es) true r
       unfolding malformed further effect replyOf
       now-run fine pass y e =
           call-stands (appendNow es) r ok (rw fine) (rw (many, numbers) pass) y
           (raw (withEntries (r .index .retained + n) (r .index .batched) (r .index)) words (r .snapshot))
-          (e ∙ ap acceptedOf (sym (numbers-are (appendedNow es s) (raw (withEntries (r .index .retained + n) (r .index .batched) (r .index)) words (r .snapshot)) now-stands)))
+          (e ∙ ap acceptedOf (sym (numbers-are (appendedNow es s) (raw
+          (withEntries (r .index .retained + n) (r .index .batched) (r .index)) words (r .snapshot)) now-stands)))
           now-stands
 
 -- the refusals of an append
-module _ (r : Raw) (ok : formed r ≡ true) (n : ℕ) (entries : List ℕ) (fine : entriesFormed (entriesOf n entries) ≡ true) (k m : ℕ)
+module _ (r : Raw) (ok : formed r ≡ true) (n : ℕ) (entries : List ℕ)
+    (fine : entriesFormed (entriesOf n entries) ≡ true) (k m : ℕ)
     (e : refuses k m ≡ first (appendGuards n (numbersIn (r .index)))) where
   pub append-refused : outcome (refused k m) r ≡ run (append (entriesOf n entries)) true r
   unfolding malformed further
   append-refused =
-      call-refused (append (entriesOf n entries)) r ok (rw fine) k m (rw (entries-length changeCode n entries, numbers r ok) e)
+      call-refused (append (entriesOf n entries)) r ok (rw fine) k m
+      (rw (entries-length changeCode n entries, numbers r ok) e)
 
   pub now-refused : outcome (refused k m) r ≡ run (appendNow (entriesOf n entries)) true r
   unfolding malformed further
   now-refused =
-      call-refused (appendNow (entriesOf n entries)) r ok (rw fine) k m (rw (entries-length changeCode n entries, numbers r ok) e)
+      call-refused (appendNow (entriesOf n entries)) r ok (rw fine) k m
+      (rw (entries-length changeCode n entries, numbers r ok) e)
 
 -- an append that no refusal stops has room
 pub append-room : (k : ℕ) (n : Numbers) → passes ≡ first (appendGuards k n) → n .retained + n .batched + k ≤ entryRoom
@@ -344,7 +376,8 @@ pub flush-answered : (x y : IndexRecord) (a : ℕ) → eqb (x .batched) 0 ≡ fa
 unfolding flushSays
 flush-answered x y a t e p =
     rw t
-    (ap (λ (k : ℕ). replied (some (record { accepted = k; count = x .batched }))) (p ∙ ap (λ (z : IndexRecord). acceptedOf (numbersIn z)) e))
+    (ap (λ (k : ℕ). replied (some (record { accepted = k; count = x .batched })))
+    (p ∙ ap (λ (z : IndexRecord). acceptedOf (numbersIn z)) e))
 
 -- an outcome that tells of a flush the accepted index alone
 pub index-told : (a : Answer (Option ℕ)) (b : Answer (Option Flushed)) (r : Raw) (o : Outcome (Option Flushed))

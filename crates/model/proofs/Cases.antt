@@ -12,5 +12,8 @@ use Rattle.model.specs.{Calls.queryGuards, Calls.further, Calls.guards, 
 use Rattle.model.specs.{Calls.replyOf, Calls.answerTo, Calls.stateAfter, Cases.Case, Cases.logL, Cases.table}
 
 pub cases : map (λ (c : Case). c .seen) table ≡ map (λ (c : Case). c .due) table
-unfolding allOf signFormed first insert foldOnto fold merge climbs rising endOf acceptedOf stopDecided logDecided numbersFormed foldedTo keysFormed wellFormed freshLog appendGuards fills appended appendReply markerOf fullRun readFrom readReply target passesStart trimGuards movedTo trimmedTo malformed queryGuards further guards effect queryReply replyOf answerTo stateAfter logL
+unfolding allOf signFormed first insert foldOnto fold merge climbs rising endOf acceptedOf stopDecided logDecided
+    numbersFormed foldedTo keysFormed wellFormed freshLog appendGuards fills appended appendReply markerOf fullRun
+    readFrom readReply target passesStart trimGuards movedTo trimmedTo malformed queryGuards further guards effect
+    queryReply replyOf answerTo stateAfter logL
 cases = refl

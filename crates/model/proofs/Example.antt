@@ -1,6 +1,5 @@
 -- The history theorem's premise can be met: a trace with appends, a snapshot, a plain, a complete and a delta sync, and
--- refused calls
--- of the kinds that it does not admit when they stand.
+-- refused calls of the kinds that it does not admit when they stand.
 use Rattle.words.proofs.Prelude.{arith, _≡_, refl, ℕ, true, none, some, List, [], _∷_, _++_}
 use Rattle.words.specs.All.{allOf}
 use Rattle.entry.specs.{Change.Change, Sign.signFormed, Guards.passes, Guards.refuses, Guards.first}
@@ -12,7 +11,8 @@ use Rattle.model.specs.Backend.{opsFormed}
 use Rattle.model.specs.Compact.{target, passesStart, foldedUpto, trimGuards, snapshotGuards, movedTo, snapshotTo}
 use Rattle.model.specs.Diff.{Given, plain, complete, delta}
 use Rattle.model.specs.Sync.{partFormed, deltaOnto, runThen, partNumberGuards, partGuards, partSynced}
-use Rattle.model.specs.Calls.{Call, append, decide, trim, snapshot, sync, write, malformed, decideGuards, syncGuards, further, guards, synced, effect, stateAfter}
+use Rattle.model.specs.Calls.{Call, append, decide, trim, snapshot, sync, write, malformed, decideGuards}
+use Rattle.model.specs.Calls.{syncGuards, further, guards, synced, effect, stateAfter}
 use Rattle.model.specs.History.{syncedHistory, grown, Stands, Event, next, told, AllTruthful, fresh}
 use Rattle.model.specs.Cases.{put, del}
 
@@ -39,11 +39,16 @@ abbrev trace : List Event
 trace =
     toDelta
     ++ (says (write (record { entries = []; snapshot = none; sign = none }) [])
-    ∷ syncs 6 6 (complete (put 1 10 ∷ del 4 ∷ [])) (put 4 400 ∷ []) (put 1 10 ∷ put 4 1 ∷ put 4 2 ∷ put 4 3 ∷ put 4 4 ∷ del 4 ∷ [])
+    ∷ syncs 6 6 (complete (put 1 10 ∷ del 4 ∷ [])) (put 4 400 ∷ [])
+    (put 1 10 ∷ put 4 1 ∷ put 4 2 ∷ put 4 3 ∷ put 4 4 ∷ del 4 ∷ [])
     ∷ [])
 
 pub premise-met : AllTruthful trace (fresh 0)
-unfolding AllTruthful Stands allOf signFormed first insert foldOnto fold merge climbs rising endOf acceptedOf stopDecided logDecided numbersFormed foldedTo keysFormed wellFormed freshLog appendGuards fills appended target passesStart foldedUpto trimGuards snapshotGuards movedTo snapshotTo opsFormed partFormed deltaOnto runThen partNumberGuards partGuards partSynced malformed decideGuards syncGuards further guards synced effect stateAfter syncedHistory grown next told fresh
+unfolding AllTruthful Stands allOf signFormed first insert foldOnto fold merge climbs rising endOf acceptedOf
+    stopDecided logDecided numbersFormed foldedTo keysFormed wellFormed freshLog appendGuards fills appended target
+    passesStart foldedUpto trimGuards snapshotGuards movedTo snapshotTo opsFormed partFormed deltaOnto runThen
+    partNumberGuards partGuards partSynced malformed decideGuards syncGuards further guards synced effect stateAfter
+    syncedHistory grown next told fresh
 premise-met =
     (λ q. plainly, (λ q. plainly, (λ q. plainly, (λ q. plainly, (λ q. absurd (never 2 3 q), (λ q. (refl, (refl, refl)), (λ q. absurd (never 11 0 q), (λ q. (refl, (refl, refl)), tt))))))))
   where
@@ -59,9 +64,17 @@ runAt c r h = record { compacted = c; retained = r; held = some h }
 
 pub delta-held : told toDelta (fresh 0) .log .run
     ≡ runAt 5 (put 5 500 ∷ []) (put 4 200 ∷ put 6 600 ∷ put 7 700 ∷ del 9 ∷ [])
-unfolding allOf signFormed first insert foldOnto fold merge climbs rising endOf acceptedOf stopDecided logDecided numbersFormed foldedTo keysFormed wellFormed freshLog appendGuards fills appended target passesStart foldedUpto trimGuards snapshotGuards movedTo snapshotTo opsFormed partFormed deltaOnto runThen partNumberGuards partGuards partSynced malformed decideGuards syncGuards further guards synced effect stateAfter syncedHistory grown next told fresh
+unfolding allOf signFormed first insert foldOnto fold merge climbs rising endOf acceptedOf stopDecided
+    logDecided numbersFormed foldedTo keysFormed wellFormed freshLog appendGuards fills appended target passesStart
+    foldedUpto trimGuards snapshotGuards movedTo snapshotTo opsFormed partFormed deltaOnto runThen partNumberGuards
+    partGuards partSynced malformed decideGuards syncGuards further guards synced effect stateAfter syncedHistory
+    grown next told fresh
 delta-held = refl
 
 pub complete-held : told trace (fresh 0) .log .run ≡ runAt 6 (put 4 400 ∷ []) (put 1 10 ∷ del 4 ∷ [])
-unfolding allOf signFormed first insert foldOnto fold merge climbs rising endOf acceptedOf stopDecided logDecided numbersFormed foldedTo keysFormed wellFormed freshLog appendGuards fills appended target passesStart foldedUpto trimGuards snapshotGuards movedTo snapshotTo opsFormed partFormed deltaOnto runThen partNumberGuards partGuards partSynced malformed decideGuards syncGuards further guards synced effect stateAfter syncedHistory grown next told fresh
+unfolding allOf signFormed first insert foldOnto fold merge climbs rising endOf acceptedOf stopDecided
+    logDecided numbersFormed foldedTo keysFormed wellFormed freshLog appendGuards fills appended target passesStart
+    foldedUpto trimGuards snapshotGuards movedTo snapshotTo opsFormed partFormed deltaOnto runThen partNumberGuards
+    partGuards partSynced malformed decideGuards syncGuards further guards synced effect stateAfter syncedHistory
+    grown next told fresh
 complete-held = refl

@@ -11,7 +11,8 @@ use Rattle.model.proofs.{Forms.ranges, Forms.formed-of, Traces.folded-i
 lookup-folded : (k : ℕ) (s : Log) → lookupReply k s ≡ placeOf (find k (foldedTo (logDecided (numbersOf s)) (s .run)))
 unfolding lookupReply foldedTo merge
 lookup-folded k s =
-    ap placeOf (sym (find-onto k (orEmpty (s .run .held)) (take (logDecided (numbersOf s) - s .run .compacted) (s .run .retained))))
+    ap placeOf (sym (find-onto k (orEmpty (s .run .held))
+    (take (logDecided (numbersOf s) - s .run .compacted) (s .run .retained))))
 
 module _ (n : ℕ) (sized : n ≤ largestBatch) (es : List Event) (honest : AllTruthful es (fresh n)) where
   pub lookup-finds : (k : ℕ) → lookupReply k (told es (fresh n) .log)
@@ -21,4 +22,5 @@ module _ (n : ℕ) (sized : n ≤ largestBatch) (es : List Event) (honest : AllT
       let s : Log = told es (fresh n) .log in
       lookup-folded k s
       ∙ ap (λ (l : List Change). placeOf (find k l))
-      (folded-is (s .run) (told es (fresh n) .history) (f .agrees) (logDecided (numbersOf s)) (ranges (numbersOf s) (formed-of s (f .formed) .numbers) .low))
+      (folded-is (s .run) (told es (fresh n) .history) (f .agrees) (logDecided (numbersOf s))
+      (ranges (numbersOf s) (formed-of s (f .formed) .numbers) .low))

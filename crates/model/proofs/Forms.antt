@@ -82,7 +82,8 @@ of-sound n f =
     (both-true (leb (acceptedOf n + n .batched) lastIndex) _ (le-leb (acceptedOf n + n .batched) lastIndex (f .inside))
     (both-true (eqb (n .batched) 0 || ltb (n .batched) (n .size)) _ (of-small (n .batched) (n .size) (f .small))
     (both-true (not (n .stop) || eqb (n .batched) 0) _ (of-quiet (n .stop) (n .batched) (f .quiet))
-    (both-true (leb (n .size) largestBatch) _ (le-leb (n .size) largestBatch (f .sized)) (le-leb (n .retained + n .batched) entryRoom (f .room))))))))
+    (both-true (leb (n .size) largestBatch) _ (le-leb (n .size) largestBatch (f .sized))
+    (le-leb (n .retained + n .batched) entryRoom (f .room))))))))
 
 -- where log-decided lies
 pub record Ranges (n : Numbers) : Type 0 where
@@ -123,7 +124,8 @@ unfolding wellFormed
 of-formed s f =
     both-true (numbersFormed (numbersOf s)) _ (of-sound (numbersOf s) (f .numbers))
     (both-true (entriesFormed (s .run .retained)) _ (f .entries)
-    (both-true (entriesFormed (s .tail .batched)) _ (f .batch) (both-true (ifGiven keysFormed (s .run .held)) _ (f .snapshot) (f .stop))))
+    (both-true (entriesFormed (s .tail .batched)) _ (f .batch)
+    (both-true (ifGiven keysFormed (s .run .held)) _ (f .snapshot) (f .stop))))
 
 -- ---- snapshots: the one held, and those made from it
 
@@ -136,17 +138,22 @@ unfolding keysFormed rising allOf
 snapshot-held none e = record { rises = refl; fine = refl }
 snapshot-held (some t) e =
     let q = and-right (rising t) (leb (length t) keyRoom && entriesFormed t) e in
-    record { rises = and-left (rising t) (leb (length t) keyRoom && entriesFormed t) e; fine = and-right (leb (length t) keyRoom) (entriesFormed t) q }
+    record {
+      rises = and-left (rising t) (leb (length t) keyRoom && entriesFormed t) e;
+      fine = and-right (leb (length t) keyRoom) (entriesFormed t) q;
+    }
 
 pub snapshot-merge : (t r : List Change) → Snapshot t → entriesFormed r ≡ true → Snapshot (merge t r)
 snapshot-merge t r a b = record { rises = merge-rises t r (a .rises); fine = formed-merge t r (a .fine) b }
 
 pub of-snapshot : (t : List Change) → Snapshot t → length t ≤ keyRoom → keysFormed t ≡ true
 unfolding keysFormed
-of-snapshot t a h = both-true (rising t) _ (a .rises) (both-true (leb (length t) keyRoom) (entriesFormed t) (le-leb (length t) keyRoom h) (a .fine))
+of-snapshot t a h = both-true (rising t) _ (a .rises)
+    (both-true (leb (length t) keyRoom) (entriesFormed t) (le-leb (length t) keyRoom h) (a .fine))
 
 pub snapshot-folded : (i : ℕ) (s : Log) → Formed s → Snapshot (foldedTo i (s .run))
 unfolding foldedTo
 snapshot-folded i s f =
-    snapshot-merge (orEmpty (s .run .held)) (take (i - s .run .compacted) (s .run .retained)) (snapshot-held (s .run .held) (f .snapshot))
+    snapshot-merge (orEmpty (s .run .held)) (take (i - s .run .compacted) (s .run .retained))
+    (snapshot-held (s .run .held) (f .snapshot))
     (all-take changeFormed (i - s .run .compacted) (s .run .retained) (f .entries))

@@ -10,14 +10,21 @@ use Rattle.entry.specs.{Change.changeFormed, Change.entriesFormed, Sign.signFor
 use Rattle.entry.specs.{Guards.refuses, Guards.first, declared.Ballot.Ballot, declared.StopSign.StopSign}
 use Rattle.entry.proofs.GuardLaws.{Passed, passed, passed-right, Clear, clear}
 use Rattle.model.specs.Numbers.{Numbers, endOf, acceptedOf, stopDecided, logDecided}
-use Rattle.model.specs.Log.{Log, given, ifGiven, numbersOf, foldedTo, keysFormed, wellFormed, withMarks, deciding, freshLog}
-use Rattle.model.specs.Append.{appendGuards, appendStopGuards, setStopGuards, joined, batchWith, fills, appended, appendedNow, flushed, stopAppended, stopSet, reloaded}
-use Rattle.model.specs.Backend.{Op, Lent, Midst, step, steps, stepGuards, lastGuards, opGuards, midst, writeGuards, listWritten}
+use Rattle.model.specs.Log.{Log, given, ifGiven, numbersOf, foldedTo, keysFormed, wellFormed, withMarks, deciding}
+use Rattle.model.specs.Log.{freshLog}
+use Rattle.model.specs.Append.{appendGuards, appendStopGuards, setStopGuards, joined, batchWith, fills, appended}
+use Rattle.model.specs.Append.{appendedNow, flushed, stopAppended, stopSet, reloaded}
+use Rattle.model.specs.Backend.{Op, Lent, Midst, step, steps, stepGuards, lastGuards, opGuards, midst}
+use Rattle.model.specs.Backend.{writeGuards, listWritten}
 use Rattle.model.specs.Compact.{target, passesStart, foldedUpto, snapshotGuards, movedTo, trimmedTo, snapshotTo}
 use Rattle.model.specs.Diff.{Given, plain, complete, delta}
-use Rattle.model.specs.Sync.{Part, partFormed, deltaOnto, runThen, partNumberGuards, partGuards, roundGuards, partSynced}
-use Rattle.model.specs.Calls.{Call, query, append, appendNow, flush, flushEntries, appendStop, setStop, setPromise, decide, trim, snapshot, sync, reload, write, malformed, decideGuards, syncGuards, further, guards, synced, effect, after, stateAfter}
-use Rattle.model.proofs.Forms.{log-min, Formed, formed-of, of-formed, snapshot-held, snapshot-merge, of-snapshot, snapshot-folded}
+use Rattle.model.specs.Sync.{Part, partFormed, deltaOnto, runThen, partNumberGuards, partGuards, roundGuards}
+use Rattle.model.specs.Sync.{partSynced}
+use Rattle.model.specs.Calls.{Call, query, append, appendNow, flush, flushEntries, appendStop, setStop}
+use Rattle.model.specs.Calls.{setPromise, decide, trim, snapshot, sync, reload, write, malformed, decideGuards}
+use Rattle.model.specs.Calls.{syncGuards, further, guards, synced, effect, after, stateAfter}
+use Rattle.model.proofs.Forms.{log-min, Formed, formed-of, of-formed, snapshot-held, snapshot-merge, of-snapshot}
+use Rattle.model.proofs.Forms.{snapshot-folded}
 
 -- log-decided is decided, or one less
 pub log-near : (n : Numbers) → (n .decided ≤ logDecided n + 1) × (logDecided n ≤ n .decided)
@@ -92,7 +99,9 @@ module _ (s : Log) (f : Formed s) where
   unfolding appended appendGuards fills acceptedOf endOf
   append-keeps es e clr =
       either Formed (fills es s) _ _
-      (λ t. joined-keeps (batchWith es s) [] all nothing-formed (omega (arith, index, length-append (s .tail .batched) es)) (omega arith) (λ h. refl) (omega (arith, room, length-append (s .tail .batched) es)))
+      (λ t. joined-keeps (batchWith es s)
+      [] all nothing-formed (omega (arith, index, length-append (s .tail .batched) es)) (omega arith) (λ h. refl)
+      (omega (arith, room, length-append (s .tail .batched) es)))
       (λ t. record {
         numbers = record {
           low = f .numbers .low;
@@ -164,7 +173,8 @@ module _ (s : Log) (f : Formed s) where
         numbers = record {
           low = f .numbers .low;
           high = omega (arith, unstopped (numbersOf s) (clr 4));
-          inside = ltb-false lastIndex (endOf (numbersOf s) + (if given g then 1 else 0) + length (s .tail .batched)) (clr 9);
+          inside = ltb-false lastIndex
+              (endOf (numbersOf s) + (if given g then 1 else 0) + length (s .tail .batched)) (clr 9);
           small = f .numbers .small;
           quiet = flagged (given g) (length (s .tail .batched)) (clr 10);
           sized = f .numbers .sized;
@@ -233,7 +243,8 @@ module _ (s : Log) (f : Formed s) where
   unfolding snapshotTo snapshotGuards foldedUpto
   snapshot-keeps upto clr =
       let all : List Change = foldedTo (target upto (numbersOf s)) (s .run) in
-      moved-keeps upto (some all) (λ e. of-snapshot all (snapshot-folded _ s f) (ltb-false keyRoom (length all) (rw e at (clr 8))))
+      moved-keeps upto (some all)
+      (λ e. of-snapshot all (snapshot-folded _ s f) (ltb-false keyRoom (length all) (rw e at (clr 8))))
 
   -- the whole record of a sync with a log part: where the run starts, how long it is, and what is held before it
   part-formed : (b : Ballot) (d : ℕ) (p : Part) → entriesFormed (runThen p s .retained) ≡ true
@@ -246,8 +257,16 @@ module _ (s : Log) (f : Formed s) where
   part-formed b d p fr fh fz ends low room clr = record {
     numbers = record {
       low = low;
-      high = omega (arith, ltb-false (p .idx + length (p .suffix) + (if given (p .stop) then 1 else 0)) (max d (s .marks .decided)) (clr 6));
-      inside = omega (arith, ltb-false lastIndex (p .idx + length (p .suffix) + (if given (p .stop) then 1 else 0) + length (s .tail .batched)) (clr 9));
+      high = omega (
+        arith,
+        ltb-false (p .idx + length (p .suffix) + (if given (p .stop) then 1 else 0))
+            (max d (s .marks .decided)) (clr 6),
+      );
+      inside = omega (
+        arith,
+        ltb-false lastIndex
+            (p .idx + length (p .suffix) + (if given (p .stop) then 1 else 0) + length (s .tail .batched)) (clr 9),
+      );
       small = f .numbers .small;
       quiet = flagged (given (p .stop)) (length (s .tail .batched)) (clr 10);
       sized = f .numbers .sized;
@@ -266,13 +285,15 @@ module _ (s : Log) (f : Formed s) where
   unfolding partFormed partNumberGuards partGuards runThen endOf
   part-cases b d i plain es z w clr =
       let v : entriesFormed es ≡ true = and-left (entriesFormed es) (ifGiven signFormed z) w in
-      let low : s .run .compacted ≤ i = ltb-false i (s .run .compacted) (or-left (ltb i (s .run .compacted)) (ltb (endOf (numbersOf s)) i) (clr 7)) in
+      let low : s .run .compacted ≤ i =
+      ltb-false i (s .run .compacted) (or-left (ltb i (s .run .compacted)) (ltb (endOf (numbersOf s)) i) (clr 7)) in
       let high : i ≤ endOf (numbersOf s) = ltb-false (endOf (numbersOf s)) i
       (or-right (ltb i (s .run .compacted)) (ltb (endOf (numbersOf s)) i) (clr 7)) in
       let long : length (take (i - s .run .compacted) (s .run .retained) ++ es)
       ≡ i - s .run .compacted + length es = simp (length-append, length-take) (omega arith) in
       part-formed b d (part i plain es z)
-      (all-join changeFormed (take (i - s .run .compacted) (s .run .retained)) es (all-take changeFormed (i - s .run .compacted) (s .run .retained) (f .entries)) v)
+      (all-join changeFormed (take (i - s .run .compacted) (s .run .retained)) es
+      (all-take changeFormed (i - s .run .compacted) (s .run .retained) (f .entries)) v)
       (f .snapshot)
       (and-right (entriesFormed es) (ifGiven signFormed z) w)
       (omega arith)
@@ -295,7 +316,8 @@ module _ (s : Log) (f : Formed s) where
       part-formed b d (part i (delta c) es z)
       (and-left (entriesFormed es) (ifGiven signFormed z) v)
       (of-snapshot (deltaOnto c s)
-      (unfold deltaOnto in snapshot-merge base c (snapshot-folded (logDecided (numbersOf s)) s f) (snapshot-held (some c) (and-left (keysFormed c) _ w) .fine))
+      (unfold deltaOnto in snapshot-merge base c (snapshot-folded (logDecided (numbersOf s)) s f)
+      (snapshot-held (some c) (and-left (keysFormed c) _ w) .fine))
       (ltb-false keyRoom (length (deltaOnto c s)) (clr 8)))
       (and-right (entriesFormed es) (ifGiven signFormed z) v)
       refl
@@ -326,7 +348,11 @@ stop-keeps g s f w clr =
       numbers = record {
         low = f .numbers .low;
         high = omega (arith, f .numbers .high, unsigned (given (s .tail .sign)) (clr 4));
-        inside = omega (arith, ltb-false lastIndex (acceptedOf (numbersOf s) + length (s .tail .batched) + 1) (clr 9), unsigned (given (s .tail .sign)) (clr 4));
+        inside = omega (
+          arith,
+          ltb-false lastIndex (acceptedOf (numbersOf s) + length (s .tail .batched) + 1) (clr 9),
+          unsigned (given (s .tail .sign)) (clr 4),
+        );
         small = omega arith;
         quiet = λ q. refl;
         sized = f .numbers .sized;
@@ -343,7 +369,8 @@ steps-keep : (n : Numbers) (l : Lent) (ops : List Op) (m : Midst) → Passed (op
     → wellFormed (steps l ops m .log) ≡ true
 unfolding opGuards steps
 steps-keep n l [] m p =
-    unfold lastGuards in and-right (eqb (m .start) (m .log .run .compacted)) (wellFormed (m .log)) (not-false _ (p .1 .0))
+    unfold lastGuards in and-right (eqb (m .start) (m .log .run .compacted)) (wellFormed (m .log))
+    (not-false _ (p .1 .0))
 steps-keep n l (o ∷ ops) m p =
     steps-keep n l ops (step l o m) (passed-right (stepGuards n l o m) (opGuards n l ops (step l o m)) p)
 
@@ -373,17 +400,23 @@ cleared c s p = clear (further c s) (p .1 .1)
 keeps : (c : Call) (s : Log) → Formed s → Passed (guards c s) → wellFormed (effect c s) ≡ true
 unfolding further malformed effect
 keeps (query q) s f p = of-formed s f
-keeps (append es) s f p = of-formed _ (append-keeps s f es (not-false (entriesFormed es) (argued (append es) s p)) (cleared (append es) s p))
-keeps (appendNow es) s f p = of-formed _ (now-keeps s f es (not-false (entriesFormed es) (argued (appendNow es) s p)) (cleared (appendNow es) s p))
+keeps (append es) s f p =
+    of-formed _ (append-keeps s f es (not-false (entriesFormed es) (argued (append es) s p)) (cleared (append es) s p))
+keeps (appendNow es) s f p = of-formed _ (now-keeps s f es (not-false (entriesFormed es) (argued (appendNow es) s p))
+    (cleared (appendNow es) s p))
 keeps flush s f p = of-formed _ (flush-keeps s f)
 keeps flushEntries s f p = of-formed _ (flush-keeps s f)
-keeps (appendStop g) s f p = of-formed _ (stop-keeps g s f (not-false (signFormed g) (argued (appendStop g) s p)) (cleared (appendStop g) s p))
-keeps (setStop g) s f p = of-formed _ (setStop-keeps s f g (not-false (ifGiven signFormed g) (argued (setStop g) s p)) (cleared (setStop g) s p))
-keeps (setPromise b) s f p = of-formed _ (marks-keep s f (s .marks .decided) b (s .marks .round) (f .numbers .low) (f .numbers .high))
+keeps (appendStop g) s f p =
+    of-formed _ (stop-keeps g s f (not-false (signFormed g) (argued (appendStop g) s p)) (cleared (appendStop g) s p))
+keeps (setStop g) s f p = of-formed _ (setStop-keeps s f g (not-false (ifGiven signFormed g) (argued (setStop g) s p))
+    (cleared (setStop g) s p))
+keeps (setPromise b) s f p =
+    of-formed _ (marks-keep s f (s .marks .decided) b (s .marks .round) (f .numbers .low) (f .numbers .high))
 keeps (decide i) s f p = of-formed _ (decide-keeps i s f (cleared (decide i) s p))
 keeps (trim i) s f p = of-formed _ (trim-keeps s f (some i))
 keeps (snapshot i) s f p = of-formed _ (snapshot-keeps s f i (cleared (snapshot i) s p))
-keeps (sync b d q) s f p = of-formed _ (sync-keeps s f b d q (not-false (ifGiven partFormed q) (argued (sync b d q) s p)) (cleared (sync b d q) s p))
+keeps (sync b d q) s f p = of-formed _ (sync-keeps s f b d q
+    (not-false (ifGiven partFormed q) (argued (sync b d q) s p)) (cleared (sync b d q) s p))
 keeps reload s f p = of-formed _ (reload-keeps s f)
 keeps (write l ops) s f p = write-keeps l ops s (unfold guards in p .1 .1)
 

@@ -7,11 +7,16 @@ use Rattle.entry.specs.Guards.{Guard, refuses, first}
 use Rattle.model.specs.Numbers.{Numbers}
 use Rattle.model.specs.Log.{Log, numbersOf}
 use Rattle.model.specs.Append.{appendGuards, appendStopGuards, setStopGuards}
-use Rattle.model.specs.Backend.{Op, appendEntries, appendOnPrefix, setDecided, setCompacted, trim as opTrim, setPromise as opPromise, setRound, setSign, setSnapshot, Lent, Midst, midst, step, stepGuards, lastGuards, opGuards, writeGuards}
+use Rattle.model.specs.Backend.{Op, appendEntries, appendOnPrefix, setDecided, setCompacted, trim as opTrim}
+use Rattle.model.specs.Backend.{setPromise as opPromise, setRound, setSign, setSnapshot, Lent, Midst, midst, step}
+use Rattle.model.specs.Backend.{stepGuards, lastGuards, opGuards, writeGuards}
 use Rattle.model.specs.Compact.{trimGuards, snapshotGuards, createGuards}
 use Rattle.model.specs.Diff.{diffGuards}
 use Rattle.model.specs.Sync.{partNumberGuards, partGuards, roundGuards}
-use Rattle.model.specs.Calls.{Query, read, readDecided, getSuffix, create, diff, lookup, getEntries, Call, query, append, appendNow, flush, flushEntries, appendStop, setStop, setPromise, decide, trim, snapshot, sync, reload, write, decideGuards, syncGuards, queryGuards, further, guards}
+use Rattle.model.specs.Calls.{Query, read, readDecided, getSuffix, create, diff, lookup, getEntries, Call, query}
+use Rattle.model.specs.Calls.{append, appendNow, flush, flushEntries, appendStop, setStop, setPromise, decide}
+use Rattle.model.specs.Calls.{trim, snapshot, sync, reload, write, decideGuards, syncGuards, queryGuards, further}
+use Rattle.model.specs.Calls.{guards}
 use Rattle.model.specs.Orders.{queryOrder, opOrder, opsOrder, orderOf, carriesOf}
 
 -- the rows that a call's refusals are, and those that the table has for it

@@ -1,5 +1,5 @@
--- "the retained entries of the range, each decided exactly if its index is below decided": of every entry that a read shows, by its place
--- among those shown.
+-- "the retained entries of the range, each decided exactly if its index is below decided": of every entry that a read
+-- shows, by its place among those shown.
 use Rattle.words.proofs.Prelude.{arith, _≡_, refl, sym, ap, _∙_, ℕ, _+_, _-_, _<_, min, max, Bool, true, false, _||_}
 use Rattle.words.proofs.Prelude.{eqb, ltb, leb, lt-ltb, le-ltb, ltb-true, ltb-false, if_then_else_, none, some, List}
 use Rattle.words.proofs.Prelude.{[], length-take, length, drop, getD}
@@ -13,7 +13,8 @@ full : (from to : ℕ) (s : Log) (v : Shown) → readFrom from to s ≡ some v �
     → v ≡ fullRun from to s
 unfolding readFrom
 full from to s v e h =
-    go (eqb to 0) (leb to (s .run .compacted)) (ltb (acceptedOf (numbersOf s)) to || leb (acceptedOf (numbersOf s)) from) (leb to from) e
+    go (eqb to 0) (leb to (s .run .compacted))
+    (ltb (acceptedOf (numbersOf s)) to || leb (acceptedOf (numbersOf s)) from) (leb to from) e
   where
     none-shown : (x : Shown) → some x ≡ some v → x .part .entries ≡ [] → v ≡ fullRun from to s
     none-shown x q z = let w : x ≡ v = cc in
@@ -35,7 +36,8 @@ full from to s v e h =
     go false false false true q = none-shown _ q refl
     go false false false false q = cc
 
-module _ (from to : ℕ) (s : Log) (v : Shown) (e : readFrom from to s ≡ some v) (j : ℕ) (h : j < length (v .part .entries)) where
+module _ (from to : ℕ) (s : Log) (v : Shown) (e : readFrom from to s ≡ some v) (j : ℕ)
+    (h : j < length (v .part .entries)) where
   run : v ≡ fullRun from to s
   run = full from to s v e (omega arith)
 

@@ -15,8 +15,11 @@ use Rattle.model.specs.Append.{joined, batchWith, fills, appended, appen
 use Rattle.model.specs.Compact.{target, passesStart, foldedUpto, movedTo, snapshotTo}
 use Rattle.model.specs.Diff.{Given, plain, complete, delta}
 use Rattle.model.specs.Sync.{deltaOnto, runThen, partNumberGuards, partGuards, partSynced}
-use Rattle.model.specs.Calls.{Call, query, append, appendNow, flush, flushEntries, appendStop, setStop, setPromise, decide, trim, snapshot, sync, reload, write, syncGuards, further, guards, synced, effect, after, stateAfter}
-use Rattle.model.specs.History.{syncedHistory, grown, Stands, Truthful, Event, Told, historyAfter, next, told, AllTruthful, fresh}
+use Rattle.model.specs.Calls.{Call, query, append, appendNow, flush, flushEntries, appendStop, setStop}
+use Rattle.model.specs.Calls.{setPromise, decide, trim, snapshot, sync, reload, write, syncGuards, further}
+use Rattle.model.specs.Calls.{guards, synced, effect, after, stateAfter}
+use Rattle.model.specs.History.{syncedHistory, grown, Stands, Truthful, Event, Told, historyAfter, next, told}
+use Rattle.model.specs.History.{AllTruthful, fresh}
 use Rattle.model.proofs.Forms.{Ranges, ranges, formed-of}
 use Rattle.model.proofs.Keeps.{part, unstopped, target-range, cleared, call-keeps, fresh-formed}
 
@@ -52,7 +55,8 @@ module _ (r : Run) (h : List Change) (a : Agrees r h) where
 
   -- the start moved up, with what lies below it folded
   moved-agrees : (i : ℕ) → r .compacted ≤ i → i ≤ r .compacted + length (r .retained)
-      → Agrees (record { compacted = i; retained = drop (i - r .compacted) (r .retained); held = some (foldedTo i r) }) h
+      → Agrees (record { compacted = i; retained = drop (i - r .compacted) (r .retained); held = some (foldedTo i r) })
+      h
   moved-agrees i le hi =
       let e : r .compacted + (i - r .compacted) ≡ i = omega arith in
       record {
@@ -63,7 +67,9 @@ module _ (r : Run) (h : List Change) (a : Agrees r h) where
 
   -- a plain sync
   cut-agrees : (i : ℕ) (es : List Change) → r .compacted ≤ i → i ≤ r .compacted + length (r .retained)
-      → Agrees (record { compacted = r .compacted; retained = take (i - r .compacted) (r .retained) ++ es; held = r .held }) (take i h ++ es)
+      → Agrees
+      (record { compacted = r .compacted; retained = take (i - r .compacted) (r .retained) ++ es; held = r .held })
+      (take i h ++ es)
   cut-agrees i es le hi =
       let c : r .compacted ≤ length (take i h) = simp length-take (omega (arith, a .ends)) in
       record {
@@ -79,7 +85,8 @@ replaced-agrees x es c i n e =
     record { ends = simp length-append (omega arith); kept = rw (drop-at x es i n); snapshot = rw (take-at x es i n) e }
 
 -- a sync with a log part, by its snapshot
-part-agrees : (d i : ℕ) (g : Given) (es : List Change) (z : Option StopSign) (x : List Change) (s : Log) (h : List Change)
+part-agrees : (d i : ℕ) (g : Given) (es : List Change) (z : Option StopSign) (x : List Change)
+    (s : Log) (h : List Change)
     → Ranges (numbersOf s) → Clear (partGuards d (part i g es z) s) → Stands (part i g es z) x s → Agrees (s .run) h
     → Agrees (runThen (part i g es z) s) (syncedHistory (part i g es z) x s h)
 unfolding partNumberGuards partGuards Stands runThen syncedHistory endOf
@@ -91,7 +98,8 @@ part-agrees d i (complete c) es z x s h w clr t a = replaced-agrees x es c i (t 
 part-agrees d i (delta c) es z x s h w clr t a =
     let n : Numbers = numbersOf s in
     replaced-agrees (take (logDecided n) h ++ x) es (deltaOnto c s) i
-    (simp (length-append, length-take) (omega (arith, a .ends, t .0, w .high, unstopped n (clr 4), ltb-false i (s .marks .decided) (clr 5))))
+    (simp (length-append, length-take)
+    (omega (arith, a .ends, t .0, w .high, unstopped n (clr 4), ltb-false i (s .marks .decided) (clr 5))))
     (unfold deltaOnto in rw (folded-is (s .run) h a (logDecided n) (w .low), fold-on, t .1, merge-fold))
 
 snapshot-agrees : (upto : Option ℕ) (s : Log) (h : List Change) → Ranges (numbersOf s) → Agrees (s .run) h
@@ -100,7 +108,8 @@ unfolding snapshotTo foldedUpto movedTo passesStart endOf
 snapshot-agrees upto s h w a =
     let to : ℕ = target upto (numbersOf s) in
     either (λ (t : Log). Agrees (t .run) h) (ltb (s .run .compacted) to) _ _
-    (λ e. moved-agrees (s .run) h a to (omega (arith, ltb-true (s .run .compacted) to e)) (omega (arith, target-range upto (numbersOf s), w .high)))
+    (λ e. moved-agrees (s .run) h a to (omega (arith, ltb-true (s .run .compacted) to e))
+    (omega (arith, target-range upto (numbersOf s), w .high)))
     (λ e. a)
 
 append-agrees : (es : List Change) (s : Log) (h : List Change) → Agrees (s .run) h
@@ -108,7 +117,8 @@ append-agrees : (es : List Change) (s : Log) (h : List Change) → Agrees (s .ru
 unfolding appended
 append-agrees es s h a = go (fills es s)
   where
-    go : (t : Bool) → Agrees ((if t then joined (batchWith es s) [] s else withTail (waiting (batchWith es s) (s .tail)) s) .run) (if t then h ++ batchWith es s else h)
+    go : (t : Bool) → Agrees ((if t then joined (batchWith es s) [] s else withTail (waiting (batchWith es s) (s .tail))
+        s) .run) (if t then h ++ batchWith es s else h)
     go true = joined-agrees (s .run) h a (batchWith es s)
     go false = a
 
@@ -144,8 +154,10 @@ unfolding next stateAfter
 step-agrees e t w honest a = go (first (guards (e .call) (t .log))) refl
   where
     go : (v : Verdict) → first (guards (e .call) (t .log)) ≡ v
-        → Agrees (after v (effect (e .call) (t .log)) (t .log) .run) (historyAfter v (grown (e .call) (e .behind) (t .log) (t .history)) (t .history))
-    go passes q = stands (e .call) (e .behind) (t .log) (t .history) w (passed (guards (e .call) (t .log)) q) (honest q) a
+        → Agrees (after v (effect (e .call) (t .log)) (t .log) .run)
+        (historyAfter v (grown (e .call) (e .behind) (t .log) (t .history)) (t .history))
+    go passes q = stands (e .call) (e .behind) (t .log)
+        (t .history) w (passed (guards (e .call) (t .log)) q) (honest q) a
     go (refuses n k) q = a
 
 -- a run of calls: what is held agrees with the history, and the state stays well formed
@@ -158,7 +170,10 @@ unfolding told AllTruthful
 told-faithful [] t honest f = f
 told-faithful (e ∷ es) t honest f =
     told-faithful es (next e t) (honest .1)
-    (record { formed = (unfold next in call-keeps (e .call) (t .log) (f .formed)); agrees = step-agrees e t (f .formed) (honest .0) (f .agrees) })
+    (record {
+      formed = (unfold next in call-keeps (e .call) (t .log) (f .formed));
+      agrees = step-agrees e t (f .formed) (honest .0) (f .agrees);
+    })
 
 pub fresh-faithful : (n : ℕ) → n ≤ largestBatch → Faithful (fresh n)
 fresh-faithful n h = record { formed = (unfold fresh in fresh-formed n h); agrees = empty n }
@@ -167,8 +182,7 @@ fresh-faithful n h = record { formed = (unfold fresh in fresh-formed n h); agree
     empty n = unfold fresh freshLog fold foldOnto in record { ends = refl; kept = refl; snapshot = refl }
 
 -- Demand 3, last sentence: for every i from compacted to end, the held snapshot (empty if none) merged with the
--- retained entries
--- below i is the fold of the history's first i entries, both without room limit.
+-- retained entries below i is the fold of the history's first i entries, both without room limit.
 module _ (n : ℕ) (sized : n ≤ largestBatch) (es : List Event) (honest : AllTruthful es (fresh n)) where
   pub faithful : Faithful (told es (fresh n))
   faithful = told-faithful es (fresh n) honest (fresh-faithful n sized)
@@ -176,4 +190,5 @@ module _ (n : ℕ) (sized : n ≤ largestBatch) (es : List Event) (honest : AllT
   pub history-kept : (i : ℕ) → told es (fresh n) .log .run .compacted ≤ i
       → i ≤ endOf (numbersOf (told es (fresh n) .log))
       → foldedTo i (told es (fresh n) .log .run) ≡ fold (take i (told es (fresh n) .history))
-  history-kept i low high = folded-is (told es (fresh n) .log .run) (told es (fresh n) .history) (faithful .agrees) i low
+  history-kept i low high =
+      folded-is (told es (fresh n) .log .run) (told es (fresh n) .history) (faithful .agrees) i low

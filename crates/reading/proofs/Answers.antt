@@ -2,7 +2,8 @@
 use Rattle.words.proofs.Prelude.{_≡_, refl, sym, ap, ℕ, Bool, true, false, []}
 use mathlib.Core.Path.{subst}
 use Rattle.entry.specs.Guards.{Verdict, passes, refuses, first, Answer, refused, replied}
-use Rattle.model.specs.Calls.{Query, QueryReply, query, queryMalformed, queryGuards, queryReply, malformed, further, effect, replyOf}
+use Rattle.model.specs.Calls.{Query, QueryReply, query, queryMalformed, queryGuards, queryReply, malformed, further}
+use Rattle.model.specs.Calls.{effect, replyOf}
 use Rattle.state_cache.specs.State.{Raw, formed, logOf, rawOf}
 use Rattle.state_cache.specs.Run.{Outcome, chosen, verdictOn, run}
 use Rattle.state_cache.proofs.{Stands.stands-of, Stands.raw-is, Runs.ill-formed, Runs.bad-call, Runs.call-stands}

@@ -24,7 +24,8 @@ last-snoc : (k : ℕ) (es : List Change) (c : Change)
 unfolding lastOf orElse
 last-snoc k [] c = go (eqb (c .key) k)
   where
-    go : (t : Bool) → _≡_ {A = Option Said} (if t then some (c .said) else none) (orElse (if t then some (c .said) else none) none)
+    go : (t : Bool) → _≡_ {A = Option Said} (if t then some (c .said) else none)
+        (orElse (if t then some (c .said) else none) none)
     go true = refl
     go false = refl
 last-snoc k (e ∷ es) c = ap (λ (o : Option Said). orElse o (if eqb (e .key) k then some (e .said) else none))
@@ -39,7 +40,8 @@ last-snoc k (e ∷ es) c = ap (λ (o : Option Said). orElse o (if eqb (e .key) k
 entries-snoc : (i : ℕ) (ws : List ℕ) → entriesOf (i + 1) ws ≡ entriesOf i ws ++ (changeAt ws i ∷ [])
 entries-snoc i ws =
     let es : List Change = entriesOf (i + 1) ws in
-    let d : drop (suc i) es ≡ [] = drop-of-length-le es {i = suc i} (omega (arith, entries-length changeCode (i + 1) ws)) in
+    let d : drop (suc i) es ≡ [] =
+    drop-of-length-le es {i = suc i} (omega (arith, entries-length changeCode (i + 1) ws)) in
     sym (take-append-drop i es)
     ∙ ap (λ (l : List Change). l ++ drop i es) (entries-take changeCode i (i + 1) ws (omega arith))
     ∙ ap (λ (l : List Change). entriesOf i ws ++ l) (entry-cons i (i + 1) ws (omega arith))
@@ -97,7 +99,8 @@ module _ (r : Raw) (g : Ready r) (k : ℕ) where
 
   snapshot : orEmpty (logOf r .run .held) ≡ entriesOf (r .index .keys) (r .snapshot)
   unfolding logOf
-  snapshot = snapshot-by (r .index .«snapshot_held») (r .index .keys) (r .snapshot) (stands-of r (g .okay) .run .snapshot-keys)
+  snapshot = snapshot-by (r .index .«snapshot_held») (r .index .keys) (r .snapshot)
+      (stands-of r (g .okay) .run .snapshot-keys)
 
   retained-is : take (logDecided (numbersOf (logOf r)) - logOf r .run .compacted) (logOf r .run .retained)
       ≡ entriesOf below (r .log)
@@ -113,8 +116,10 @@ module _ (r : Raw) (g : Ready r) (k : ℕ) where
   unfolding queryReply queryGuards lookupReply
   look-answer y e =
       answer-is (lookup k) r (g .okay) refl refl y
-      (e ∙ ap (λ (l : List Change). placeOf (orElse (lastOf k l) (find k (entriesOf (r .index .keys) (r .snapshot))))) (sym retained-is)
-      ∙ ap (λ (l : List Change). placeOf (orElse (lastOf k (take (logDecided (numbersOf (logOf r)) - logOf r .run .compacted) (logOf r .run .retained))) (find k l))) (sym snapshot))
+      (e ∙ ap (λ (l : List Change). placeOf (orElse (lastOf k l) (find k (entriesOf (r .index .keys) (r .snapshot)))))
+      (sym retained-is)
+      ∙ ap (λ (l : List Change). placeOf (orElse (lastOf k (take (logDecided (numbersOf (logOf r))
+      - logOf r .run .compacted) (logOf r .run .retained))) (find k l))) (sym snapshot))
 
   -- d is log-decided, as the code has it
   module _ (d : ℕ) (q : d ≡ logDecided (numbersIn (r .index))) where
@@ -129,10 +134,12 @@ module _ (r : Raw) (g : Ready r) (k : ℕ) where
         → replied (placeOf (some x)) ≡ run (query (lookup k)) true r .answer
     unfolding orElse
     look-said x e = look-answer (placeOf (some x))
-        (ap (λ (o : Option Said). placeOf (orElse o (find k (entriesOf (r .index .keys) (r .snapshot))))) (last-is (some x) e))
+        (ap (λ (o : Option Said). placeOf (orElse o (find k (entriesOf (r .index .keys) (r .snapshot)))))
+        (last-is (some x) e))
 
     pub look-snapshot : none ≡ lastOf k (entriesOf (d - r .index .compacted .0) (r .log))
         → replied (placeOf (find k (entriesOf (r .index .keys) (r .snapshot)))) ≡ run (query (lookup k)) true r .answer
     unfolding orElse
     look-snapshot e = look-answer (placeOf (find k (entriesOf (r .index .keys) (r .snapshot))))
-        (ap (λ (o : Option Said). placeOf (orElse o (find k (entriesOf (r .index .keys) (r .snapshot))))) (last-is none e))
+        (ap (λ (o : Option Said). placeOf (orElse o (find k (entriesOf (r .index .keys) (r .snapshot)))))
+        (last-is none e))

@@ -1,6 +1,5 @@
 -- The reply by numbers: its cases as the code takes them, that it says what the model's read shows, and that the part
--- that it names
--- lies in the lent log.
+-- that it names lies in the lent log.
 use Rattle.words.proofs.Prelude.{arith, _≡_, refl, sym, ap, ap₂, _∙_, ℕ, _+_, _-_, _≤_, _<_, min, max, Bool, true}
 use Rattle.words.proofs.Prelude.{false, _&&_, _||_, eqb, ltb, leb, eq-eqb, ne-eqb, lt-ltb, le-ltb, ltb-true, ltb-false}
 use Rattle.words.proofs.Prelude.{le-leb, lt-leb, leb-false, if_then_else_, Option, none, some, List, length, take, drop}
@@ -10,7 +9,8 @@ use Rattle.words.proofs.Tests.{or-left, or-right, either}
 use Rattle.entry.specs.{Change.entriesOf, Change.entriesIn, Guards.Answer, Guards.refused, Guards.replied}
 use Rattle.entry.specs.{declared.LogIndex.LogIndex, declared.StopSign.StopSign}
 use Rattle.model.specs.Numbers.{Numbers, endOf, acceptedOf, stopDecided}
-use Rattle.model.specs.Read.{Bound, startAt, stopAt, startPast, stopPast, Marker, trimmed, snapshotted, markerOf, Span, span, Shown, shown, fullRun, readFrom, readReply, decidedSuffix}
+use Rattle.model.specs.Read.{Bound, startAt, stopAt, startPast, stopPast, Marker, trimmed, snapshotted, markerOf, Span}
+use Rattle.model.specs.Read.{span, Shown, shown, fullRun, readFrom, readReply, decidedSuffix}
 use Rattle.model.specs.Calls.{query, read, readDecided, getEntries, getSuffix, queryReply, queryGuards}
 use Rattle.state_cache.specs.{State.Raw, State.numbersIn, State.logOf, Inner.Ready, Run.run}
 use Rattle.state_cache.specs.{declared.IndexRecord.IndexRecord}
@@ -26,7 +26,8 @@ use Rattle.reading.specs.{declared.inner.IndexEntry.IndexEntry, declared
 use Rattle.reading.specs.{declared.inner.IndexEntry.the-variants.Entry}
 use Rattle.reading.specs.{declared.inner.IndexEntry.the-variants.StopSign as StopEntry}
 use Rattle.reading.proofs.Answers.{answer-is, answered}
-use Rattle.reading.proofs.Showing.{both-by, part-entries, lent-count, shown-is, held, room, numbers, entries-answer, suffix-answer as end-answer}
+use Rattle.reading.proofs.Showing.{both-by, part-entries, lent-count, shown-is, held, room, numbers}
+use Rattle.reading.proofs.Showing.{entries-answer, suffix-answer as end-answer}
 
 -- ---- the cases as the code takes them
 
@@ -39,7 +40,8 @@ marker-at x from Entry h = sym (rw (le-ltb from (x .compacted .0) (h .0)))
 marker-at x from StopEntry h = sym (rw (le-ltb from (x .compacted .0) (omega arith)))
 
 -- a run from the numbers that the code finds one after another
-module _ (x : IndexRecord) (from to : ℕ) (m : CodeMarker) (start far end near known last count decided : ℕ) (stopped : Bool) where
+module _ (x : IndexRecord) (from to : ℕ) (m : CodeMarker) (start far end near known last count decided : ℕ)
+    (stopped : Bool) where
   pub run-is : m ≡ (if ltb from (x .compacted .0) then markerIn x else None)
       → start ≡ from - x .compacted .0 → far ≡ to - x .compacted .0 → end ≡ min far (x .retained)
       → near ≡ x .decided .0 - x .compacted .0 → known ≡ min end near
@@ -69,7 +71,8 @@ module _ (x : IndexRecord) (from to : ℕ) where
 
     pub case-past : acceptedOf n ≤ to - 1 → Nothing ≡ readIn from to x
     unfolding readIn endOf
-    case-past h = sym (rw (ne-eqb to 0 z, lt-leb to (x .compacted .0) (omega (arith, end-le n)), lt-ltb (acceptedOf n) to (omega arith)))
+    case-past h = sym (rw
+        (ne-eqb to 0 z, lt-leb to (x .compacted .0) (omega (arith, end-le n)), lt-ltb (acceptedOf n) to (omega arith)))
 
   module _ (h₁ : x .compacted .0 < to) (h₂ : to ≤ acceptedOf n) where
     pub case-nothing : acceptedOf n ≤ from → Nothing ≡ readIn from to x
@@ -155,11 +158,13 @@ module _ (r : Raw) (g : Ready r) where
       let m : ℕ = min (to - low) n in
       let last : low + m ≡ min to (low + n) = from-low to low n (omega arith) in
       shown-eq (eqb to (acceptedOf (numbersIn x)) && stopDecided (numbersIn x)) (marker-if (ltb from low))
-      (ap (span (from - low)) (shown-is n (from - low) (m - (from - low)) (r .log) (fits from low m n (omega arith) (omega arith)))
+      (ap (span (from - low)) (shown-is n (from - low) (m - (from - low)) (r .log)
+      (fits from low m n (omega arith) (omega arith)))
       ∙ ap₂ (λ (i j : ℕ). span j (take i (drop j (entriesOf n (r .log)))))
       (offset from low m ∙ ap (λ (k : ℕ). k - max from low) last) (past from low))
       (offset from low (min m (x .decided .0 - low))
-      ∙ ap (λ (k : ℕ). k - max from low) (from-low′ (x .decided .0) low m (g .numbers .low) ∙ ap (λ (k : ℕ). min k (x .decided .0)) last))
+      ∙ ap (λ (k : ℕ). k - max from low)
+      (from-low′ (x .decided .0) low m (g .numbers .low) ∙ ap (λ (k : ℕ). min k (x .decided .0)) last))
       (stop-by (eqb to (acceptedOf (numbersIn x))) (x .«stop_held») (x .stop)))
 
   reply-said : (from to : ℕ) → readSaid r (readIn from to x) ≡ replied (readFrom from to (logOf r))
@@ -167,11 +172,14 @@ module _ (r : Raw) (g : Ready r) where
   reply-said from to =
       rw (ap acceptedOf (numbers r g)) (
       both-by (readSaid r) replied (eqb to 0) _ _ _ _ (λ _. refl) (λ _.
-      both-by (readSaid r) replied (leb to low) _ _ _ _ (λ _. ap (λ (s : Shown). replied (some s)) (shown-eq false marker-said refl refl refl)) (λ e₁.
-      both-by (readSaid r) replied (ltb (acceptedOf (numbersIn x)) to || leb (acceptedOf (numbersIn x)) from) _ _ _ _ (λ _. refl) (λ e₂.
+      both-by (readSaid r) replied (leb to low)
+      _ _ _ _ (λ _. ap (λ (s : Shown). replied (some s)) (shown-eq false marker-said refl refl refl)) (λ e₁.
+      both-by (readSaid r) replied (ltb (acceptedOf (numbersIn x)) to
+      || leb (acceptedOf (numbersIn x)) from) _ _ _ _ (λ _. refl) (λ e₂.
       both-by (readSaid r) replied (leb to from) _ _ _ _ (λ _. refl) (λ e₃.
       ap (λ (s : Shown). replied (some s))
-      (full-said from to (leb-false to low e₁) (ltb-false (acceptedOf (numbersIn x)) to (or-left _ (leb (acceptedOf (numbersIn x)) from) e₂)) (leb-false to from e₃)))))))
+      (full-said from to (leb-false to low e₁) (ltb-false (acceptedOf (numbersIn x)) to
+      (or-left _ (leb (acceptedOf (numbersIn x)) from) e₂)) (leb-false to from e₃)))))))
 
   pub read-answer : (a b : Bound) (from to last : ℕ) → startPast a || stopPast b ≡ false → from ≡ startAt a
       → to ≡ stopAt b last → last ≡ acceptedOf (numbersIn x)
@@ -179,7 +187,8 @@ module _ (r : Raw) (g : Ready r) where
   unfolding queryReply queryGuards readReply
   read-answer a b from to last m p q e =
       reply-said from to
-      ∙ ap₂ (λ (i j : ℕ). replied (readFrom i j (logOf r))) p (q ∙ ap (stopAt b) (e ∙ ap acceptedOf (sym (numbers r g))))
+      ∙ ap₂ (λ (i j : ℕ). replied (readFrom i j (logOf r))) p (q
+      ∙ ap (stopAt b) (e ∙ ap acceptedOf (sym (numbers r g))))
       ∙ answer-is (read a b) r (g .okay) m refl (readReply a b (logOf r)) refl
 
   module _ (from : ℕ) where
@@ -205,8 +214,10 @@ module _ (r : Raw) (g : Ready r) where
   in-span : (from to : ℕ) → SpanLent (r .log) (spanSays (r .log) (spanIn from to (numbersIn x)))
   unfolding spanIn endOf
   in-span from to =
-      either (λ (s : CodeSpan). SpanLent (r .log) (spanSays (r .log) s)) (leb low from && (leb from to && leb to (endOf (numbersIn x)))) _ _
-      (λ e. let h = held low from to (endOf (numbersIn x)) e in inside (from - low) (to - from) (omega (arith, h .0, h .1 .0, h .1 .1))) (λ _. inside 0 0 (omega arith))
+      either (λ (s : CodeSpan). SpanLent (r .log) (spanSays (r .log) s))
+      (leb low from && (leb from to && leb to (endOf (numbersIn x)))) _ _
+      (λ e. let h = held low from to (endOf (numbersIn x)) e in
+      inside (from - low) (to - from) (omega (arith, h .0, h .1 .0, h .1 .1))) (λ _. inside 0 0 (omega arith))
 
   abbrev Said : ReadReply → Type 0
   Said s = ShownLent (r .log) (readSaid r s)
@@ -224,7 +235,8 @@ module _ (r : Raw) (g : Ready r) where
       either Said (leb to low) _ _ (λ _. inside 0 0 (omega arith)) (λ _.
       either Said (ltb (acceptedOf n) to || leb (acceptedOf n) from) _ _ (λ _. tt) (λ e.
       either Said (leb to from) _ _ (λ _. inside 0 0 (omega arith)) (λ _.
-      in-run from to (omega (arith, leb-false (acceptedOf n) from (or-right (ltb (acceptedOf n) to) _ e), accepted-le n))))))
+      in-run from to
+      (omega (arith, leb-false (acceptedOf n) from (or-right (ltb (acceptedOf n) to) _ e), accepted-le n))))))
 
 -- ---- the words of the part that an answer names are the entries that it shows
 
@@ -233,17 +245,20 @@ module _ (r : Raw) where
   read-lent a b = answered (read a b) r (ShownLent (r .log)) (λ _ _. tt) (λ ok m.
       let last = acceptedOf (numbersIn (r .index)) in
       let g = ready-of r ok in
-      subst (ShownLent (r .log)) (read-answer r g a b (startAt a) (stopAt b last) last m refl refl refl) (in-read r g (startAt a) (stopAt b last)))
+      subst (ShownLent (r .log)) (read-answer r g a b (startAt a) (stopAt b last) last m refl refl refl)
+      (in-read r g (startAt a) (stopAt b last)))
 
   pub decided-lent : (from : ℕ) → ShownLent (r .log) (run (query (readDecided from)) true r .answer)
-  decided-lent from = answered (readDecided from) r (ShownLent (r .log)) (λ _ _. tt) (λ ok _. go (ready-of r ok) (ltb from decided) refl)
+  decided-lent from = answered (readDecided from) r (ShownLent (r .log)) (λ _ _. tt)
+      (λ ok _. go (ready-of r ok) (ltb from decided) refl)
     where
       decided : ℕ
       decided = r .index .decided .0
 
       go : Ready r → (t : Bool) → ltb from decided ≡ t
           → ShownLent (r .log) (run (query (readDecided from)) true r .answer)
-      go g true e = subst (ShownLent (r .log)) (suffix-answer r g from (ltb-true from decided e)) (in-read r g from decided)
+      go g true e = subst (ShownLent (r .log)) (suffix-answer r g from (ltb-true from decided e))
+          (in-read r g from decided)
       go g false e = subst (ShownLent (r .log)) (suffix-none r g from (ltb-false from decided e)) tt
 
   pub entries-lent : (from to : ℕ) → SpanLent (r .log) (run (query (getEntries from to)) true r .answer)

@@ -29,8 +29,11 @@ module _ (first count : ℕ) (ws : List ℕ) (p : ℕ × ℕ) where
       × (wordAt (first * width) p ≡ partAt first count ws p)
   unfolding part partAt
   part-cut h =
-      let t = le-leb ((first + count) * width) (length ws) h in
-      (ap (λ (k : ℕ). take k (drop (first * width) ws)) (add-sub-cancel-left (first * width) (count * width)) ∙ sym (rw t), sym (rw t))
+      let t = le-leb ((first + count) * width) (length ws) h in (
+        ap (λ (k : ℕ). take k (drop (first * width) ws)) (add-sub-cancel-left (first * width) (count * width))
+            ∙ sym (rw t),
+        sym (rw t),
+      )
 
 -- entries are read from the front alone
 front : (count : ℕ) (l : List ℕ) → count * width ≤ length l
@@ -39,7 +42,8 @@ unfolding entriesAt
 front count l h =
     let z : count + 0 ≡ count = omega arith in
     sym (append-nil (entriesOf count (take (count * width) l)))
-    ∙ sym (entries-append changeCode count 0 (take (count * width) l) (drop (count * width) l) (length-take-le (count * width) l h))
+    ∙ sym (entries-append changeCode count 0 (take (count * width) l) (drop (count * width) l)
+    (length-take-le (count * width) l h))
     ∙ ap (λ (k : ℕ). entriesOf k (take (count * width) l ++ drop (count * width) l)) z
     ∙ ap (entriesOf count) (take-append-drop (count * width) l)
 
@@ -53,7 +57,8 @@ part-entries first count ws h =
     ≡ count * width = length-take-le (count * width) (drop (first * width) ws) room in
     let half : length (take (count * width) (drop (first * width) ws)) / width ≡ count = omega (arith, long) in
     rw (le-leb ((first + count) * width) (length ws) h)
-    (ap (λ (j : ℕ). entriesOf j (take (count * width) (drop (first * width) ws))) half ∙ front count (drop (first * width) ws) room)
+    (ap (λ (j : ℕ). entriesOf j (take (count * width) (drop (first * width) ws))) half
+    ∙ front count (drop (first * width) ws) room)
 
 pub no-part : (ws : List ℕ) (p : ℕ × ℕ) → (part 0 0 ws ≡ []) × (partAt 0 0 ws p ≡ p)
 no-part ws p =
@@ -65,7 +70,8 @@ no-part ws p =
 pub shown-is : (n first count : ℕ) (ws : List ℕ) → first + count ≤ n
     → entriesOf count (drop (first * width) ws) ≡ take count (drop first (entriesOf n ws))
 shown-is n first count ws h =
-    sym (ap (take count) (entries-drop changeCode first n ws (omega arith)) ∙ entries-take changeCode count (n - first) (drop (first * width) ws) (omega arith))
+    sym (ap (take count) (entries-drop changeCode first n ws (omega arith))
+    ∙ entries-take changeCode count (n - first) (drop (first * width) ws) (omega arith))
 
 -- how many entries a part has
 pub lent-count : (log : List ℕ) (first count : ℕ) → length (lentSpan log first count .entries) ≡ count
@@ -75,8 +81,10 @@ lent-count log first count = entries-length changeCode count (drop (first * widt
 pub held : (low from to last : ℕ) → (leb low from && (leb from to && leb to last)) ≡ true
     → (low ≤ from) × ((from ≤ to) × (to ≤ last))
 held low from to last e =
-    let e₂ = and-right (leb low from) _ e in
-    (leb-true low from (and-left _ _ e), (leb-true from to (and-left _ _ e₂), leb-true to last (and-right (leb from to) _ e₂)))
+    let e₂ = and-right (leb low from) _ e in (
+      leb-true low from (and-left _ _ e),
+      (leb-true from to (and-left _ _ e₂), leb-true to last (and-right (leb from to) _ e₂)),
+    )
 
 -- the reply by its test, as the code takes it
 pub span-by : (from to last : ℕ) (n : Numbers) → last ≡ endOf n → (t : Bool)
@@ -107,7 +115,8 @@ module _ (r : Raw) (g : Ready r) where
       ≡ replied (entriesBetween from to (logOf r))
   unfolding spanIn entriesBetween logOf entriesAt endOf
   says-between from to =
-      rw (ap endOf numbers) (both-by (spanSays (r .log)) replied (leb c from && (leb from to && leb to (endOf (numbersIn (r .index))))) _ _ _ _ (λ e.
+      rw (ap endOf numbers) (both-by (spanSays (r .log)) replied (leb c from
+      && (leb from to && leb to (endOf (numbersIn (r .index))))) _ _ _ _ (λ e.
       let h = held c from to (endOf (numbersIn (r .index))) e in
       ap (λ (es : List Change). replied (span (from - c) es))
       (shown-is (r .index .retained) (from - c) (to - from) (r .log) (omega (arith, h .0, h .1 .0, h .1 .1))))

@@ -1,6 +1,5 @@
 -- Two replies of a read that meet a claim are one: what a reply says tells its marker, where its part starts, how many
--- entries it
--- has and how many are decided, and its stop-sign.
+-- entries it has and how many are decided, and its stop-sign.
 use Rattle.words.proofs.Prelude.{arith, _≡_, refl, sym, ap, ap₂, _∙_, ℕ, Option, none, some, List, length}
 use Rattle.words.proofs.CodedLaws.{entries-length}
 use Rattle.entry.specs.Change.{changeCode}
@@ -38,12 +37,17 @@ marker-back ws (Trimmed i) = refl
 marker-back ws (Snapshot i keys) = ap (Snapshot i) (entries-length changeCode keys ws)
 
 run-back : (x : Raw) (r : ShownRun) → runOf (shownSaid x r) ≡ r
-run-back x r = rw (marker-back (x .snapshot) (r .marker), lent-count (x .log) (r .first) (r .count), given-by (r .stop) (x .index .stop))
+run-back x r = rw (
+  marker-back (x .snapshot) (r .marker),
+  lent-count (x .log) (r .first) (r .count),
+  given-by (r .stop) (x .index .stop),
+)
 
 pub span-unique : (log : List ℕ) → Known (spanSays log)
 span-unique log (SpanRun i n) (SpanRun j m) e =
     let p : lentSpan log i n ≡ lentSpan log j m = cc in
-    ap₂ SpanRun (ap (λ (s : Span). s .first) p) (sym (lent-count log i n) ∙ ap (λ (s : Span). length (s .entries)) p ∙ lent-count log j m)
+    ap₂ SpanRun (ap (λ (s : Span). s .first) p)
+    (sym (lent-count log i n) ∙ ap (λ (s : Span). length (s .entries)) p ∙ lent-count log j m)
 span-unique log (SpanRun i n) (SpanRefused y) e = apart _ _ _ e
 span-unique log (SpanRefused x) (SpanRun j m) e = apart _ _ _ (sym e)
 span-unique log (SpanRefused x) (SpanRefused y) e = ap SpanRefused (refusal-known x y e)

@@ -51,7 +51,8 @@ stay-or-go used out gone = go (leb used lastStart)
     go false = (gone ++ take used out, append-nil (gone ++ take used out))
 
 -- a line's end: its answer is put after those that wait
-module _ (ls : Lines) (x : Raw) (line : Option (List ℕ)) (used : ℕ) (out : List ℕ) (st : Reached ls x line (take used out)) where
+module _ (ls : Lines) (x : Raw) (line : Option (List ℕ)) (used : ℕ) (out : List ℕ)
+    (st : Reached ls x line (take used out)) where
   before : Printout
   before = replayed (ls .ended) start
 
@@ -82,7 +83,8 @@ module _ (ls : Lines) (x : Raw) (line : Option (List ℕ)) (used : ℕ) (out : L
       }
 
 -- bytes that join the line, in a buffer of the size it has
-pub kept : (ls : Lines) (x y : IndexRecord) (log snapshot : List ℕ) (line line′ : Option (List ℕ)) (used used′ room : ℕ) (out bytes : List ℕ)
+pub kept : (ls : Lines) (x y : IndexRecord) (log snapshot : List ℕ) (line line′ : Option (List ℕ)) (used used′ room : ℕ)
+    (out bytes : List ℕ)
     → y ≡ x → used′ ≡ used → room ≡ inputLine → line′ ≡ joined room line bytes
     → Reached ls (raw x log snapshot) line (take used out)
     → Reached (restWith bytes ls) (raw y log snapshot) line′ (take used′ out)

@@ -15,7 +15,8 @@ use Rattle.text.specs.declared.Line.the-variants.{Done, Refused, Run, Snapshot}
 use Rattle.reading.proofs.{Answers.query-keeps, Showing.lent-count, Replying.ShownLent, Replying.read-lent}
 use Rattle.reading.specs.{Parts.part, Replies.lentSpan, Replies.markerSaid, Replies.shownSaid, Replies.readSaid}
 use Rattle.reading.specs.{declared.ReadReply.ReadReply, declared.ShownRun.ShownRun}
-use Rattle.replay.specs.Answering.{printout, markerText, stopText, shownText, readText, inLog, readTextIn, printed, startedBy, stopLine, stoppedBy}
+use Rattle.replay.specs.Answering.{printout, markerText, stopText, shownText, readText, inLog, readTextIn}
+use Rattle.replay.specs.Answering.{printed, startedBy, stopLine, stoppedBy}
 use Rattle.replay.specs.Feeding.{after}
 
 two : {t₁ t₂ : List ℕ} (t₀ a b : List ℕ) → t₁ ≡ t₀ ++ a → t₂ ≡ t₁ ++ b → t₂ ≡ t₀ ++ (a ++ b)
@@ -40,7 +41,8 @@ part-few first count ws = go (leb ((first + count) * width) (length ws))
     go false = omega arith
 
 -- the lines one after another
-pub shown-is : {t₁ t₂ t₃ t₄ : List ℕ} (t₀ : List ℕ) (run : ShownRun) (index : IndexRecord) (log snapshot entries : List ℕ) (m lines : ℕ)
+pub shown-is : {t₁ t₂ t₃ t₄ : List ℕ} (t₀ : List ℕ) (run : ShownRun) (index : IndexRecord)
+    (log snapshot entries : List ℕ) (m lines : ℕ)
     → entries ≡ part (run .first) (run .count) log → m ≡ oneIf (given (markerSaid snapshot (run .marker)))
     → lines ≡ m + length entries / width + oneIf (run .stop) → t₁ ≡ t₀ ++ lineOf (Run lines)
     → t₂ ≡ t₁ ++ markerText (markerSaid snapshot (run .marker))
@@ -56,10 +58,12 @@ shown-is {t₁ = t₁} {t₂ = t₂} t₀ run index log snapshot entries m lines
     (entriesOf (length part-is / width) part-is) + oneIf
     (given (if run .stop then some (index .stop) else none)) in
     let en : lines ≡ n = el ∙ ap (λ (k : ℕ). k + length entries / width + oneIf (run .stop)) em
-    ∙ ap (λ (ws : List ℕ). oneIf (given (markerSaid snapshot (run .marker))) + length ws / width + oneIf (run .stop)) named
+    ∙ ap (λ (ws : List ℕ). oneIf (given (markerSaid snapshot (run .marker))) + length ws / width
+    + oneIf (run .stop)) named
     ∙ ap (λ (k : ℕ). oneIf (given (markerSaid snapshot (run .marker))) + k + oneIf (run .stop))
     (sym (entries-length changeCode (length part-is / width) part-is))
-    ∙ ap (λ (b : Bool). oneIf (given (markerSaid snapshot (run .marker))) + length (entriesOf (length part-is / width) part-is) + oneIf b) (sym (given-by (run .stop) (index .stop))) in
+    ∙ ap (λ (b : Bool). oneIf (given (markerSaid snapshot (run .marker)))
+    + length (entriesOf (length part-is / width) part-is) + oneIf b) (sym (given-by (run .stop) (index .stop))) in
     let head : List ℕ = lineOf (Run n) in
     let mark : List ℕ = markerText (markerSaid snapshot (run .marker)) in
     let body : List ℕ = entryLines (run .decided) (entriesOf (length part-is / width) part-is) in
@@ -73,7 +77,8 @@ lent-text : (log : List ℕ) (a : Answer (Option Shown)) → ShownLent log a →
 lent-text log (refused n k) e = refl
 lent-text log (replied none) e = refl
 lent-text log (replied (some v)) e =
-    ap (λ (es : List Change). shownText (shown (v .marker) (span (v .part .first) es) (v .decided) (v .stop) (v .stopDecided))) e
+    ap (λ (es : List Change). shownText
+    (shown (v .marker) (span (v .part .first) es) (v .decided) (v .stop) (v .stopDecided))) e
 
 -- ---- what a call's answer prints, and the state after it
 
@@ -102,9 +107,11 @@ fresh-kept n k m x log snapshot =
     go (leb n largestBatch && (eqb (length log) logWords && eqb (length snapshot) snapshotWords))
   where
     go : (b : Bool) → outcome (refused k m) x
-        ≡ (if b then outcome (replied (tt {0})) (rawOf (freshLog n)) else outcome (refused 11 0) (raw (indexOf (freshLog 0)) log snapshot)) → (x .log ≡ log) × (x .snapshot ≡ snapshot)
+        ≡ (if b then outcome (replied (tt {0})) (rawOf (freshLog n)) else outcome (refused 11 0)
+        (raw (indexOf (freshLog 0)) log snapshot)) → (x .log ≡ log) × (x .snapshot ≡ snapshot)
     go true e = apart _ _ _ (sym (ap (λ (o : Outcome (Unit {0})). o .answer) e))
-    go false e = (ap (λ (o : Outcome (Unit {0})). o .after .log) e, ap (λ (o : Outcome (Unit {0})). o .after .snapshot) e)
+    go false e =
+        (ap (λ (o : Outcome (Unit {0})). o .after .log) e, ap (λ (o : Outcome (Unit {0})). o .after .snapshot) e)
 
 pub starts : (n : ℕ) (x old : Raw) → outcome (replied tt) x ≡ freshCall n (old .log) (old .snapshot)
     → printout (lineOf Done) x ≡ startedBy (freshCall n (old .log) (old .snapshot)) old
@@ -117,5 +124,6 @@ stays n said k m x old e h =
     let kept = fresh-kept n k m x (old .log) (old .snapshot) e in
     ap (λ (i : ℕ). printout (lineOf (Refused i)) (raw (old .index) (x .log) (x .snapshot))) h
     ∙ ap (λ (r : Raw). printout (lineOf (Refused k)) r)
-    (ap (λ (l : List ℕ). raw (old .index) l (x .snapshot)) (kept .0) ∙ ap (λ (l : List ℕ). raw (old .index) (old .log) l) (kept .1))
+    (ap (λ (l : List ℕ). raw (old .index) l (x .snapshot)) (kept .0)
+    ∙ ap (λ (l : List ℕ). raw (old .index) (old .log) l) (kept .1))
     ∙ ap (λ (o : Outcome (Unit {0})). startedBy o old) e

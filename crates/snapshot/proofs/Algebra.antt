@@ -60,7 +60,8 @@ unfolding within
 within-none room s h = rw (lt-leb (length s) room h)
 
 pub fold-join-within : (room : ℕ) (r q : List Change)
-    → within room (fold (r ++ q)) ≡ bind (within room (fold r)) (λ a. bind (within room (fold q)) (λ b. within room (merge a b)))
+    → within room (fold (r ++ q))
+    ≡ bind (within room (fold r)) (λ a. bind (within room (fold q)) (λ b. within room (merge a b)))
 unfolding bind
 fold-join-within room r q = by (reach (length (fold r)) room) (reach (length (fold q)) room)
   where
@@ -71,7 +72,8 @@ fold-join-within room r q = by (reach (length (fold r)) room) (reach (length (fo
     two = merge-second (fold r) (fold q) (rising-fold q)
 
     by : Reach (length (fold r)) room → Reach (length (fold q)) room
-        → within room (fold (r ++ q)) ≡ bind (within room (fold r)) (λ a. bind (within room (fold q)) (λ b. within room (merge a b)))
+        → within room (fold (r ++ q))
+        ≡ bind (within room (fold r)) (λ a. bind (within room (fold q)) (λ b. within room (merge a b)))
     by (reached g) (reached h) = simp (fold-append, within-fits)
     by (reached g) (short h) =
         let k : room < length (merge (fold r) (fold q)) = omega (arith, two) in

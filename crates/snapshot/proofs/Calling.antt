@@ -13,7 +13,8 @@ use Rattle.entry.specs.{declared.Refusal.the-variants.Malformed, Inner.changeAt
 use Rattle.entry.proofs.{ChangeLaws.entry-cons, GuardLaws.first-refuses, GuardLaws.first-goes-on, SliceLaws.laid-of}
 use Rattle.entry.proofs.{SliceLaws.slice-fine, SliceLaws.stored-entries, SliceLaws.stored-laid}
 use Rattle.snapshot.specs.Folds.{rising, foldOnto, fold, merge, find, placeOf}
-use Rattle.snapshot.specs.Calls.{snapshotFormed, Outcome, outcome, writtenBy, foldGuards, folded, foldCall, mergeCall, findCall}
+use Rattle.snapshot.specs.Calls.{snapshotFormed, Outcome, outcome, writtenBy, foldGuards, folded, foldCall}
+use Rattle.snapshot.specs.Calls.{mergeCall, findCall}
 use Rattle.snapshot.specs.Inner.{rank, spotOf, Holds, Shows, FoldIs, Aside, foldedOut}
 use Rattle.snapshot.specs.declared.Folded.{Folded}
 use Rattle.snapshot.specs.declared.Folded.the-variants.{Keys, Refused}
@@ -46,7 +47,8 @@ module _ (es : List Change) (out : List ℕ) where
         ∙ over-written (omega (arith, q .0))
 
 -- what a fold's answer tells, whatever the verdict
-module _ (v : Verdict) (es : List Change) (out exit : List ℕ) (a : Folded) (f : outcome (folded a) exit ≡ writtenBy v es out) where
+module _ (v : Verdict) (es : List Change) (out exit : List ℕ) (a : Folded)
+    (f : outcome (folded a) exit ≡ writtenBy v es out) where
   pub wrote-nothing : (x : Refusal) → a ≡ Refused x → (v ≡ refuses (numberOf x) (carriedOf x)) × (exit ≡ out)
   wrote-nothing x p = go v (ap (λ (b : Folded). outcome (folded b) exit) (sym p) ∙ f)
     where
@@ -78,7 +80,8 @@ module _ (kept : ℕ) (base : List ℕ) (n : ℕ) (entries out : List ℕ) (a : 
   pub aside-needs : Holds (length base) kept base × Shows n entries
   aside-needs = (rw (a .base-holds .laid .long) (a .base-holds), a .entries-show)
 
-  module _ (r : Folded) (t : List ℕ) (p : FoldIs (length base) (foldOnto (entriesOf kept base) (entriesOf n entries)) r t) where
+  module _ (r : Folded) (t : List ℕ)
+      (p : FoldIs (length base) (foldOnto (entriesOf kept base) (entriesOf n entries)) r t) where
     scratch-is : FoldIs snapshotWords (foldOnto (entriesOf kept base) (entriesOf n entries)) r t
     scratch-is = rw (a .base-holds .laid .long) at p
 
@@ -92,7 +95,10 @@ module _ (kept : ℕ) (base : List ℕ) (n : ℕ) (entries out : List ℕ) (a : 
 pub snapshot-holds : (n : ℕ) (ws : List ℕ) → snapshotFormed n ws ≡ true → Holds snapshotWords n ws
 unfolding snapshotFormed
 snapshot-holds n ws e =
-    record { laid = laid-of snapshotWords n ws (and-left _ _ e); rises = and-right (storedIn snapshotWords n ws) (rising (entriesOf n ws)) e }
+    record {
+      laid = laid-of snapshotWords n ws (and-left _ _ e);
+      rises = and-right (storedIn snapshotWords n ws) (rising (entriesOf n ws)) e;
+    }
 
 pub snapshot-stored : (es : List Change) → length es ≤ keyRoom → entriesFormed es ≡ true → rising es ≡ true
     → snapshotFormed (length es) (stored snapshotWords es) ≡ true

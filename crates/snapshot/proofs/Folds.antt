@@ -81,8 +81,10 @@ climbs-insert k c (d ∷ s) h e = by (λ g. climbs-insert (d .key) c s g (climbs
   where
     by : (d .key < c .key → climbs (d .key) (insert c s) ≡ true) → Stand (c .key) (d .key)
         → climbs k (insert c (d ∷ s)) ≡ true
-    by ih (below x) = rw (insert-below c d s x) (climbs-cons k c (d ∷ s) h (climbs-cons (c .key) d s x (climbs-tail k d s e)))
-    by ih (same x) = rw (insert-same c d s x) (climbs-cons k c s h (climbs-down (c .key) (d .key) s (omega arith) (climbs-tail k d s e)))
+    by ih (below x) = rw (insert-below c d s x)
+        (climbs-cons k c (d ∷ s) h (climbs-cons (c .key) d s x (climbs-tail k d s e)))
+    by ih (same x) = rw (insert-same c d s x)
+        (climbs-cons k c s h (climbs-down (c .key) (d .key) s (omega arith) (climbs-tail k d s e)))
     by ih (above x) = rw (insert-above c d s x) (climbs-cons k d (insert c s) (climbs-head k d s e) (ih x))
 
 pub rising-climbs : (d : Change) (s : List Change) → rising (d ∷ s) ≡ true → climbs (d .key) s ≡ true
@@ -115,7 +117,8 @@ unfolding foldOnto
 onto-after c s [] e = refl
 onto-after c s (d ∷ t) e =
     let x : c .key < d .key = climbs-head (c .key) d t e in
-    rw (← insert-swap c d s x) (onto-after c (insert d s) t (climbs-down (c .key) (d .key) t (omega arith) (climbs-tail (c .key) d t e)))
+    rw (← insert-swap c d s x)
+    (onto-after c (insert d s) t (climbs-down (c .key) (d .key) t (omega arith) (climbs-tail (c .key) d t e)))
 
 pub tail-rises : (k : ℕ) (t : List Change) → climbs k t ≡ true → rising t ≡ true
 unfolding rising
@@ -133,7 +136,8 @@ onto-insert c s (d ∷ t) e = by (onto-insert c (insert d s) t (tail-rises (d .k
         → foldOnto s (insert c (d ∷ t)) ≡ insert c (foldOnto s (d ∷ t))
     by ih (below x) = rw (insert-below c d t x) (onto-after c s (d ∷ t) (climbs-cons (c .key) d t x e))
     by ih (same x) =
-        rw (insert-same c d t x, ← insert-cover c d s x) (onto-after c (insert d s) t (climbs-down (c .key) (d .key) t (omega arith) e))
+        rw (insert-same c d t x, ← insert-cover c d s x)
+        (onto-after c (insert d s) t (climbs-down (c .key) (d .key) t (omega arith) e))
     by ih (above x) = rw (insert-above c d t x) ih
 
 -- runs joined
@@ -169,9 +173,11 @@ unfolding foldOnto
 onto-under d s [] e = refl
 onto-under d s (c ∷ t) e =
     let x : d .key < c .key = climbs-head (d .key) c t e in
-    rw (insert-above c d s x) (onto-under d (insert c s) t (climbs-down (d .key) (c .key) t (omega arith) (climbs-tail (d .key) c t e)))
+    rw (insert-above c d s x)
+    (onto-under d (insert c s) t (climbs-down (d .key) (c .key) t (omega arith) (climbs-tail (d .key) c t e)))
 
 pub nil-merge : (a : List Change) → rising a ≡ true → merge [] a ≡ a
 unfolding merge foldOnto rising
 nil-merge [] e = refl
-nil-merge (d ∷ a) e = rw (insert-nil, onto-under d [] a e) (ap {B = List Change} (λ r. d ∷ r) (nil-merge a (tail-rises (d .key) a e)))
+nil-merge (d ∷ a) e = rw (insert-nil, onto-under d [] a e)
+    (ap {B = List Change} (λ r. d ∷ r) (nil-merge a (tail-rises (d .key) a e)))

@@ -21,7 +21,8 @@ pub formed-onto : (s r : List Change) → entriesFormed s ≡ true → entriesFo
     → entriesFormed (foldOnto s r) ≡ true
 unfolding foldOnto
 formed-onto s [] a b = a
-formed-onto s (c ∷ r) a b = formed-onto (insert c s) r (formed-insert c s (all-head changeFormed c r b) a) (all-tail changeFormed c r b)
+formed-onto s (c ∷ r) a b =
+    formed-onto (insert c s) r (formed-insert c s (all-head changeFormed c r b) a) (all-tail changeFormed c r b)
 
 pub formed-fold : (r : List Change) → entriesFormed r ≡ true → entriesFormed (fold r) ≡ true
 unfolding fold allOf

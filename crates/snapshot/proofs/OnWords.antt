@@ -10,10 +10,13 @@ use Rattle.entry.specs.Change.{Change, changeCode, entriesFormed, entriesOf, en
 use Rattle.entry.specs.Guards.{first, refused, replied}
 use Rattle.entry.proofs.SliceLaws.{laid-stored, slice-whole, slice-fine, slice-join, entries-join, stored-entries}
 use Rattle.snapshot.specs.Folds.{fold, merge, rising, within}
-use Rattle.snapshot.specs.Calls.{snapshotFormed, Outcome, outcome, writtenBy, foldGuards, foldCall, mergeCall, afterwards}
+use Rattle.snapshot.specs.Calls.{snapshotFormed, Outcome, outcome, writtenBy, foldGuards, foldCall, mergeCall}
+use Rattle.snapshot.specs.Calls.{afterwards}
 use Rattle.snapshot.proofs.Forming.{formed-fold, formed-merge}
-use Rattle.snapshot.proofs.Algebra.{fold-join-within, merge-assoc-within, merge-empty, empty-merge, fold-rises, merge-rises, within-fits, within-none}
-use Rattle.snapshot.proofs.Calling.{over-refused, over-written, snapshot-holds, snapshot-stored, empty-formed, fold-stands, merge-stands}
+use Rattle.snapshot.proofs.Algebra.{fold-join-within, merge-assoc-within, merge-empty, empty-merge, fold-rises}
+use Rattle.snapshot.proofs.Algebra.{merge-rises, within-fits, within-none}
+use Rattle.snapshot.proofs.Calling.{over-refused, over-written, snapshot-holds, snapshot-stored, empty-formed}
+use Rattle.snapshot.proofs.Calling.{fold-stands, merge-stands}
 
 -- what a call shows of a snapshot in its room: written out, or refused for room
 shown : Option (List Change) → List ℕ → Outcome
@@ -48,14 +51,16 @@ module _ (out : List ℕ) (room : length out ≡ snapshotWords) where
   fold-shown : (entries : List ℕ) → sliceFormed entries ≡ true
       → foldCall entries out ≡ shown (within keyRoom (fold (entriesIn entries))) out
   fold-shown entries e =
-      sym (fold-stands entries out (both-true (sliceFormed entries) (eqb (length out) snapshotWords) e (eq-eqb (length out) snapshotWords room)))
+      sym (fold-stands entries out
+      (both-true (sliceFormed entries) (eqb (length out) snapshotWords) e (eq-eqb (length out) snapshotWords room)))
       ∙ (unfold fold entriesAt in written-shown (fold (entriesIn entries)) out)
 
   merge-shown : (a : List ℕ) (n : ℕ) (b : List ℕ) (m : ℕ) → snapshotFormed n a ≡ true → snapshotFormed m b ≡ true
       → mergeCall a n b m out ≡ shown (within keyRoom (merge (entriesOf n a) (entriesOf m b))) out
   merge-shown a n b m p q =
       sym (merge-stands a n b m out
-      (both-true (snapshotFormed n a) (snapshotFormed m b && eqb (length out) snapshotWords) p (both-true (snapshotFormed m b) (eqb (length out) snapshotWords) q (eq-eqb (length out) snapshotWords room))))
+      (both-true (snapshotFormed n a) (snapshotFormed m b && eqb (length out) snapshotWords) p
+      (both-true (snapshotFormed m b) (eqb (length out) snapshotWords) q (eq-eqb (length out) snapshotWords room))))
       ∙ (unfold merge in written-shown (merge (entriesOf n a) (entriesOf m b)) out)
 
   -- the same of snapshots as they are written
@@ -63,7 +68,8 @@ module _ (out : List ℕ) (room : length out ≡ snapshotWords) where
       → mergeCall (stored snapshotWords a) (length a) (stored snapshotWords b) (length b) out
       ≡ shown (within keyRoom (merge a b)) out
   merge-stored a b p q =
-      merge-shown (stored snapshotWords a) (length a) (stored snapshotWords b) (length b) (sound-formed a p) (sound-formed b q)
+      merge-shown (stored snapshotWords a) (length a) (stored snapshotWords b) (length b) (sound-formed a p)
+      (sound-formed b q)
       ∙ ap₂ (λ (x y : List Change). shown (within keyRoom (merge x y)) out) (stored-entries snapshotWords a (p .fine))
       (stored-entries snapshotWords b (q .fine))
 
@@ -87,19 +93,22 @@ module _ (xs ys o₁ o₂ out : List ℕ)
     (room : length out ≡ snapshotWords)
   where
     pub fold-join-calls : foldCall (xs ++ ys) out
-        ≡ afterwards (foldCall xs o₁) out (λ (a : List ℕ) (n : ℕ). afterwards (foldCall ys o₂) out (λ (b : List ℕ) (m : ℕ). mergeCall a n b m out))
+        ≡ afterwards (foldCall xs o₁) out
+        (λ (a : List ℕ) (n : ℕ). afterwards (foldCall ys o₂) out (λ (b : List ℕ) (m : ℕ). mergeCall a n b m out))
     fold-join-calls =
         fold-shown out room (xs ++ ys) (slice-join xs ys p q)
         ∙ ap (λ (es : List Change). shown (within keyRoom (fold es)) out) (entries-join xs ys (slice-whole xs p))
         ∙ ap (λ (w : Option (List Change)). shown w out) (fold-join-within keyRoom (entriesIn xs) (entriesIn ys))
         ∙ by (within keyRoom (fold (entriesIn xs))) refl (within keyRoom (fold (entriesIn ys))) refl
-        ∙ ap₂ (λ (u v : Outcome). afterwards u out (λ (a : List ℕ) (n : ℕ). afterwards v out (λ (b : List ℕ) (m : ℕ). mergeCall a n b m out)))
+        ∙ ap₂ (λ (u v : Outcome). afterwards u out
+        (λ (a : List ℕ) (n : ℕ). afterwards v out (λ (b : List ℕ) (m : ℕ). mergeCall a n b m out)))
         (sym (fold-shown o₁ room₁ xs p)) (sym (fold-shown o₂ room₂ ys q))
       where
         by : (u : Option (List Change)) → within keyRoom (fold (entriesIn xs)) ≡ u → (v : Option (List Change))
             → within keyRoom (fold (entriesIn ys)) ≡ v
             → shown (bind u (λ a. bind v (λ b. within keyRoom (merge a b)))) out
-            ≡ afterwards (shown u o₁) out (λ (a : List ℕ) (n : ℕ). afterwards (shown v o₂) out (λ (b : List ℕ) (m : ℕ). mergeCall a n b m out))
+            ≡ afterwards (shown u o₁) out
+            (λ (a : List ℕ) (n : ℕ). afterwards (shown v o₂) out (λ (b : List ℕ) (m : ℕ). mergeCall a n b m out))
         by none e v f = unfold bind shown in refl
         by (some a) e none f = unfold bind shown in refl
         by (some a) e (some b) f = unfold bind shown in
@@ -114,7 +123,8 @@ merge-sound a n b m s p q e =
     let h = snapshot-holds n a p in
     record {
       few = w .1;
-      fine = rw (w .0) at (formed-merge (entriesOf n a) (entriesOf m b) (h .laid .fine) (snapshot-holds m b q .laid .fine));
+      fine = rw (w .0) at (formed-merge (entriesOf n a) (entriesOf m b) (h .laid .fine)
+          (snapshot-holds m b q .laid .fine));
       rises = rw (w .0) at (merge-rises (entriesOf n a) (entriesOf m b) (h .rises));
     }
 
@@ -128,12 +138,14 @@ module _ (a : List ℕ) (n : ℕ) (b : List ℕ) (m : ℕ) (c : List ℕ) (l : �
     pub merge-assoc-calls : afterwards (mergeCall a n b m o) out (λ (s : List ℕ) (k : ℕ). mergeCall s k c l out)
         ≡ afterwards (mergeCall b m c l o) out (λ (s : List ℕ) (k : ℕ). mergeCall a n s k out)
     merge-assoc-calls =
-        ap (λ (u : Outcome). afterwards u out (λ (s : List ℕ) (k : ℕ). mergeCall s k c l out)) (merge-shown o room₁ a n b m p q)
+        ap (λ (u : Outcome). afterwards u out (λ (s : List ℕ) (k : ℕ). mergeCall s k c l out))
+        (merge-shown o room₁ a n b m p q)
         ∙ left (within keyRoom (merge (entriesOf n a) (entriesOf m b))) refl
         ∙ ap (λ (w : Option (List Change)). shown w out)
         (merge-assoc-within keyRoom (entriesOf n a) (entriesOf m b) (entriesOf l c) (snapshot-holds m b q .rises))
         ∙ right (within keyRoom (merge (entriesOf m b) (entriesOf l c))) refl
-        ∙ ap (λ (u : Outcome). afterwards u out (λ (s : List ℕ) (k : ℕ). mergeCall a n s k out)) (sym (merge-shown o room₁ b m c l q r))
+        ∙ ap (λ (u : Outcome). afterwards u out (λ (s : List ℕ) (k : ℕ). mergeCall a n s k out))
+        (sym (merge-shown o room₁ b m c l q r))
       where
         left : (w : Option (List Change)) → within keyRoom (merge (entriesOf n a) (entriesOf m b)) ≡ w
             → afterwards (shown w o) out (λ (s : List ℕ) (k : ℕ). mergeCall s k c l out)
@@ -143,7 +155,8 @@ module _ (a : List ℕ) (n : ℕ) (b : List ℕ) (m : ℕ) (c : List ℕ) (l : �
             let o′ = merge-sound a n b m s p q e in
             unfold bind shown in
             (unfold shown in merge-shown out room (stored snapshotWords s) (length s) c l (sound-formed s o′) r)
-            ∙ ap (λ (x : List Change). shown (within keyRoom (merge x (entriesOf l c))) out) (stored-entries snapshotWords s (o′ .fine))
+            ∙ ap (λ (x : List Change). shown (within keyRoom (merge x (entriesOf l c))) out)
+            (stored-entries snapshotWords s (o′ .fine))
 
         right : (w : Option (List Change)) → within keyRoom (merge (entriesOf m b) (entriesOf l c)) ≡ w
             → shown (bind w (λ s. within keyRoom (merge (entriesOf n a) s))) out
@@ -152,7 +165,8 @@ module _ (a : List ℕ) (n : ℕ) (b : List ℕ) (m : ℕ) (c : List ℕ) (l : �
         right (some s) e =
             let o′ = merge-sound b m c l s q r e in
             unfold bind shown in
-            ap (λ (x : List Change). shown (within keyRoom (merge (entriesOf n a) x)) out) (sym (stored-entries snapshotWords s (o′ .fine)))
+            ap (λ (x : List Change). shown (within keyRoom (merge (entriesOf n a) x)) out)
+            (sym (stored-entries snapshotWords s (o′ .fine)))
             ∙ sym (unfold shown in merge-shown out room a n (stored snapshotWords s) (length s) p (sound-formed s o′))
 
 -- The empty snapshot is neutral on both sides: what is written is the snapshot itself.

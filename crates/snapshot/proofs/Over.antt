@@ -33,14 +33,16 @@ module _ (kept : ℕ) (base : List ℕ) (n : ℕ) (entries : List ℕ) (m : ℕ)
       fits = folded-keys snapshotWords first k (sym (is .reply) ∙ e)
 
       fine : entriesFormed first ≡ true
-      fine = formed-onto (entriesOf kept base) (entriesOf n entries) (a .base-holds .laid .fine) (a .entries-show .sound)
+      fine = formed-onto (entriesOf kept base) (entriesOf n entries) (a .base-holds .laid .fine)
+          (a .entries-show .sound)
 
       pub twice-next : Aside k t m more base
       twice-next = record {
         base-holds =
             rw (fits .1, is .words-are (fits .0))
             (snapshot-holds (length first) (stored snapshotWords first)
-            (snapshot-stored first (omega (arith, fits .0)) fine (rising-onto (entriesOf kept base) (entriesOf n entries) (a .base-holds .rises))));
+            (snapshot-stored first (omega (arith, fits .0)) fine
+            (rising-onto (entriesOf kept base) (entriesOf n entries) (a .base-holds .rises))));
         entries-show = w;
         room = a .room;
       }

@@ -72,7 +72,8 @@ module _ (s : List ℕ) (n : ℕ) (item : List ℕ) (h : Holds (length s) n s) (
     over : Put c (entriesOf n s) 1
     over = insert-over c (entriesOf n s) (spot-at (entriesOf n s) (c .key) i (sym e) .0)
 
-    pub put-at : FoldIs (length s) (insert c (entriesOf n s)) (Keys n) (laid (length s) (spliced (i * width) width item (take (n * width) s)))
+    pub put-at : FoldIs (length s) (insert c (entriesOf n s)) (Keys n)
+        (laid (length s) (spliced (i * width) width item (take (n * width) s)))
     put-at =
         let k : n ≡ length (insert c (entriesOf n s)) = omega (arith, over .length-is, long) in
         record {
@@ -88,7 +89,8 @@ module _ (s : List ℕ) (n : ℕ) (item : List ℕ) (h : Holds (length s) n s) (
     before-inside = omega (arith, into .inside, spot-before (entriesOf n s) (c .key) i (sym e) .1, long)
 
     pub put-before : width ≤ length s - n * width
-        → FoldIs (length s) (insert c (entriesOf n s)) (Keys (n + 1)) (laid (length s) (spliced (i * width) 0 item (take (n * width) s)))
+        → FoldIs (length s) (insert c (entriesOf n s)) (Keys (n + 1))
+        (laid (length s) (spliced (i * width) 0 item (take (n * width) s)))
     put-before room =
         let k : n + 1 ≡ length (insert c (entriesOf n s)) = omega (arith, into .length-is, long) in
         record {
@@ -101,7 +103,10 @@ module _ (s : List ℕ) (n : ℕ) (item : List ℕ) (h : Holds (length s) n s) (
     put-full t full =
         let k : n + 1 ≡ length (insert c (entriesOf n s)) = omega (arith, into .length-is, long) in
         let o : length s < length (insert c (entriesOf n s)) * width = omega (arith, h .laid .fits) in
-        record { reply = sym (folded-full (length s) (insert c (entriesOf n s)) o); words-are = λ w. absurd (omega arith) }
+        record {
+          reply = sym (folded-full (length s) (insert c (entriesOf n s)) o);
+          words-are = λ w. absurd (omega arith);
+        }
 
 -- the words s hold the entries m, in form and ascending, and zeros after them
 pub record Sofar (words : ℕ) (m : List Change) (s : List ℕ) (kept : ℕ) : Type 0 where
@@ -183,7 +188,8 @@ module _ (words : ℕ) (base : List Change) (n : ℕ) (ws : List ℕ) (shown : S
       ≡ entriesOf n ws = take-all i (entriesOf n ws) (omega (arith, entries-length changeCode n ws)) in
       let g : Sofar words (foldOnto base (entriesOf n ws)) s kept = rw t at f in
       record {
-        reply = ap Keys (g .count) ∙ sym (folded-fits words (foldOnto base (entriesOf n ws)) (omega (arith, g .count, g .room)));
+        reply = ap Keys (g .count)
+            ∙ sym (folded-fits words (foldOnto base (entriesOf n ws)) (omega (arith, g .count, g .room)));
         words-are = λ _. g .words-are;
       }
 
@@ -194,7 +200,8 @@ module _ (words : ℕ) (base : List Change) (n : ℕ) (ws : List ℕ) (shown : S
 
     -- the entry at i is put, as the part of the words that it is
     module _ (r : Folded) (t : List ℕ)
-        (p : FoldIs (length s) (insert (changeCode .dec (take (i * width + width - i * width) (drop (i * width) ws))) (entriesOf kept s)) r t) where
+        (p : FoldIs (length s) (insert (changeCode .dec (take (i * width + width - i * width) (drop (i * width) ws)))
+        (entriesOf kept s)) r t) where
       put-next : FoldIs (length s) (insert (changeAt ws i) (entriesOf kept s)) r t
       put-next =
           let m : i * width + width - i * width ≡ width = omega arith in
@@ -202,13 +209,16 @@ module _ (words : ℕ) (base : List Change) (n : ℕ) (ws : List ℕ) (shown : S
 
       pub fold-turn : (k : ℕ) → r ≡ Keys k → Sofar words (foldOnto base (take (i + 1) (entriesOf n ws))) t k
       fold-turn k e = rw (onto-next base n i ws h)
-          (sofar-put words (foldOnto base (take i (entriesOf n ws))) s kept f (changeAt ws i) r t put-next next-formed k e)
+          (sofar-put words (foldOnto base (take i (entriesOf n ws))) s kept f (changeAt ws i)
+          r t put-next next-formed k e)
 
       pub fold-refused : (x : Refusal) → r ≡ Refused x → FoldIs words (foldOnto base (entriesOf n ws)) r t
       fold-refused x e =
-          let a = sofar-full words (foldOnto base (take i (entriesOf n ws))) s kept f (changeAt ws i) r t put-next x e in
+          let a = sofar-full words (foldOnto base (take i (entriesOf n ws))) s kept f (changeAt ws i)
+          r t put-next x e in
           let b = ap length (onto-next base n i ws h) in
-          let o : words < length (foldOnto base (entriesOf n ws)) * width = omega (arith, onto-part base (entriesOf n ws) (i + 1)) in
+          let o : words < length (foldOnto base (entriesOf n ws)) * width =
+          omega (arith, onto-part base (entriesOf n ws) (i + 1)) in
           record {
             reply = folded-over _ _ r x (put-next .reply) e
                 ∙ sym (folded-full words (foldOnto base (entriesOf n ws)) o);

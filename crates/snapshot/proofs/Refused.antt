@@ -15,11 +15,13 @@ pub fold-keeps : (entries out : List ℕ) (n k : ℕ) → foldCall entries out .
 unfolding foldCall
 fold-keeps entries out n k e =
     let s : List Change = fold (entriesIn entries) in
-    written-keeps (settle (first (guard 11 0 (not (sliceFormed entries && eqb (length out) snapshotWords)) ∷ foldGuards s)) s) out n k e
+    written-keeps (settle (first
+    (guard 11 0 (not (sliceFormed entries && eqb (length out) snapshotWords)) ∷ foldGuards s)) s) out n k e
 
 pub merge-keeps : (a : List ℕ) (i : ℕ) (b : List ℕ) (j : ℕ) (out : List ℕ) (n k : ℕ)
     → mergeCall a i b j out .answer ≡ refused n k → mergeCall a i b j out .output ≡ out
 unfolding mergeCall
 merge-keeps a i b j out n k e =
     let s : List Change = merge (entriesOf i a) (entriesOf j b) in
-    written-keeps (settle (first (guard 11 0 (not (snapshotFormed i a && (snapshotFormed j b && eqb (length out) snapshotWords))) ∷ foldGuards s)) s) out n k e
+    written-keeps (settle (first (guard 11 0 (not (snapshotFormed i a
+    && (snapshotFormed j b && eqb (length out) snapshotWords))) ∷ foldGuards s)) s) out n k e

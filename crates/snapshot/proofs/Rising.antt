@@ -1,6 +1,5 @@
 -- A walk over the first n entries that compares neighbours and keeps a flag: at i the flag and the order of the rest
--- are together
--- what is asked.
+-- are together what is asked.
 use Rattle.words.proofs.Prelude.{arith, _≡_, refl, sym, ap, _∙_, ℕ, zero, suc, _+_, _*_, _≤_, _<_, add-one, Bool, true}
 use Rattle.words.proofs.Prelude.{and-true, _&&_, ltb, ltb-true, List, [], _∷_, length-drop, length, drop, getD}
 use mathlib.Core.Bool.{and-assoc}
@@ -24,10 +23,12 @@ module _ (n : ℕ) (ws : List ℕ) (i : ℕ) (ok asked : Bool) (so : (ok && risi
   pub rising-end : n ≤ i + 1 → ok ≡ asked
   rising-end h =
       sym (and-true ok)
-      ∙ ap (λ (t : Bool). ok && t) (sym (short (drop i (entriesOf n ws)) (omega (arith, length-drop i (entriesOf n ws), entries-length changeCode n ws))))
+      ∙ ap (λ (t : Bool). ok && t) (sym (short (drop i (entriesOf n ws))
+      (omega (arith, length-drop i (entriesOf n ws), entries-length changeCode n ws))))
       ∙ so
 
-  pub rising-turn : i + 1 < n → (ok && ltb (getD ws (i * width) 0) (getD ws ((i + 1) * width) 0) && rising (drop (i + 1) (entriesOf n ws))) ≡ asked
+  pub rising-turn : i + 1 < n → (ok && ltb (getD ws (i * width) 0) (getD ws ((i + 1) * width) 0)
+      && rising (drop (i + 1) (entriesOf n ws))) ≡ asked
   rising-turn h =
       let e : Change = changeAt ws i in
       let f : Change = changeAt ws (i + 1) in
@@ -49,8 +50,10 @@ module _ (n : ℕ) (ws : List ℕ) (up : rising (entriesOf n ws) ≡ true) where
   turn i e h =
       let a : ℕ = getD ws (i * width) 0 in
       let b : ℕ = getD ws ((i + 1) * width) 0 in
-      let both = rising-turn n ws i true true e h in
-      (ltb-true a b (and-left (true && ltb a b) (rising (drop (i + 1) (entriesOf n ws))) both), and-right (true && ltb a b) (rising (drop (i + 1) (entriesOf n ws))) both)
+      let both = rising-turn n ws i true true e h in (
+        ltb-true a b (and-left (true && ltb a b) (rising (drop (i + 1) (entriesOf n ws))) both),
+        and-right (true && ltb a b) (rising (drop (i + 1) (entriesOf n ws))) both,
+      )
 
   from : (i : ℕ) → i < n → rising (drop i (entriesOf n ws)) ≡ true
   from zero h = up

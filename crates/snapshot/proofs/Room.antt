@@ -4,7 +4,8 @@ use Rattle.words.proofs.Prelude.{if_then_else_, List, [], _∷_, length}
 use Rattle.words.proofs.Tests.{Stand, below, same, above, stand, Reach, reached, short, reach}
 use Rattle.entry.specs.Change.{Change}
 use Rattle.snapshot.specs.Folds.{insert, foldOnto, merge, climbs, rising}
-use Rattle.snapshot.proofs.Folds.{insert-nil, insert-below, insert-same, insert-above, climbs-head, rising-climbs, tail-rises, onto-insert}
+use Rattle.snapshot.proofs.Folds.{insert-nil, insert-below, insert-same, insert-above, climbs-head}
+use Rattle.snapshot.proofs.Folds.{rising-climbs, tail-rises, onto-insert}
 use Rattle.snapshot.proofs.Searching.{insert-grows}
 
 -- the first part's keys stay
@@ -53,7 +54,8 @@ from-insert k c (e ∷ s) h = by (from-insert k c s h) (stand (c .key) (e .key))
   where
     by : suc (from (suc (c .key)) s) ≤ from k (insert c s) → Stand (c .key) (e .key)
         → suc (from (suc (c .key)) (e ∷ s)) ≤ from k (insert c (e ∷ s))
-    by ih (below x) = rw (insert-below c e s x) (omega (arith, from-more k c (e ∷ s) h, from-down k (suc (c .key)) (e ∷ s) (omega arith)))
+    by ih (below x) = rw (insert-below c e s x)
+        (omega (arith, from-more k c (e ∷ s) h, from-down k (suc (c .key)) (e ∷ s) (omega arith)))
     by ih (same x) =
         rw (insert-same c e s x) (omega (arith, from-more k c s h, from-same (suc (c .key)) e s (omega arith), from-down k (suc (c .key)) s (omega arith)))
     by ih (above x) = rw (insert-above c e s x) (last (reach k (e .key)))
@@ -73,7 +75,8 @@ onto-from k s (d ∷ t) up low =
     let c : climbs (d .key) t ≡ true = rising-climbs d t up in
     let q : foldOnto s (d ∷ t) ≡ insert d (foldOnto s t) = ap (foldOnto s) (sym (insert-first d t c))
     ∙ onto-insert d s t (tail-rises (d .key) t c) in
-    let n : length t ≤ from (suc (d .key)) (foldOnto s t) = onto-from (suc (d .key)) s t (tail-rises (d .key) t c) (above-head t c) in
+    let n : length t ≤ from (suc (d .key)) (foldOnto s t) =
+    onto-from (suc (d .key)) s t (tail-rises (d .key) t c) (above-head t c) in
     rw q (omega (arith, from-insert k d (foldOnto s t) (low d t refl)))
   where
     above-head : (t : List Change) → climbs (d .key) t ≡ true → (f : Change) (r : List Change) → t ≡ f ∷ r

@@ -86,7 +86,8 @@ pub pass-four : (n : ℕ) (ws : List ℕ) (k i : ℕ) → rising (entriesOf n ws
     → i + 4 ≤ n → getD ws ((i + 3) * width) 0 < k → Passed (entriesOf n ws) k (i + 4)
 pass-four n ws k i up p h l =
     let c : getD ws ((i + 1 + 1 + 1) * width) 0 < k = rw (three i) at l in
-    let b₂ : getD ws ((i + 1 + 1) * width) 0 < getD ws ((i + 1 + 1 + 1) * width) 0 = keys-climb n ws up (i + 1 + 1) (omega arith) in
+    let b₂ : getD ws ((i + 1 + 1) * width) 0 < getD ws ((i + 1 + 1 + 1) * width) 0 =
+    keys-climb n ws up (i + 1 + 1) (omega arith) in
     let b₁ : getD ws ((i + 1) * width) 0 < getD ws ((i + 1 + 1) * width) 0 = keys-climb n ws up (i + 1) (omega arith) in
     let b₀ : getD ws (i * width) 0 < getD ws ((i + 1) * width) 0 = keys-climb n ws up i (omega arith) in
     let p₁ = search-more n ws k i p (omega arith) (omega arith) in
@@ -154,13 +155,18 @@ insert-over c (d ∷ es) h = by (insert-over c es) (stand (c .key) (d .key))
         let p : rank (d ∷ es) (c .key) ≡ suc (rank es (c .key)) = rank-below d es (c .key) x in
         let i = ih (sym (here-below d es (c .key) x) ∙ h) in
         record {
-          spliced-is = rw (p, insert-above c d es x, suc-add (rank es (c .key)) 1) (ap (λ (l : List Change). d ∷ l) (i .spliced-is));
+          spliced-is = rw (p, insert-above c d es x, suc-add (rank es (c .key)) 1)
+              (ap (λ (l : List Change). d ∷ l) (i .spliced-is));
           length-is = rw (insert-above c d es x) (omega (arith, i .length-is));
           inside = rw p (omega (arith, i .inside));
         }
 
 pub insert-into : (c : Change) (es : List Change) → here es (c .key) ≡ false → Put c es 0
-insert-into c [] h = record { spliced-is = unfold rank insert in refl; length-is = unfold insert in omega arith; inside = unfold rank in omega arith }
+insert-into c [] h = record {
+  spliced-is = unfold rank insert in refl;
+  length-is = unfold insert in omega arith;
+  inside = unfold rank in omega arith;
+}
 insert-into c (d ∷ es) h = by (insert-into c es) (stand (c .key) (d .key))
   where
     by : (here es (c .key) ≡ false → Put c es 0) → Stand (c .key) (d .key) → Put c (d ∷ es) 0
@@ -180,7 +186,8 @@ insert-into c (d ∷ es) h = by (insert-into c es) (stand (c .key) (d .key))
         let p : rank (d ∷ es) (c .key) ≡ suc (rank es (c .key)) = rank-below d es (c .key) x in
         let i = ih (sym (here-below d es (c .key) x) ∙ h) in
         record {
-          spliced-is = rw (p, insert-above c d es x, suc-add (rank es (c .key)) 0) (ap (λ (l : List Change). d ∷ l) (i .spliced-is));
+          spliced-is = rw (p, insert-above c d es x, suc-add (rank es (c .key)) 0)
+              (ap (λ (l : List Change). d ∷ l) (i .spliced-is));
           length-is = rw (insert-above c d es x) (omega (arith, i .length-is));
           inside = rw p (omega (arith, i .inside));
         }

@@ -1,6 +1,5 @@
 -- A chain of calls on lent words is a chain of the model's calls: each leaves a well-formed state that stands for the
--- log after the
--- model's call. And with that demand 3's last sentence, for the calls on lent words from a fresh state.
+-- log after the model's call. And with that demand 3's last sentence, for the calls on lent words from a fresh state.
 use Rattle.words.proofs.Prelude.{_≡_, refl, sym, ap, _∙_, ℕ, _≤_, Bool, true, false, List, [], _∷_, take}
 use Rattle.entry.specs.{Limits.largestBatch, Change.Change}
 use Rattle.snapshot.specs.Folds.{fold}
@@ -26,17 +25,25 @@ pub runs-told : (qs : List Asked) (r : Raw) (h : List Change) → formed r ≡ t
 unfolding runs events told
 runs-told [] r h ok = refl
 runs-told (a ∷ qs) r h ok = step (a .whole)
-    (λ (whole : Bool) (h′ : List Change). runs-told qs (run (a .call) whole r .after) h′ (run-keeps (a .call) r ok whole))
+    (λ (whole : Bool) (h′ : List Change). runs-told qs (run (a .call) whole r .after) h′
+    (run-keeps (a .call) r ok whole))
   where
     step : (whole : Bool)
-        → ((whole : Bool) (h′ : List Change) → logOf (runs qs (run (a .call) whole r .after)) ≡ told (events qs) (record { log = logOf (run (a .call) whole r .after); history = h′ }) .log)
+        → ((whole : Bool) (h′ : List Change) → logOf (runs qs (run (a .call) whole r .after))
+        ≡ told (events qs) (record { log = logOf (run (a .call) whole r .after); history = h′ }) .log)
         → logOf (runs qs (run (a .call) whole r .after))
         ≡ told (eventsOf whole (a .call) (a .behind) (events qs)) (record { log = logOf r; history = h }) .log
     step true ih =
         ih true _
-        ∙ ap (λ (s : Log). told (events qs) (record { log = s; history = next (record { call = a .call; behind = a .behind }) (record { log = logOf r; history = h }) .history }) .log) (run-stands (a .call) r ok)
+        ∙ ap (λ (s : Log). told (events qs) (record {
+          log = s;
+          history = next
+              (record { call = a .call; behind = a .behind }) (record { log = logOf r; history = h }) .history;
+        }) .log)
+        (run-stands (a .call) r ok)
         ∙ (unfold next in refl)
-    step false ih = ih false h ∙ ap (λ (x : Raw). told (events qs) (record { log = logOf x; history = h }) .log) (left (a .call) r ok)
+    step false ih = ih false h
+        ∙ ap (λ (x : Raw). told (events qs) (record { log = logOf x; history = h }) .log) (left (a .call) r ok)
 
 -- a fresh state stands for a fresh log
 runs-fresh : (n : ℕ) → n ≤ largestBatch → (qs : List Asked)
@@ -44,7 +51,8 @@ runs-fresh : (n : ℕ) → n ≤ largestBatch → (qs : List Asked)
 unfolding fresh
 runs-fresh n h qs =
     runs-told qs (rawOf (freshLog n)) [] (raw-formed (freshLog n) (fresh-formed n h))
-    ∙ ap (λ (s : Log). told (events qs) (record { log = s; history = [] }) .log) (log-of-raw (freshLog n) (fresh-formed n h))
+    ∙ ap (λ (s : Log). told (events qs) (record { log = s; history = [] }) .log)
+    (log-of-raw (freshLog n) (fresh-formed n h))
 
 -- so no state reached from a fresh one by these calls is refused with 12
 pub runs-formed : (n : ℕ) → n ≤ largestBatch → (qs : List Asked) → formed (runs qs (rawOf (freshLog n))) ≡ true
@@ -57,4 +65,5 @@ pub history-real : (n : ℕ) → n ≤ largestBatch → (qs : List Asked) → Al
     → i ≤ endOf (numbersOf (logOf (runs qs (rawOf (freshLog n)))))
     → foldedTo i (logOf (runs qs (rawOf (freshLog n))) .run) ≡ fold (take i (told (events qs) (fresh n) .history))
 history-real n h qs honest i low high =
-    rw (runs-fresh n h qs) (history-kept n h (events qs) honest i (rw (runs-fresh n h qs) at low) (rw (runs-fresh n h qs) at high))
+    rw (runs-fresh n h qs) (history-kept n h (events qs) honest i (rw (runs-fresh n h qs) at low)
+    (rw (runs-fresh n h qs) at high))

@@ -43,18 +43,21 @@ module _ (s : Log) (r : Raw) (st : Stands s r) (w : wellFormed s ≡ true) where
 
   -- whole entries cut and put in
   pub log-spliced : (at cut : ℕ) (new : List ℕ) (ns : List Change) → new ≡ wordsOf changeCode ns
-      → laid (length (r .log)) (spliced (at * width) (cut * width) new (take ((r .index .retained + r .index .batched) * width) (r .log)))
+      → laid (length (r .log)) (spliced (at * width)
+      (cut * width) new (take ((r .index .retained + r .index .batched) * width) (r .log)))
       ≡ stored logWords (spliced at cut ns held)
   log-spliced at cut new ns e =
       spliced-laid changeCode changeOk (r .index .retained + r .index .batched) at cut (r .log) new ns
       (omega (arith, log-long, held-fits, held-length)) e
-      ∙ ap (λ (n : ℕ). stored n (spliced at cut ns (entriesOf (r .index .retained + r .index .batched) (r .log)))) log-long
+      ∙ ap (λ (n : ℕ). stored n
+      (spliced at cut ns (entriesOf (r .index .retained + r .index .batched) (r .log)))) log-long
       ∙ ap (λ (es : List Change). stored logWords (spliced at cut ns es)) log-entries
 
   -- the batch cut off
   pub reload-stands : (words : List ℕ)
       → words ≡ laid (length (r .log))
-      (spliced (r .index .retained * width) (r .index .batched * width) [] (take ((r .index .retained + r .index .batched) * width) (r .log)))
+      (spliced (r .index .retained * width)
+      (r .index .batched * width) [] (take ((r .index .retained + r .index .batched) * width) (r .log)))
       → Stands (reloaded s) (raw (withEntries (r .index .retained) 0 (r .index)) words (r .snapshot))
   unfolding reloaded
   reload-stands words e = record {
@@ -62,14 +65,17 @@ module _ (s : Log) (r : Raw) (st : Stands s r) (w : wellFormed s ≡ true) where
     tail = record { count = refl; sized = st .tail .sized; stopped = st .tail .stopped; sign = st .tail .sign };
     marks = st .marks;
     log =
-        ap (stored logWords) (append-nil (s .run .retained) ∙ sym (spliced-reload (s .run .retained) (s .tail .batched)))
-        ∙ rw (st .run .count, st .tail .count) (sym (e ∙ log-spliced (r .index .retained) (r .index .batched) [] [] (unfold wordsOf in refl)));
+        ap (stored logWords) (append-nil (s .run .retained)
+        ∙ sym (spliced-reload (s .run .retained) (s .tail .batched)))
+        ∙ rw (st .run .count, st .tail .count)
+        (sym (e ∙ log-spliced (r .index .retained) (r .index .batched) [] [] (unfold wordsOf in refl)));
     snapshot = st .snapshot;
   }
 
 pub reload-runs : (r : Raw) → formed r ≡ true → (words : List ℕ)
     → words ≡ laid (length (r .log))
-    (spliced (r .index .retained * width) (r .index .batched * width) [] (take ((r .index .retained + r .index .batched) * width) (r .log)))
+    (spliced (r .index .retained * width)
+    (r .index .batched * width) [] (take ((r .index .retained + r .index .batched) * width) (r .log)))
     → (y : ℕ) → y ≡ acceptedOf (numbersIn (withEntries (r .index .retained) 0 (r .index)))
     → outcome (replied y) (raw (withEntries (r .index .retained) 0 (r .index)) words (r .snapshot)) ≡ run reload true r
 unfolding malformed further effect replyOf first
@@ -102,8 +108,10 @@ module _ (n : ℕ) (log snapshot : List ℕ) where
       let l : log′ ≡ replicate logWords 0 = p ∙ cleared log
       ∙ ap (λ (k : ℕ). replicate k 0) (eqb-true (length log) logWords (and-left _ _ e₂)) in
       let m : snapshot′ ≡ replicate snapshotWords 0 = q ∙ cleared snapshot
-      ∙ ap (λ (k : ℕ). replicate k 0) (eqb-true (length snapshot) snapshotWords (and-right (eqb (length log) logWords) _ e₂)) in
-      rw e (ap₂ (λ (a b : List ℕ). outcome (replied tt) (raw (indexOf (freshLog n)) a b)) l m ∙ ap (outcome (replied tt)) (sym (zeros-fresh n)))
+      ∙ ap (λ (k : ℕ). replicate k 0)
+      (eqb-true (length snapshot) snapshotWords (and-right (eqb (length log) logWords) _ e₂)) in
+      rw e (ap₂ (λ (a b : List ℕ). outcome (replied tt) (raw (indexOf (freshLog n)) a b)) l m
+      ∙ ap (outcome (replied tt)) (sym (zeros-fresh n)))
     where
       cleared : (ws : List ℕ) → paste ws 0 (replicate (length ws - 0) 0) (length ws - 0) ≡ replicate (length ws) 0
       cleared ws =

@@ -49,7 +49,8 @@ fresh-keeps size log snapshot n k =
     go (leb size largestBatch && (eqb (length log) logWords && eqb (length snapshot) snapshotWords))
   where
     by : Bool → Outcome (Unit {0})
-    by t = if t then outcome (replied tt) (rawOf (freshLog size)) else outcome (refused 11 0) (raw (indexOf (freshLog 0)) log snapshot)
+    by t = if t then outcome (replied tt) (rawOf (freshLog size)) else outcome (refused 11 0)
+        (raw (indexOf (freshLog 0)) log snapshot)
 
     go : (t : Bool) → by t .answer ≡ refused n k → (by t .after .log ≡ log) × (by t .after .snapshot ≡ snapshot)
     go true e = let z : _≡_ {A = ℕ} 0 1 = cc in absurd (omega arith)

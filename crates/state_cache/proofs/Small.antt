@@ -31,7 +31,11 @@ small-of n e =
 
 pub sound-small : (n : Numbers) → Sound n → Small n
 unfolding acceptedOf endOf
-sound-small n f = record { few = omega (arith, f .room); waiting = omega (arith, f .room); low = omega (arith, f .low, f .high, f .inside) }
+sound-small n f = record {
+  few = omega (arith, f .room);
+  waiting = omega (arith, f .room);
+  low = omega (arith, f .low, f .high, f .inside);
+}
 
 pub sizes-fail : (n : Numbers) → sizesFormed n ≡ false → numbersFormed n ≡ false
 unfolding sizesFormed
@@ -40,7 +44,9 @@ sizes-fail n e = go (numbersFormed n) refl
     go : (t : Bool) → numbersFormed n ≡ t → t ≡ false
     go true q =
         let s = sound-small n (sound-of n q) in
-        absurd (true≢false (sym (both-true (leb (n .retained) entryRoom) _ (le-leb (n .retained) entryRoom (s .few)) (both-true (leb (n .batched) entryRoom) _ (le-leb (n .batched) entryRoom (s .waiting)) (le-leb (n .compacted) lastIndex (s .low)))) ∙ e))
+        absurd (true≢false (sym (both-true (leb (n .retained) entryRoom) _ (le-leb (n .retained) entryRoom (s .few))
+        (both-true (leb (n .batched) entryRoom) _ (le-leb (n .batched) entryRoom (s .waiting))
+        (le-leb (n .compacted) lastIndex (s .low)))) ∙ e))
     go false q = refl
 
 -- a sum against the largest index, by what is left below it

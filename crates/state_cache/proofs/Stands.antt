@@ -111,7 +111,8 @@ snapshot-tests x ws = go (x .«snapshot_held») (eqb (x .keys) 0) refl
         ≡ (snapshotFormed (x .keys) ws && (h || k))
     go true k e = kept (snapshotFormed (x .keys) ws)
     go false true e =
-        none-formed ws ∙ sym (ap (λ (n : ℕ). snapshotFormed n ws && true) (eqb-true (x .keys) 0 e) ∙ and-true (snapshotFormed 0 ws))
+        none-formed ws ∙ sym (ap (λ (n : ℕ). snapshotFormed n ws && true) (eqb-true (x .keys) 0 e)
+        ∙ and-true (snapshotFormed 0 ws))
     go false false e = sym (none (snapshotFormed (x .keys) ws))
 
 facts-of : (r : Raw) → formed r ≡ true → Facts r
@@ -159,7 +160,9 @@ sign-blank g e =
   where
     fields : (a b : ℕ) (n : List ℕ) (h : Bool) (l : ℕ) (m : List ℕ) → a ≡ 0 → b ≡ 0 → n ≡ replicate mostNodes 0
         → h ≡ false → l ≡ 0 → m ≡ replicate mostMetadata 0
-        → _≡_ {A = StopSign} (record { «config_id» = a; «node_count» = b; nodes = n; «metadata_held» = h; «metadata_len» = l; metadata = m }) noSign
+        → _≡_ {A = StopSign} (record
+        { «config_id» = a; «node_count» = b; nodes = n; «metadata_held» = h; «metadata_len» = l; metadata = m })
+        noSign
     fields a b n h l m p q s t u v = rw (p, q, s, t, u, v)
 
 -- what is held by a flag
@@ -204,14 +207,16 @@ module _ (r : Raw) (ok : formed r ≡ true) where
       snapshot-keys = ap length snapshot-is ∙ entries-length changeCode (r .index .keys) (r .snapshot);
     };
     tail = record {
-      count = unfold logOf in entries-length changeCode (r .index .batched) (drop (r .index .retained * width) (r .log));
+      count = unfold logOf in entries-length changeCode (r .index .batched)
+          (drop (r .index .retained * width) (r .log));
       sized = unfold logOf in refl;
       stopped = unfold logOf in given-by (r .index .«stop_held») (r .index .stop);
       sign = unfold logOf in stop-by (r .index .«stop_held») (r .index .stop) (unfold signHeld in f .sign);
     };
     marks = record { index = unfold logOf in refl; promised = unfold logOf in refl; rounded = unfold logOf in refl };
     log = rw entries-are (sym (laid-stored logWords (r .index .retained + r .index .batched) (r .log) (f .ready .log)));
-    snapshot = rw snapshot-is (sym (laid-stored snapshotWords (r .index .keys) (r .snapshot) (f .ready .snapshot .laid)));
+    snapshot = rw snapshot-is
+        (sym (laid-stored snapshotWords (r .index .keys) (r .snapshot) (f .ready .snapshot .laid)));
   }
 
   pub raw-is : rawOf (logOf r) ≡ r
@@ -220,12 +225,14 @@ module _ (r : Raw) (ok : formed r ≡ true) where
 -- its numbers are the log's
 pub numbers-are : (t : Log) (x : Raw) → Stands t x → numbersOf t ≡ numbersIn (x .index)
 numbers-are t x s =
-    fields _ _ _ _ _ _ (s .run .start) (s .marks .index) (s .run .count) (s .tail .count) (s .tail .sized) (s .tail .stopped)
+    fields _ _ _ _ _ _ (s .run .start) (s .marks .index) (s .run .count) (s .tail .count) (s .tail .sized)
+    (s .tail .stopped)
   where
     fields : (a b c d e : ℕ) (f : Bool) → a ≡ x .index .compacted .0 → b ≡ x .index .decided .0 → c ≡ x .index .retained
         → d ≡ x .index .batched
         → e ≡ x .index .«batch_size» → f ≡ x .index .«stop_held»
-        → _≡_ {A = Numbers} (record { compacted = a; decided = b; retained = c; batched = d; size = e; stop = f }) (numbersIn (x .index))
+        → _≡_ {A = Numbers} (record { compacted = a; decided = b; retained = c; batched = d; size = e; stop = f })
+        (numbersIn (x .index))
     fields a b c d e f p q u v w z = rw (p, q, u, v, w, z)
 
 -- ---- the log of a well-formed state is well formed
@@ -248,7 +255,8 @@ snapshot-of : (r : Raw) → Ready r → keysFormed (entriesOf (r .index .keys) (
 unfolding keysFormed
 snapshot-of r g =
     let t : List Change = entriesOf (r .index .keys) (r .snapshot) in
-    let few : length t ≤ keyRoom = omega (arith, entries-length changeCode (r .index .keys) (r .snapshot), g .snapshot .laid .fits) in
+    let few : length t ≤ keyRoom =
+    omega (arith, entries-length changeCode (r .index .keys) (r .snapshot), g .snapshot .laid .fits) in
     both-true (rising t) _ (g .snapshot .rises)
     (both-true (leb (length t) keyRoom) (entriesFormed t) (le-leb (length t) keyRoom few) (g .snapshot .laid .fine))
 
@@ -257,7 +265,8 @@ log-formed r ok = of-formed (logOf r) (record {
   numbers = rw (numbers-are (logOf r) r (stands-of r ok)) (g .ready .numbers);
   entries = all-left changeFormed (logOf r .run .retained) (logOf r .tail .batched) all;
   batch = all-right changeFormed (logOf r .run .retained) (logOf r .tail .batched) all;
-  snapshot = unfold logOf in snapshot-formed-by (r .index .«snapshot_held») (entriesOf (r .index .keys) (r .snapshot)) (snapshot-of r (g .ready));
+  snapshot = unfold logOf in snapshot-formed-by (r .index .«snapshot_held») (entriesOf (r .index .keys) (r .snapshot))
+      (snapshot-of r (g .ready));
   stop = unfold logOf in sign-formed-by (r .index .«stop_held») (r .index .stop) (unfold signHeld in g .sign);
 })
   where
@@ -320,15 +329,18 @@ module _ (s : Log) (w : wellFormed s ≡ true) where
       ≡ length (s .run .retained) + length (s .tail .batched) =
       length-append (s .run .retained) (s .tail .batched) in
       rw (← n)
-      (stored-laid logWords (s .run .retained ++ s .tail .batched) (omega (arith, h .numbers .room)) (all-join changeFormed (s .run .retained) (s .tail .batched) (h .entries) (h .batch)))
+      (stored-laid logWords (s .run .retained ++ s .tail .batched) (omega (arith, h .numbers .room))
+      (all-join changeFormed (s .run .retained) (s .tail .batched) (h .entries) (h .batch)))
 
   pub raw-formed : formed (rawOf s) ≡ true
   unfolding formed rawOf indexOf signHeld wellFormed
   raw-formed =
       both-true (numbersFormed (numbersOf s)) _ (and-left (numbersFormed (numbersOf s)) _ w)
-      (both-true ((given (s .tail .sign) && signFormed (signOr (s .tail .sign))) || (not (given (s .tail .sign)) && signBlank (signOr (s .tail .sign)))) _
+      (both-true ((given (s .tail .sign) && signFormed (signOr (s .tail .sign)))
+      || (not (given (s .tail .sign)) && signBlank (signOr (s .tail .sign)))) _
       (sign-held (s .tail .sign) (h .stop))
-      (both-true (storedIn logWords (length (s .run .retained) + length (s .tail .batched)) (stored logWords (s .run .retained ++ s .tail .batched))) _ log-stored
+      (both-true (storedIn logWords (length (s .run .retained) + length (s .tail .batched))
+      (stored logWords (s .run .retained ++ s .tail .batched))) _ log-stored
       (snapshot-tests (indexOf s) (stored snapshotWords (orEmpty (s .run .held)))
       ∙ both-true (snapshotFormed (length (orEmpty (s .run .held))) (stored snapshotWords (orEmpty (s .run .held)))) _
       (snapshot-stored (orEmpty (s .run .held)) (snapshot .few) (snapshot .fine) (snapshot .rises))
@@ -346,7 +358,8 @@ module _ (s : Log) (w : wellFormed s ≡ true) where
           ≡ s .tail .batched
       batched = entries-second changeCode changeOk logWords (s .run .retained) (s .tail .batched) (h .batch)
 
-      held : (if given (s .run .held) then some (entriesOf (length (orEmpty (s .run .held))) (stored snapshotWords (orEmpty (s .run .held)))) else none) ≡ s .run .held
+      held : (if given (s .run .held) then some (entriesOf (length (orEmpty (s .run .held)))
+          (stored snapshotWords (orEmpty (s .run .held)))) else none) ≡ s .run .held
       held = held-again (s .run .held) _ (stored-entries snapshotWords (orEmpty (s .run .held)) (snapshot .fine))
 
       fields : (a b : List Change) (k : Option (List Change)) (g : Option StopSign) → a ≡ s .run .retained

@@ -39,7 +39,8 @@ snapshot-formed k n ws h = go k h
     fine l =
         unfold keysFormed in
         both-true (rising (entriesOf n ws)) _ (l .rises)
-        (both-true (leb (length (entriesOf n ws)) keyRoom) (entriesFormed (entriesOf n ws)) (le-leb (length (entriesOf n ws)) keyRoom (omega (arith, entries-length changeCode n ws, l .laid .fits))) (l .laid .fine))
+        (both-true (leb (length (entriesOf n ws)) keyRoom) (entriesFormed (entriesOf n ws)) (le-leb (length
+        (entriesOf n ws)) keyRoom (omega (arith, entries-length changeCode n ws, l .laid .fits))) (l .laid .fine))
 
     go : (k : SnapshotType) → (plainBy k ≡ false → Holds snapshotWords n ws)
         → ifGiven keysFormed (snapshotIn (givenBy k (entriesOf n ws))) ≡ true
@@ -69,12 +70,18 @@ module _ (r : Raw) (ok : formed r ≡ true) (b : Ballot) (d : ℕ) where
   same-accepted = refl
 
   pub round-run : (a : Answer ℕ) (y : IndexRecord)
-      → indexed a y ≡ byNumbers (first (roundGuards d (numbersIn (r .index)))) (acceptedOf (numbersIn (r .index))) (marked b d (r .index)) (r .index)
+      → indexed a y ≡ byNumbers (first (roundGuards d (numbersIn (r .index)))) (acceptedOf (numbersIn (r .index)))
+      (marked b d (r .index)) (r .index)
       → outcome a (raw y (r .log) (r .snapshot)) ≡ run (sync b d none) true r
   unfolding malformed further syncGuards synced effect replyOf
   round-run a y e =
-      numbers-run r ok (sync b d none) (roundGuards d) refl refl (acceptedOf (numbersIn (r .index))) (marked b d (r .index))
-      (λ q. (same-accepted ∙ ap acceptedOf (sym (numbers-are (effect (sync b d none) s) (raw (marked b d (r .index)) (r .log) (r .snapshot)) marked-stands)), marked-stands)) a y e
+      numbers-run r ok (sync b d none) (roundGuards d) refl refl (acceptedOf (numbersIn (r .index)))
+      (marked b d (r .index))
+      (λ q. (
+        same-accepted ∙ ap acceptedOf (sym (numbers-are (effect (sync b d none) s)
+            (raw (marked b d (r .index)) (r .log) (r .snapshot)) marked-stands)),
+        marked-stands,
+      )) a y e
 
 module _ (r : Raw) (ok : formed r ≡ true) (x : LogSync) (incoming suffix : List ℕ) (b : Ballot) (d : ℕ) where
   abbrev callOf : Bool → Call
@@ -92,7 +99,8 @@ module _ (r : Raw) (ok : formed r ≡ true) (x : LogSync) (incoming suffix : Lis
   bad true e =
       let q : (entriesFormed (entriesIn suffix) && ifGiven signFormed (asked (x .«stop_held») (x .stopsign)))
       ≡ false = rw (sign-is (x .«stop_held») (x .stopsign)) e in
-      rw q (ap not (and-none (ifGiven keysFormed (snapshotIn (givenBy (x .«decided_snapshot») (entriesOf (x .keys) incoming))))))
+      rw q (ap not
+      (and-none (ifGiven keysFormed (snapshotIn (givenBy (x .«decided_snapshot») (entriesOf (x .keys) incoming))))))
   bad false e = absurd (true≢false e)
 
   pub ask-refused : (held : Bool) → requestFormed held x incoming suffix ≡ false
@@ -118,13 +126,15 @@ module _ (r : Raw) (ok : formed r ≡ true) (x : LogSync) (incoming suffix : Lis
   ask-syncs e =
       let q = and-right (eqb (length incoming) snapshotWords) _ (whole-is true e) in
       let lent : plainBy (x .«decided_snapshot») ≡ false → Holds snapshotWords (x .keys) incoming =
-      λ (p : plainBy (x .«decided_snapshot») ≡ false). snapshot-holds (x .keys) incoming (rw p at (and-right (wholeIn suffix) _ q)) in
+      λ (p : plainBy (x .«decided_snapshot») ≡ false). snapshot-holds (x .keys) incoming
+      (rw p at (and-right (wholeIn suffix) _ q)) in
       record {
         ready = ready-of r ok;
         whole = and-left (wholeIn suffix) _ q;
         lent = lent;
         fine =
-            both-true (ifGiven keysFormed (snapshotIn (givenBy (x .«decided_snapshot») (entriesOf (x .keys) incoming)))) _
+            both-true (ifGiven keysFormed
+            (snapshotIn (givenBy (x .«decided_snapshot») (entriesOf (x .keys) incoming)))) _
             (snapshot-formed (x .«decided_snapshot») (x .keys) incoming lent)
             (rw (sign-is (x .«stop_held») (x .stopsign)) (rest-is true e));
       }
@@ -132,7 +142,8 @@ module _ (r : Raw) (ok : formed r ≡ true) (x : LogSync) (incoming suffix : Lis
   -- what follows, with the flag as it is known
   pub ask-round : (held : Bool) → held ≡ false → requestFormed false x incoming suffix ≡ true
       → (a : Answer ℕ) (y : IndexRecord)
-      → indexed a y ≡ byNumbers (first (roundGuards d (numbersIn (r .index)))) (acceptedOf (numbersIn (r .index))) (marked b d (r .index)) (r .index)
+      → indexed a y ≡ byNumbers (first (roundGuards d (numbersIn (r .index)))) (acceptedOf (numbersIn (r .index)))
+      (marked b d (r .index)) (r .index)
       → outcome a (raw y (r .log) (r .snapshot)) ≡ run (callOf held) (wholeOf held) r
   ask-round held h e a y q = rw (h, whole-is false e) (round-run r ok b d a y q)
 

@@ -37,7 +37,8 @@ kept-few idx n plain p kept q e h = go p e (rw q h)
   where
     go : (t : Bool) → kept ≡ (if t then idx - n .compacted else 0)
         → (t && (ltb idx (n .compacted) || ltb (endOf n) idx)) ≡ false → kept ≤ n .retained
-    go true e h = unfold endOf in omega (arith, e, ltb-false (n .compacted + n .retained) idx (or-right (ltb idx (n .compacted)) _ h))
+    go true e h = unfold endOf in
+        omega (arith, e, ltb-false (n .compacted + n .retained) idx (or-right (ltb idx (n .compacted)) _ h))
     go false e h = omega (arith, e)
 
 module _ (idx count kept : ℕ) (plain p : Bool) (n : Numbers) (f : Sound n) (e : p ≡ plain)
@@ -53,7 +54,8 @@ module _ (idx count kept : ℕ) (plain p : Bool) (n : Numbers) (f : Sound n) (e 
       → ltb entryRoom ((if plain then idx - n .compacted else 0) + count + n .batched) ≡ false
   room h = rw (← kept-is) (le-ltb entryRoom (kept + count + n .batched) (omega (arith, f .room)))
 
-module _ (idx count d one next : ℕ) (stop : Bool) (n : Numbers) (e : one ≡ oneIf stop) (q : next ≡ max d (n .decided)) where
+module _ (idx count d one next : ℕ) (stop : Bool) (n : Numbers) (e : one ≡ oneIf stop)
+    (q : next ≡ max d (n .decided)) where
   pub above-accepted : idx + count + one < next → ltb (idx + count + oneIf stop) (max d (n .decided)) ≡ true
   above-accepted h = lt-ltb (idx + count + oneIf stop) (max d (n .decided)) (omega (arith, e, q))
 
@@ -61,7 +63,8 @@ module _ (idx count d one next : ℕ) (stop : Bool) (n : Numbers) (e : one ≡ o
   not-above h = le-ltb (idx + count + oneIf stop) (max d (n .decided)) (omega (arith, e, q))
 
 -- without log part: 6, or the marks
-module _ (b : Ballot) (d last : ℕ) (x y : IndexRecord) (l : last ≡ acceptedOf (numbersIn x)) (m : y ≡ marked b d x) where
+module _ (b : Ballot) (d last : ℕ) (x y : IndexRecord) (l : last ≡ acceptedOf (numbersIn x))
+    (m : y ≡ marked b d x) where
   abbrev told : Indexed ℕ
   told = byNumbers (first (roundGuards d (numbersIn x))) (acceptedOf (numbersIn x)) (marked b d x) x
 

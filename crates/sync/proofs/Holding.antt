@@ -27,7 +27,8 @@ held-shows n ws h = record { inside = omega (arith, h .laid .fits, h .laid .long
 module _ (kind : SnapshotType) (r : Raw) (g : Ready r) (keys : ℕ) (incoming : List ℕ) where
   abbrev told : Outcome
   told =
-      foldWritten (snapshotThen kind (entriesOf (r .index .keys) (r .snapshot)) (entriesOf (logDecided (numbersIn (r .index)) - r .index .compacted .0) (r .log)) (entriesOf keys incoming)) (r .snapshot)
+      foldWritten (snapshotThen kind (entriesOf (r .index .keys) (r .snapshot)) (entriesOf (logDecided
+      (numbersIn (r .index)) - r .index .compacted .0) (r .log)) (entriesOf keys incoming)) (r .snapshot)
 
   pub hold-plain : kind ≡ Plain → snapshotOutcome (replied (r .index .keys)) (r .snapshot) ≡ told
   hold-plain e = rw e (held-written (r .index .keys) (r .snapshot) (r .snapshot) (g .snapshot))
@@ -37,5 +38,6 @@ module _ (kind : SnapshotType) (r : Raw) (g : Ready r) (keys : ℕ) (incoming : 
   hold-complete e h exit q = rw (e, q) (held-written keys incoming (r .snapshot) h)
 
   pub hold-delta : kind ≡ Delta → (last : ℕ) → last ≡ logDecided (numbersIn (r .index))
-      → foldWritten (foldOnto (foldOnto (entriesOf (r .index .keys) (r .snapshot)) (entriesOf (last - r .index .compacted .0) (r .log))) (entriesOf keys incoming)) (r .snapshot) ≡ told
+      → foldWritten (foldOnto (foldOnto (entriesOf (r .index .keys) (r .snapshot))
+      (entriesOf (last - r .index .compacted .0) (r .log))) (entriesOf keys incoming)) (r .snapshot) ≡ told
   hold-delta e last l = rw (e, l)

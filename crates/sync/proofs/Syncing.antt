@@ -18,7 +18,8 @@ use Rattle.snapshot.specs.{declared.Folded.the-variants.Keys, declared.Folded.t
 use Rattle.snapshot.proofs.Calling.{wrote-nothing, wrote-keys}
 use Rattle.model.specs.Numbers.{Numbers, acceptedOf, logDecided}
 use Rattle.model.specs.Log.{Log, given, orEmpty, foldedTo}
-use Rattle.model.specs.Sync.{Part, PartNumbers, partNumbers, plain?, partNumberGuards, partGuards, foldThen, deltaOnto, runThen, partSynced}
+use Rattle.model.specs.Sync.{Part, PartNumbers, partNumbers, plain?, partNumberGuards, partGuards, foldThen, deltaOnto}
+use Rattle.model.specs.Sync.{runThen, partSynced}
 use Rattle.model.specs.Calls.{Call, sync, malformed, further, syncGuards, synced, effect, replyOf}
 use Rattle.state_cache.specs.{State.Raw, State.raw, State.numbersIn, State.formed, State.logOf, Inner.Small}
 use Rattle.state_cache.specs.{Run.outcome, Run.run, declared.IndexRecord.IndexRecord}
@@ -72,7 +73,8 @@ module _ (r : Raw) (x : LogSync) (incoming suffix : List ℕ) (w : Syncs r x inc
   -- ---- refusals
 
   asks : partNumbers (partBy x incoming suffix) ≡ numbersBy x n
-  asks = fields _ _ _ (plain-by kind (entriesOf (x .keys) incoming)) (entries-length changeCode n suffix) (given-by (x .«stop_held») (x .stopsign))
+  asks = fields _ _ _ (plain-by kind (entriesOf (x .keys) incoming)) (entries-length changeCode n suffix)
+      (given-by (x .«stop_held») (x .stopsign))
     where
       fields : (t : Bool) (k : ℕ) (g : Bool) → t ≡ plainBy kind → k ≡ n → g ≡ x .«stop_held»
           → _≡_ {A = PartNumbers} (record { idx = x .«sync_idx» .0; plain = t; count = k; stop = g }) (numbersBy x n)
@@ -100,7 +102,8 @@ module _ (r : Raw) (x : LogSync) (incoming suffix : List ℕ) (w : Syncs r x inc
     unfolding partNumberGuards
     fits = record {
       up = omega (arith, w .ready .numbers .low, ltb-false (x .«sync_idx» .0) (r .index .decided .0) (clr 5));
-      few = kept-few (x .«sync_idx» .0) (numbersIn (r .index)) (plainBy kind) (plainBy kind) (keptBy x n (r .index)) refl refl (clr 7);
+      few = kept-few (x .«sync_idx» .0) (numbersIn (r .index)) (plainBy kind) (plainBy kind)
+          (keptBy x n (r .index)) refl refl (clr 7);
       room = ltb-false entryRoom (keptBy x n (r .index) + n + r .index .batched) (clr 1);
       laid-out = w .ready .log;
       whole = omega (arith, eqb-true (length suffix % width) 0 (w .whole));
@@ -119,7 +122,11 @@ module _ (r : Raw) (x : LogSync) (incoming suffix : List ℕ) (w : Syncs r x inc
         })
       where
         high : x .«sync_idx» .0 ≤ lastIndex
-        high = omega (arith, ltb-false lastIndex (x .«sync_idx» .0 + n + (if x .«stop_held» then 1 else 0) + r .index .batched) (clr 9))
+        high = omega (
+          arith,
+          ltb-false lastIndex
+              (x .«sync_idx» .0 + n + (if x .«stop_held» then 1 else 0) + r .index .batched) (clr 9),
+        )
 
         low : (t : Bool) → (if t then r .index .compacted else x .«sync_idx») .0 ≤ lastIndex
         low true = omega (arith, fits .up, high)
@@ -141,10 +148,12 @@ module _ (r : Raw) (x : LogSync) (incoming suffix : List ℕ) (w : Syncs r x inc
     delta-is =
         let last : ℕ = logDecided (numbersIn (r .index)) in
         ap (λ (t : List Change). foldOnto t lent)
-        (ap (λ (m : Numbers). foldedTo (logDecided m) (s .run)) (numbers r ok) ∙ sym (fold-is r ok last (decided-high (numbersIn (r .index)) (w .ready .numbers) last refl)))
+        (ap (λ (m : Numbers). foldedTo (logDecided m) (s .run)) (numbers r ok)
+        ∙ sym (fold-is r ok last (decided-high (numbersIn (r .index)) (w .ready .numbers) last refl)))
 
     few-keys : (k : ℕ) (ws : List ℕ) → Holds snapshotWords k ws → ltb keyRoom (length (entriesOf k ws)) ≡ false
-    few-keys k ws h = le-ltb keyRoom (length (entriesOf k ws)) (omega (arith, entries-length changeCode k ws, h .laid .fits))
+    few-keys k ws h = le-ltb keyRoom (length (entriesOf k ws))
+        (omega (arith, entries-length changeCode k ws, h .laid .fits))
 
     -- 8 comes of a delta alone
     tested : (k : SnapshotType) → (plainBy k ≡ false → Holds snapshotWords (x .keys) incoming)
@@ -181,7 +190,8 @@ module _ (r : Raw) (x : LogSync) (incoming suffix : List ℕ) (w : Syncs r x inc
         new = entriesIn suffix
 
         coded : suffix ≡ wordsOf changeCode new
-        coded = sym (words-entries changeCode changeOk n suffix (omega (arith, fits .whole)) ∙ take-all (n * width) suffix (omega (arith, fits .whole)))
+        coded = sym (words-entries changeCode changeOk n suffix (omega (arith, fits .whole))
+            ∙ take-all (n * width) suffix (omega (arith, fits .whole)))
 
         -- the run, by the snapshot's kind
         abbrev partAs : SnapshotType → Part
@@ -225,7 +235,8 @@ module _ (r : Raw) (x : LogSync) (incoming suffix : List ℕ) (w : Syncs r x inc
             start = starts kind;
             count =
                 ap length (keeps kind) ∙ length-append (take (keptAs kind) (s .run .retained)) new
-                ∙ ap₂ (λ (i j : ℕ). i + j) (length-take-le (keptAs kind) (s .run .retained) few) (entries-length changeCode n suffix);
+                ∙ ap₂ (λ (i j : ℕ). i + j) (length-take-le (keptAs kind) (s .run .retained) few)
+                (entries-length changeCode n suffix);
             snapshot = holds kind;
             snapshot-keys = ap length (shows kind) ∙ sym (wrote .1);
           };
@@ -233,8 +244,10 @@ module _ (r : Raw) (x : LogSync) (incoming suffix : List ℕ) (w : Syncs r x inc
           marks = record { index = ap (max d) (st .marks .index); promised = st .marks .promised; rounded = refl };
           log =
               ap (λ (es : List Change). stored logWords (es ++ s .tail .batched)) (keeps kind)
-              ∙ ap (stored logWords) (append-assoc (take (keptAs kind) (s .run .retained)) new (s .tail .batched) ∙ sym (spliced-sync (keptAs kind) (s .run .retained) (s .tail .batched) new few))
-              ∙ rw (st .run .count) (sym (m .words ∙ log-spliced s r st (log-formed r ok) (keptAs kind) (r .index .retained - keptAs kind) suffix new coded));
+              ∙ ap (stored logWords) (append-assoc (take (keptAs kind) (s .run .retained)) new (s .tail .batched)
+              ∙ sym (spliced-sync (keptAs kind) (s .run .retained) (s .tail .batched) new few))
+              ∙ rw (st .run .count) (sym (m .words ∙ log-spliced s r st (log-formed r ok) (keptAs kind)
+              (r .index .retained - keptAs kind) suffix new coded));
           snapshot = ap (stored snapshotWords) (shows kind) ∙ sym (wrote .2);
         })
 
@@ -242,4 +255,5 @@ module _ (r : Raw) (x : LogSync) (incoming suffix : List ℕ) (w : Syncs r x inc
         unfolding effect replyOf synced
         sync-stands y q =
             call-stands c r ok fine (sym (wrote .0) ∙ verdict) y (raw z words exit)
-            (q ∙ ap acceptedOf (sym (numbers-are (partSynced b d (partBy x incoming suffix) s) (raw z words exit) stands))) stands
+            (q ∙ ap acceptedOf
+            (sym (numbers-are (partSynced b d (partBy x incoming suffix) s) (raw z words exit) stands))) stands

@@ -32,12 +32,15 @@ module _ (x : LogSync) (n keys : ℕ) (y : IndexRecord) (log suffix : List ℕ) 
 
   module _ (start : LogIndex) (s : start ≡ (if p then y .compacted else x .«sync_idx»)) (stop : StopSign)
       (g : stop ≡ signIf (x .«stop_held») (x .stopsign)) (exit : List ℕ)
-      (e : exit ≡ laid (length log) (spliced (kept * width) ((y .retained - kept) * width) suffix (take ((y .retained + y .batched) * width) log))) where
-    pub taken : Taken x n keys y log suffix (withStop (x .«stop_held») stop (withRun start (kept + n) (y .«snapshot_held» || not p) keys y)) exit
+      (e : exit ≡ laid (length log) (spliced (kept * width)
+      ((y .retained - kept) * width) suffix (take ((y .retained + y .batched) * width) log))) where
+    pub taken : Taken x n keys y log suffix
+        (withStop (x .«stop_held») stop (withRun start (kept + n) (y .«snapshot_held» || not p) keys y)) exit
     taken = record {
       index = fields start (kept + n) p stop (s ∙ ap (λ (t : Bool). if t then y .compacted else x .«sync_idx») plain)
           (ap (λ (j : ℕ). j + n) kept-is) plain g;
-      words = e ∙ ap (λ (j : ℕ). laid (length log) (spliced (j * width) ((y .retained - j) * width) suffix (take ((y .retained + y .batched) * width) log))) kept-is;
+      words = e ∙ ap (λ (j : ℕ). laid (length log) (spliced (j * width)
+          ((y .retained - j) * width) suffix (take ((y .retained + y .batched) * width) log))) kept-is;
     }
       where
         fields : (a : LogIndex) (b : ℕ) (c : Bool) (h : StopSign)

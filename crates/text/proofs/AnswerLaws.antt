@@ -95,4 +95,5 @@ module _ (d n : ℕ) (ws : List ℕ) (i : ℕ) where
   pub lines-end : n ≤ i → entryLines (d - i) (drop i (entriesOf n ws)) ≡ []
   unfolding entryLines
   lines-end h =
-      ap (entryLines (d - i)) (drop-of-length-le (entriesOf n ws) {i = i} (omega (arith, entries-length changeCode n ws)))
+      ap (entryLines (d - i))
+      (drop-of-length-le (entriesOf n ws) {i = i} (omega (arith, entries-length changeCode n ws)))

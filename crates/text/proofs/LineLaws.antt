@@ -15,7 +15,8 @@ lines-append ls (b ∷ xs) ys = lines-append (if eqb b 10 then lineEnded ls else
 -- bytes that end no line
 pub lines-within : (ls : Lines) (bs : List ℕ) → gapOf 10 bs ≡ length bs → linesFrom ls bs ≡ restWith bs ls
 unfolding linesFrom
-lines-within ls [] h = ap {B = Lines} (λ (r : List ℕ). record { ended = ls .ended; rest = r }) (sym (append-nil (ls .rest)))
+lines-within ls [] h = ap {B = Lines} (λ (r : List ℕ). record { ended = ls .ended; rest = r })
+    (sym (append-nil (ls .rest)))
 lines-within ls (b ∷ bs) h = go (eqb b 10) h (λ (ms : Lines) (g : gapOf 10 bs ≡ length bs). lines-within ms bs g)
   where
     go : (t : Bool) → (if t then 0 else suc (gapOf 10 bs)) ≡ length (b ∷ bs)
@@ -70,7 +71,9 @@ module _ (ls : Lines) (part : List ℕ) (at : ℕ) (h : at < length part) where
   ends g =
       let q : at + gap + 1 ≡ at + (gap + 1) = omega arith in
       ap (λ (k : ℕ). linesFrom ls (take k part)) q
-      ∙ ap (linesFrom ls) (take-add at (gap + 1) part ∙ ap (λ (l : List ℕ). take at part ++ l) (gap-ends left g) ∙ sym (append-assoc (take at part) (take gap left) (10 ∷ [])) ∙ ap (λ (l : List ℕ). l ++ (10 ∷ [])) (sym (take-add at gap part)))
+      ∙ ap (linesFrom ls) (take-add at (gap + 1) part ∙ ap (λ (l : List ℕ). take at part ++ l) (gap-ends left g)
+      ∙ sym (append-assoc (take at part) (take gap left) (10 ∷ []))
+      ∙ ap (λ (l : List ℕ). l ++ (10 ∷ [])) (sym (take-add at gap part)))
       ∙ lines-append ls (take (at + gap) part) (10 ∷ [])
       ∙ ap lineEnded up-to
 
@@ -78,7 +81,8 @@ module _ (ls : Lines) (part : List ℕ) (at : ℕ) (h : at < length part) where
       ≡ restWith (take gap left) (linesFrom ls (take at part))
   goes-on g =
       let e = length-drop at part in
-      ap (linesFrom ls) (take-all (at + gap + 1) part (omega (arith, e)) ∙ sym (take-all (at + gap) part (omega (arith, e)))) ∙ up-to
+      ap (linesFrom ls) (take-all (at + gap + 1) part (omega (arith, e))
+      ∙ sym (take-all (at + gap) part (omega (arith, e)))) ∙ up-to
 
   -- e is the index of that line end, or the end of the part, as the code finds it
   pub lines-part : (e : ℕ) → e ≡ at + gapOf 10 (take (length part - at) left)
@@ -110,4 +114,5 @@ joined-fitting room bs part = go (leb (length bs) room) refl
     go : (t : Bool) → leb (length bs) room ≡ t
         → joined room (if t then some bs else none) part ≡ fitting room (bs ++ part)
     go true e = ap (λ (n : ℕ). if leb n room then some (bs ++ part) else none) (sym (length-append bs part))
-    go false e = sym (rw (lt-leb (length (bs ++ part)) room (simp length-append (omega (arith, leb-false (length bs) room e)))))
+    go false e =
+        sym (rw (lt-leb (length (bs ++ part)) room (simp length-append (omega (arith, leb-false (length bs) room e)))))

@@ -35,7 +35,8 @@ words-none (b ∷ bs) e = words-none-by b bs (eqb b 32) e (words-none bs)
 words-some-by : (b : ℕ) (bs : List ℕ) (t : Bool) → (if t then 0 else suc (gapOf 32 bs)) < suc (length bs)
     → (gapOf 32 bs < length bs → words bs ≡ take (gapOf 32 bs) bs ∷ words (drop (suc (gapOf 32 bs)) bs))
     → (if t then [] ∷ words bs else onto b (words bs))
-    ≡ take (if t then 0 else suc (gapOf 32 bs)) (b ∷ bs) ∷ words (drop (suc (if t then 0 else suc (gapOf 32 bs))) (b ∷ bs))
+    ≡ take (if t then 0 else suc (gapOf 32 bs)) (b ∷ bs)
+    ∷ words (drop (suc (if t then 0 else suc (gapOf 32 bs))) (b ∷ bs))
 words-some-by b bs true h ih = refl
 words-some-by b bs false h ih = rw (ih (omega arith))
 

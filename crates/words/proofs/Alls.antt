@@ -45,7 +45,8 @@ module _ {A : Type 0} (t : A → Bool) where
   module _ (l : List A) (i : ℕ) (ok asked : Bool) (so : (ok && allOf t (drop i l)) ≡ asked) where
     pub all-turn : (x : A) → drop i l ≡ x ∷ drop (suc i) l → (ok && t x && allOf t (drop (i + 1) l)) ≡ asked
     unfolding allOf
-    all-turn x e = rw (add-one i) (and-assoc ok (t x) (allOf t (drop (suc i) l)) ∙ ap (λ (m : List A). ok && allOf t m) (sym e) ∙ so)
+    all-turn x e = rw (add-one i)
+        (and-assoc ok (t x) (allOf t (drop (suc i) l)) ∙ ap (λ (m : List A). ok && allOf t m) (sym e) ∙ so)
 
     pub all-end : length l ≤ i → ok ≡ asked
     unfolding allOf
@@ -63,13 +64,15 @@ or-zero a b false q e f =
 pub zero-turn : (l : List ℕ) (i all : ℕ) (asked : Bool) → i < length l → (eqb all 0 && allZero (drop i l)) ≡ asked
     → (eqb (bitOr all (getD l i 0)) 0 && allZero (drop (i + 1) l)) ≡ asked
 zero-turn l i all asked h so =
-    ap (λ (b : Bool). b && allZero (drop (i + 1) l)) (or-zero all (getD l i 0) (eqb all 0) (eqb (getD l i 0) 0) refl refl)
+    ap (λ (b : Bool). b && allZero (drop (i + 1) l))
+    (or-zero all (getD l i 0) (eqb all 0) (eqb (getD l i 0) 0) refl refl)
     ∙ all-turn (λ (w : ℕ). eqb w 0) l i (eqb all 0) asked so (getD l i 0) (drop-cons l i 0 h)
 
 pub zeros-are : (l : List ℕ) → allZero l ≡ true → l ≡ replicate (length l) 0
 zeros-are [] e = refl
 zeros-are (x ∷ l) e =
-    rw (eqb-true x 0 (all-head (λ (w : ℕ). eqb w 0) x l e)) (ap (λ (r : List ℕ). 0 ∷ r) (zeros-are l (all-tail (λ (w : ℕ). eqb w 0) x l e)))
+    rw (eqb-true x 0 (all-head (λ (w : ℕ). eqb w 0) x l e))
+    (ap (λ (r : List ℕ). 0 ∷ r) (zeros-are l (all-tail (λ (w : ℕ). eqb w 0) x l e)))
 
 pub zeros-pass : (n : ℕ) → allZero (replicate n 0) ≡ true
 unfolding allOf

@@ -3,7 +3,8 @@ use Rattle.words.proofs.Prelude.{arith, _≡_, refl, sym, ap, _∙_, �
 use Rattle.words.proofs.Prelude.{List, [], _∷_, append-nil, append-assoc, _++_, length-drop, length-append}
 use Rattle.words.proofs.Prelude.{length, take, drop, replicate, length-take-le}
 use native.Mathlib.Nat.{add-mul, zero-mul, suc-mul, zero-add, suc-add}
-use lib.Seq.{take-append-add, drop-append-add, take-at, drop-at, take-add, drop-drop, take-nil, drop-nil, take-length, drop-length, take-append-seam, drop-append-seam, take-append-le, drop-append-le}
+use lib.Seq.{take-append-add, drop-append-add, take-at, drop-at, take-add, drop-drop, take-nil, drop-nil, take-length}
+use lib.Seq.{drop-length, take-append-seam, drop-append-seam, take-append-le, drop-append-le}
 use Rattle.words.specs.{All.allOf, Words.laid, Words.spliced, Coded.Code, Coded.Lawful, Coded.wordsOf}
 use Rattle.words.specs.{Coded.entriesAt, Coded.laidOut}
 use Rattle.words.proofs.Alls.{all-head, all-tail}
@@ -55,7 +56,8 @@ module _ {E : Type 0} (c : Code E) where
   unfolding entriesAt
   entries-cons i zero ws h = absurd (omega arith)
   entries-cons zero (suc n) ws h =
-      ap (λ (k : ℕ). c .dec (take (c .width) (drop k ws)) ∷ entriesAt c n (drop (c .width) ws)) (sym (zero-mul (c .width)))
+      ap (λ (k : ℕ). c .dec (take (c .width) (drop k ws)) ∷ entriesAt c n (drop (c .width) ws))
+      (sym (zero-mul (c .width)))
   entries-cons (suc i) (suc n) ws h =
       let e : c .width + i * c .width ≡ suc i * c .width = omega (arith, suc-mul i (c .width)) in
       entries-cons i n (drop (c .width) ws) (omega arith)
@@ -68,9 +70,11 @@ module _ {E : Type 0} (c : Code E) where
   entries-front zero a b h = refl
   entries-front (suc n) a b h =
       let e : suc n * c .width ≡ c .width + n * c .width = omega (arith, suc-mul n (c .width)) in
-      ap (λ (l : List ℕ). c .dec l ∷ entriesAt c n (drop (c .width) (a ++ b))) (take-append-le (c .width) a b (omega arith))
+      ap (λ (l : List ℕ). c .dec l ∷ entriesAt c n (drop (c .width) (a ++ b)))
+      (take-append-le (c .width) a b (omega arith))
       ∙ ap (λ (l : List E). c .dec (take (c .width) a) ∷ l)
-      (ap (entriesAt c n) (drop-append-le (c .width) a b (omega arith)) ∙ entries-front n (drop (c .width) a) b (simp length-drop (omega arith)))
+      (ap (entriesAt c n) (drop-append-le (c .width) a b (omega arith))
+      ∙ entries-front n (drop (c .width) a) b (simp length-drop (omega arith)))
 
   pub entries-append : (m n : ℕ) (a b : List ℕ) → length a ≡ m * c .width
       → entriesAt c (m + n) (a ++ b) ≡ entriesAt c m a ++ entriesAt c n b
@@ -118,7 +122,8 @@ module _ {E : Type 0} (c : Code E) where
         (take-at (c .enc e) (wordsOf c es ++ rest) (c .width) (ok .long e))
         ∙ ap (λ (l : List ℕ). c .dec (c .enc e) ∷ entriesAt c (length es) l)
         (drop-at (c .enc e) (wordsOf c es ++ rest) (c .width) (ok .long e))
-        ∙ ap (λ (x : E). x ∷ entriesAt c (length es) (wordsOf c es ++ rest)) (ok .back e (all-head (c .sound) e es fine))
+        ∙ ap (λ (x : E). x ∷ entriesAt c (length es) (wordsOf c es ++ rest))
+        (ok .back e (all-head (c .sound) e es fine))
         ∙ ap (λ (l : List E). e ∷ l) (entries-words es rest (all-tail (c .sound) e es fine))
 
     -- the words of the entries at the front are the words at the front
@@ -130,7 +135,8 @@ module _ {E : Type 0} (c : Code E) where
         let q : suc n * c .width ≡ c .width + n * c .width = omega (arith, suc-mul n (c .width)) in
         ap (λ (l : List ℕ). l ++ wordsOf c (entriesAt c n (drop (c .width) ws)))
         (ok .forth (take (c .width) ws) (length-take-le (c .width) ws (omega arith)))
-        ∙ ap (λ (l : List ℕ). take (c .width) ws ++ l) (words-entries n (drop (c .width) ws) (simp length-drop (omega arith)))
+        ∙ ap (λ (l : List ℕ). take (c .width) ws ++ l)
+        (words-entries n (drop (c .width) ws) (simp length-drop (omega arith)))
         ∙ sym (take-add (c .width) (n * c .width) ws)
         ∙ ap (λ (k : ℕ). take k ws) (sym q)
 
@@ -139,10 +145,12 @@ module _ {E : Type 0} (c : Code E) where
         → spliced (at * c .width) (cut * c .width) (wordsOf c new) (wordsOf c es) ≡ wordsOf c (spliced at cut new es)
     words-spliced at cut new es =
         let q : at * c .width + cut * c .width ≡ (at + cut) * c .width = sym (add-mul at cut (c .width)) in
-        ap (λ (l : List ℕ). l ++ (wordsOf c new ++ drop (at * c .width + cut * c .width) (wordsOf c es))) (words-take at es)
+        ap (λ (l : List ℕ). l ++ (wordsOf c new ++ drop (at * c .width + cut * c .width) (wordsOf c es)))
+        (words-take at es)
         ∙ ap (λ (k : ℕ). wordsOf c (take at es) ++ (wordsOf c new ++ drop k (wordsOf c es))) q
         ∙ ap (λ (l : List ℕ). wordsOf c (take at es) ++ (wordsOf c new ++ l)) (words-drop (at + cut) es)
-        ∙ sym (words-append (take at es) (new ++ drop (at + cut) es) ∙ ap (λ (l : List ℕ). wordsOf c (take at es) ++ l) (words-append new (drop (at + cut) es)))
+        ∙ sym (words-append (take at es) (new ++ drop (at + cut) es)
+        ∙ ap (λ (l : List ℕ). wordsOf c (take at es) ++ l) (words-append new (drop (at + cut) es)))
 
     -- what a slice that is laid out holds
     pub entries-laid : (n : ℕ) (es : List E) → allOf (c .sound) es ≡ true
@@ -161,7 +169,8 @@ module _ {E : Type 0} (c : Code E) where
         ≡ laidOut c (length ws) (spliced at cut es (entriesAt c n ws))
     spliced-laid n at cut ws new es h e =
         ap (λ (l : List ℕ). laid (length ws) (spliced (at * c .width) (cut * c .width) l (take (n * c .width) ws))) e
-        ∙ ap (λ (l : List ℕ). laid (length ws) (spliced (at * c .width) (cut * c .width) (wordsOf c es) l)) (sym (words-entries n ws h))
+        ∙ ap (λ (l : List ℕ). laid (length ws) (spliced (at * c .width) (cut * c .width) (wordsOf c es) l))
+        (sym (words-entries n ws h))
         ∙ ap (λ (l : List ℕ). laid (length ws) l) (words-spliced at cut es (entriesAt c n ws))
 
     -- two runs laid out one after the other are read back, each by its number
@@ -180,8 +189,10 @@ module _ {E : Type 0} (c : Code E) where
     entries-second n r b fine =
         let z : List ℕ = replicate (n - length (wordsOf c (r ++ b))) 0 in
         ap (λ (l : List ℕ). entriesAt c (length b) (drop (length r * c .width) (l ++ z))) (words-append r b)
-        ∙ ap (λ (l : List ℕ). entriesAt c (length b) (drop (length r * c .width) l)) (append-assoc (wordsOf c r) (wordsOf c b) z)
-        ∙ ap (λ (l : List ℕ). entriesAt c (length b) l) (drop-at (wordsOf c r) (wordsOf c b ++ z) (length r * c .width) (words-length r))
+        ∙ ap (λ (l : List ℕ). entriesAt c (length b) (drop (length r * c .width) l))
+        (append-assoc (wordsOf c r) (wordsOf c b) z)
+        ∙ ap (λ (l : List ℕ). entriesAt c (length b) l)
+        (drop-at (wordsOf c r) (wordsOf c b ++ z) (length r * c .width) (words-length r))
         ∙ entries-words b z fine
 
 -- Every change of a log, as one `spliced`.

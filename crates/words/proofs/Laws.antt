@@ -5,7 +5,8 @@ use Rattle.words.proofs.Prelude.{length-append, drop-of-length-le, leng
 use Rattle.words.proofs.Prelude.{length-take-le, take-all, drop-cons}
 use native.Mathlib.Nat.{sub-zero, zero-sub, suc-sub-suc, suc-add, add-suc}
 use lib.ListN.{set, length-replicate, replicate-append-replicate, getD-replicate}
-use lib.Seq.{paste, paste-zero, paste-suc, drop-paste, getD-drop, getD-take, take-suc, take-at, drop-at, set-at, take-take, drop-drop, take-length, take-nil, append-snoc}
+use lib.Seq.{paste, paste-zero, paste-suc, drop-paste, getD-drop, getD-take, take-suc, take-at, drop-at, set-at}
+use lib.Seq.{take-take, drop-drop, take-length, take-nil, append-snoc}
 use Rattle.words.specs.Words.{laid, spliced}
 
 -- one more word pasted, at the code's `j + 1`
@@ -80,7 +81,8 @@ drop-laid n k ws h hk =
     ∙ ap (λ (l : List ℕ). drop k (ws ++ l)) (sym (replicate-append-replicate (k - length ws) (n - k) 0))
     ∙ ap (λ (l : List ℕ). drop k l) (sym (append-assoc ws (replicate (k - length ws) 0) (replicate (n - k) 0)))
     ∙ drop-at (ws ++ replicate (k - length ws) 0) (replicate (n - k) 0) k
-    (length-append ws (replicate (k - length ws) 0) ∙ ap (λ (m : ℕ). length ws + m) (length-replicate (k - length ws) 0) ∙ e)
+    (length-append ws (replicate (k - length ws) 0)
+    ∙ ap (λ (m : ℕ). length ws + m) (length-replicate (k - length ws) 0) ∙ e)
 
 pub take-laid : (n : ℕ) (ws : List ℕ) → take (length ws) (laid n ws) ≡ ws
 unfolding laid
@@ -172,17 +174,20 @@ module _ (d ins L₁ L₂ L₃ : List ℕ) (used at cut : ℕ)
     (z : d ≡ laid (length d) (take used d))
     (e₁ : L₁ ≡ paste d (at + length ins) (drop (at + cut) d) (used - (at + cut)))
     (e₂ : L₂ ≡ paste L₁ at ins (length ins))
-    (e₃ : L₃ ≡ paste L₂ (at + length ins + (used - (at + cut))) (replicate (used - (at + length ins + (used - (at + cut)))) 0) (used - (at + length ins + (used - (at + cut)))))
+    (e₃ : L₃ ≡ paste L₂ (at + length ins + (used - (at + cut)))
+    (replicate (used - (at + length ins + (used - (at + cut)))) 0) (used - (at + length ins + (used - (at + cut)))))
   where
     splice-front : take at L₁ ≡ take at d
     splice-front =
         let a : at ≤ at + length ins = omega arith in
         sym (take-take at (at + length ins) L₁ a)
         ∙ ap (λ (l : List ℕ). take at (take (at + length ins) l)) e₁
-        ∙ ap (λ (l : List ℕ). take at l) (take-paste-at d (at + length ins) (drop (at + cut) d) (used - (at + cut)) (omega arith))
+        ∙ ap (λ (l : List ℕ). take at l)
+        (take-paste-at d (at + length ins) (drop (at + cut) d) (used - (at + cut)) (omega arith))
         ∙ take-take at (at + length ins) d a
 
-    splice-put : L₂ ≡ take at d ++ (ins ++ take (used - (at + cut)) (drop (at + cut) d)) ++ drop (at + length ins + (used - (at + cut))) d
+    splice-put : L₂ ≡ take at d ++ (ins ++ take (used - (at + cut)) (drop (at + cut) d))
+        ++ drop (at + length ins + (used - (at + cut))) d
     splice-put =
         let tail : List ℕ = take (used - (at + cut)) (drop (at + cut) d) in
         let rest : List ℕ = drop (at + length ins + (used - (at + cut))) d in
@@ -190,7 +195,8 @@ module _ (d ins L₁ L₂ L₃ : List ℕ) (used at cut : ℕ)
         ∙ ap (λ (l : List ℕ). l ++ take (length ins) ins ++ drop (at + length ins) L₁) splice-front
         ∙ ap (λ (l : List ℕ). take at d ++ l ++ drop (at + length ins) L₁) (take-length ins)
         ∙ ap (λ (l : List ℕ). take at d ++ ins ++ l)
-        (ap (λ (l : List ℕ). drop (at + length ins) l) e₁ ∙ drop-paste-at d (at + length ins) (drop (at + cut) d) (used - (at + cut)) (omega arith))
+        (ap (λ (l : List ℕ). drop (at + length ins) l) e₁
+        ∙ drop-paste-at d (at + length ins) (drop (at + cut) d) (used - (at + cut)) (omega arith))
         ∙ sym (append-assoc (take at d ++ ins) tail rest)
         ∙ ap (λ (l : List ℕ). l ++ rest) (append-assoc (take at d) ins tail)
 
@@ -200,12 +206,14 @@ module _ (d ins L₁ L₂ L₃ : List ℕ) (used at cut : ℕ)
 
     splice-zero : at + length ins + (used - (at + cut)) ≤ length d
         → drop (at + length ins + (used - (at + cut)) + (used - (at + length ins + (used - (at + cut))))) L₂
-        ≡ replicate (length d - (at + length ins + (used - (at + cut)) + (used - (at + length ins + (used - (at + cut)))))) 0
+        ≡ replicate
+        (length d - (at + length ins + (used - (at + cut)) + (used - (at + length ins + (used - (at + cut)))))) 0
     splice-zero h =
         let n : ℕ = at + length ins + (used - (at + cut)) in
         let W : List ℕ = take at d ++ (ins ++ take (used - (at + cut)) (drop (at + cut) d)) in
         sym (drop-drop (used - n) n L₂)
-        ∙ ap (λ (l : List ℕ). drop (used - n) l) (ap (λ (l : List ℕ). drop n l) splice-put ∙ drop-at W (drop n d) n splice-long)
+        ∙ ap (λ (l : List ℕ). drop (used - n) l)
+        (ap (λ (l : List ℕ). drop n l) splice-put ∙ drop-at W (drop n d) n splice-long)
         ∙ drop-drop (used - n) n d
         ∙ ap (λ (l : List ℕ). drop (n + (used - n)) l) z
         ∙ drop-laid (length d) (n + (used - n)) (take used d) (simp length-take (omega arith)) (omega arith)
@@ -218,11 +226,13 @@ module _ (d ins L₁ L₂ L₃ : List ℕ) (used at cut : ℕ)
         e₃
         ∙ ap (λ (l : List ℕ). l ++ take (used - n) (replicate (used - n) 0) ++ drop (n + (used - n)) L₂)
         (ap (λ (l : List ℕ). take n l) splice-put ∙ take-at W (drop n d) n splice-long)
-        ∙ ap (λ (l : List ℕ). W ++ l ++ drop (n + (used - n)) L₂) (take-all (used - n) (replicate (used - n) 0) (simp length-replicate (omega arith)))
+        ∙ ap (λ (l : List ℕ). W ++ l ++ drop (n + (used - n)) L₂)
+        (take-all (used - n) (replicate (used - n) 0) (simp length-replicate (omega arith)))
         ∙ ap (λ (l : List ℕ). W ++ replicate (used - n) 0 ++ l) (splice-zero hn)
         ∙ ap (λ (m : ℕ). W ++ replicate (used - n) 0 ++ replicate (length d - (m + (used - n))) 0) (sym splice-long)
         ∙ laid-twice (length d) (used - n) W (rw splice-long (omega arith))
-        ∙ ap (λ (l : List ℕ). laid (length d) (l ++ (ins ++ take (used - (at + cut)) (drop (at + cut) d)))) (sym (take-take at used d (omega arith)))
+        ∙ ap (λ (l : List ℕ). laid (length d) (l ++ (ins ++ take (used - (at + cut)) (drop (at + cut) d))))
+        (sym (take-take at used d (omega arith)))
         ∙ ap (λ (l : List ℕ). laid (length d) (take at (take used d) ++ (ins ++ l))) (sym (drop-take (at + cut) used d))
 
 -- all of a list pasted over one as long

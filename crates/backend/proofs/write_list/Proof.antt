@@ -20,7 +20,9 @@ startOf e = e .before .before .before .before .before .before .before .before
 okay : (e : tie.Else1) → formed (stateAt (startOf e)) ≡ true
 okay e = sym (e .before .well-formed .ensures) ∙ not-false _ (e .if1 .left)
 
-asked : (f : tie.Else2) → (wholeList (startOf (f .before .before) .args .lent) (now (startOf (f .before .before) .args .entries)) (now (startOf (f .before .before) .args .incoming)) (startOf (f .before .before) .args .list)
+asked : (f : tie.Else2)
+    → (wholeList (startOf (f .before .before) .args .lent) (now (startOf (f .before .before) .args .entries))
+    (now (startOf (f .before .before) .args .incoming)) (startOf (f .before .before) .args .list)
     && opsFormed (lentAt (startOf (f .before .before))) (opsIn (startOf (f .before .before) .args .list))) ≡ true
 asked f = sym (f .before .request-formed .ensures) ∙ not-false _ (f .if2 .left)
 
@@ -52,7 +54,8 @@ returns-3 c =
     let f = w .before .before .before in
     let e = f .before .before in
     let a = startOf e .args in
-    w .write-at .ensures ∙ request-run (a .lent) (now (a .entries)) (now (a .incoming)) (a .list) (stateAt (startOf e)) (okay e) (asked f)
+    w .write-at .ensures ∙ request-run (a .lent) (now (a .entries)) (now (a .incoming)) (a .list) (stateAt (startOf e))
+    (okay e) (asked f)
 
 pub write-list-spec : {M : Type 1} → statement M
 write-list-spec =

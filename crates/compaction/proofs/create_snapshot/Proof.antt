@@ -36,15 +36,18 @@ returns-2 c =
 create-at-requires : tie.Need-create-at-requires
 create-at-requires c κs =
     let f = c .before in
-    let st = startOf (f .before) in
-    (ready-of (stateAt st) (okay (f .before)), eqb-true (length (now (st .args .out))) snapshotWords (not-false _ (f .if2 .left)))
+    let st = startOf (f .before) in (
+      ready-of (stateAt st) (okay (f .before)),
+      eqb-true (length (now (st .args .out))) snapshotWords (not-false _ (f .if2 .left)),
+    )
 
 returns-3 : tie.Need-returns-3
 returns-3 c =
     let m = c .before .before in
     let f = m .before .before in
     let st = startOf (f .before) in
-    m .create-at .ensures ∙ ap (λ (t : Bool). writtenOut (run (query (create (st .args .idx .0))) t (stateAt st) .answer) (now (st .args .out))) (sym (not-false _ (f .if2 .left)))
+    m .create-at .ensures ∙ ap (λ (t : Bool). writtenOut (run (query (create (st .args .idx .0))) t
+    (stateAt st) .answer) (now (st .args .out))) (sym (not-false _ (f .if2 .left)))
 
 pub create-snapshot-spec : {M : Type 1} → statement M
 create-snapshot-spec =

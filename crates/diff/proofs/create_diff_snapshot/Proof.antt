@@ -33,8 +33,10 @@ returns-2 c =
 diff-at-requires : tie.Need-diff-at-requires
 diff-at-requires c κs =
     let f = c .before in
-    let st = startOf (f .before) in
-    (ready-of (stateAt st) (okay (f .before)), eqb-true (length (now (st .args .out))) snapshotWords (not-false _ (f .if2 .left)))
+    let st = startOf (f .before) in (
+      ready-of (stateAt st) (okay (f .before)),
+      eqb-true (length (now (st .args .out))) snapshotWords (not-false _ (f .if2 .left)),
+    )
 
 returns-3 : tie.Need-returns-3
 returns-3 c =

@@ -11,12 +11,14 @@ returns c =
 returns-2 : tie.Need-returns-2
 returns-2 c =
     let a = c .before .before .before .args in
-    part-none (a .first) (a .count) (now (a .log)) (a .log .ptr) (omega (arith, c .before .if2 .taken, c .before .before .if1 .left))
+    part-none (a .first) (a .count) (now (a .log)) (a .log .ptr)
+    (omega (arith, c .before .if2 .taken, c .before .before .if1 .left))
 
 returns-3 : tie.Need-returns-3
 returns-3 c =
     let a = c .before .before .before .args in
-    part-cut (a .first) (a .count) (now (a .log)) (a .log .ptr) (omega (arith, c .before .if2 .left, c .before .before .if1 .left))
+    part-cut (a .first) (a .count) (now (a .log)) (a .log .ptr)
+    (omega (arith, c .before .if2 .left, c .before .before .if1 .left))
 
 pub entries-of-spec : {M : Type 1} → statement M
 entries-of-spec =

@@ -5,7 +5,8 @@ use Rattle.replay.proofs.last.Tie as tie
 
 slice-aggregate-write-all : tie.Need-slice-aggregate-write-all
 slice-aggregate-write-all c = sym
-    (length-take-le _ _ (omega (arith, c .before .before .before .end .ensures .0, c .before .before .before .end .kept)))
+    (length-take-le _ _ (omega
+    (arith, c .before .before .before .end .ensures .0, c .before .before .before .end .kept)))
 
 returns : tie.Need-returns
 returns c = search needs

@@ -1,6 +1,5 @@
 -- `replay::main` is safe and ends, and keeps where the program stands: at each turn some input has come, and its lines
--- have been answered from a
--- fresh log of batch size 0 on. The measure is the number of turns left.
+-- have been answered from a fresh log of batch size 0 on. The measure is the number of turns left.
 use Rattle.words.proofs.Prelude.{arith, ℕ, _≤_, List, [], _++_, take}
 use Rattle.state_cache.specs.State.{raw}
 use Rattle.text.specs.{Lines.noLine, Lines.linesOf, Feeding.come, Rooms.inputLine}
@@ -12,7 +11,8 @@ use Rattle.replay.proofs.main.Tie as tie
 abbrev Inv-loop : tie.InvT-loop
 Inv-loop line₀ log₀ snapshot₀ out₀ s₀ turns₀ line log snapshot out s turns =
     ((s .held .len ≤ inputLine) × (s .used ≤ outRoom))
-    × ((input : List ℕ) × Reached (linesOf input) (raw (s .index) log snapshot) (come (s .held .over) (s .held .len) line) (take (s .used) out))
+    × ((input : List ℕ) × Reached (linesOf input) (raw (s .index) log snapshot)
+    (come (s .held .over) (s .held .len) line) (take (s .used) out))
 
 abbrev μ-loop : tie.MeasureT-loop
 μ-loop line₀ log₀ snapshot₀ out₀ s₀ turns₀ line log snapshot out s turns = turns

@@ -15,8 +15,12 @@ returns c =
 
 returns-2 : tie.Need-returns-2
 returns-2 c =
-    let s = c .before .before .before .before .before .before .before .before .before .before .before .before .before .before .before .before .before in
-    (search needs, λ (ls : Lines) st. (_, c .take-part .ensures .1 ls (handed-over ls _ _ (take (s .args .st .used) (now (s .args .out))) st)))
+    let s = c .before .before .before .before .before .before .before .before .before .before .before .before .before
+    .before .before .before .before in (
+      search needs,
+      λ (ls : Lines) st.
+          (_, c .take-part .ensures .1 ls (handed-over ls _ _ (take (s .args .st .used) (now (s .args .out))) st)),
+    )
 
 pub take-turn-spec : {M : Type 1} → statement M
 take-turn-spec =

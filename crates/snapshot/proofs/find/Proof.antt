@@ -5,13 +5,15 @@ use Rattle.snapshot.proofs.Calling.{snapshot-holds, find-malformed, fin
 use Rattle.snapshot.proofs.find.Statement.{statement}
 use Rattle.snapshot.proofs.find.Tie as tie
 
-okay : (e : tie.Else1) → snapshotFormed (e .before .before .before .args .keys) (now (e .before .before .before .args .s)) ≡ true
+okay : (e : tie.Else1) → snapshotFormed (e .before .before .before .args .keys)
+    (now (e .before .before .before .args .s)) ≡ true
 okay e = sym (e .before .snapshot-formed .ensures) ∙ not-false _ (e .if1 .left)
 
 returns : tie.Need-returns
 returns c =
     let st = c .before .before .before in
-    find-malformed (st .args .keys) (now (st .args .s)) (st .args .key) (sym (c .before .snapshot-formed .ensures) ∙ not-true _ (c .if1 .taken))
+    find-malformed (st .args .keys) (now (st .args .s)) (st .args .key)
+    (sym (c .before .snapshot-formed .ensures) ∙ not-true _ (c .if1 .taken))
 
 look-up-requires : tie.Need-look-up-requires
 look-up-requires c κs =

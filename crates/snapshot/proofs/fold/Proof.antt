@@ -9,12 +9,14 @@ use Rattle.snapshot.proofs.fold.Tie as tie
 tested : (e : tie.After-entries-formed) (t : Bool)
     → (e .entries-formed .result && eqb (length (now (e .before .before .before .args .out))) snapshotWords) ≡ t
     → foldable (now (e .before .before .before .args .entries)) (now (e .before .before .before .args .out)) ≡ t
-tested e t q = ap (λ (b : Bool). b && eqb (length (now (e .before .before .before .args .out))) snapshotWords) (sym (e .entries-formed .ensures)) ∙ q
+tested e t q = ap (λ (b : Bool). b && eqb (length (now (e .before .before .before .args .out))) snapshotWords)
+    (sym (e .entries-formed .ensures)) ∙ q
 
 returns : tie.Need-returns
 returns c =
     let st = c .before .before .before .before in
-    fold-malformed (now (st .args .entries)) (now (st .args .out)) (tested (c .before) false (not-true _ (c .if1 .taken)))
+    fold-malformed (now (st .args .entries)) (now (st .args .out))
+    (tested (c .before) false (not-true _ (c .if1 .taken)))
 
 fold-out-requires : tie.Need-fold-out-requires
 fold-out-requires c κs =

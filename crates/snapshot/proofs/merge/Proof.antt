@@ -7,13 +7,15 @@ use Rattle.snapshot.proofs.merge.Statement.{statement}
 use Rattle.snapshot.proofs.merge.Tie as tie
 
 tested : (e : tie.After-snapshot-formed2) (t : Bool)
-    → (e .before .snapshot-formed .result && (e .snapshot-formed2 .result && eqb (length (now (e .before .before .before .before .before .args .out))) snapshotWords)) ≡ t
+    → (e .before .snapshot-formed .result && (e .snapshot-formed2 .result
+    && eqb (length (now (e .before .before .before .before .before .args .out))) snapshotWords)) ≡ t
     → mergeable (now (e .before .before .before .before .before .args .a))
     (e .before .before .before .before .before .args .n) (now (e .before .before .before .before .before .args .b))
     (e .before .before .before .before .before .args .m)
     (now (e .before .before .before .before .before .args .out)) ≡ t
 tested e t q =
-    ap₂ (λ (x y : Bool). x && (y && eqb (length (now (e .before .before .before .before .before .args .out))) snapshotWords)) (sym (e .before .snapshot-formed .ensures)) (sym (e .snapshot-formed2 .ensures)) ∙ q
+    ap₂ (λ (x y : Bool). x && (y && eqb (length (now (e .before .before .before .before .before .args .out)))
+    snapshotWords)) (sym (e .before .snapshot-formed .ensures)) (sym (e .snapshot-formed2 .ensures)) ∙ q
 
 returns : tie.Need-returns
 returns c =

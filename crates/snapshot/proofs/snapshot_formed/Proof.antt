@@ -20,7 +20,8 @@ keys-ascend-requires c κs =
 
 returns-2 : tie.Need-returns-2
 unfolding snapshotFormed
-returns-2 c = rw (sym (c .before .before .laid-out .ensures) ∙ not-false _ (c .before .if1 .left)) (c .keys-ascend .ensures)
+returns-2 c = rw (sym (c .before .before .laid-out .ensures) ∙ not-false _ (c .before .if1 .left))
+    (c .keys-ascend .ensures)
 
 pub snapshot-formed-spec : {M : Type 1} → statement M
 snapshot-formed-spec = tie.close (tie.spec (λ c κs. search needs) returns keys-ascend-requires returns-2)

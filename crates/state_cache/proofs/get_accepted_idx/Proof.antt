@@ -13,13 +13,15 @@ okay : (e : tie.Else1) → formed (stateAt (e .before .before .before .before)) 
 okay e = sym (e .before .well-formed .ensures) ∙ not-false _ (e .if1 .left)
 
 returns : tie.Need-returns
-returns c = not-asked acceptedOf (stateAt (c .before .before .before .before)) (sym (c .before .well-formed .ensures) ∙ not-true _ (c .if1 .taken))
+returns c = not-asked acceptedOf (stateAt (c .before .before .before .before))
+    (sym (c .before .well-formed .ensures) ∙ not-true _ (c .if1 .taken))
 
 accepted-requires : tie.Need-accepted-requires
 accepted-requires c κs = sound-small _ (ready-of _ (okay c) .numbers)
 
 returns-2 : tie.Need-returns-2
-returns-2 c = asked-of acceptedOf (stateAt (c .before .before .before .before .before)) (okay (c .before)) _ (c .accepted .ensures)
+returns-2 c = asked-of acceptedOf (stateAt (c .before .before .before .before .before))
+    (okay (c .before)) _ (c .accepted .ensures)
 
 pub get-accepted-idx-spec : {M : Type 1} → statement M
 get-accepted-idx-spec = tie.close (tie.spec (λ c κs. search needs) returns accepted-requires returns-2)

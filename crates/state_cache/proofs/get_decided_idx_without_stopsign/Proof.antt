@@ -14,13 +14,15 @@ okay : (e : tie.Else1) → formed (stateAt (e .before .before .before .before)) 
 okay e = sym (e .before .well-formed .ensures) ∙ not-false _ (e .if1 .left)
 
 returns : tie.Need-returns
-returns c = not-asked logDecided (stateAt (c .before .before .before .before)) (sym (c .before .well-formed .ensures) ∙ not-true _ (c .if1 .taken))
+returns c = not-asked logDecided (stateAt (c .before .before .before .before))
+    (sym (c .before .well-formed .ensures) ∙ not-true _ (c .if1 .taken))
 
 log-decided-requires : tie.Need-log-decided-requires
 log-decided-requires c κs = sound-small _ (ready-of _ (okay c) .numbers)
 
 returns-2 : tie.Need-returns-2
-returns-2 c = asked-of logDecided (stateAt (c .before .before .before .before .before)) (okay (c .before)) _ (c .log-decided .ensures)
+returns-2 c = asked-of logDecided (stateAt (c .before .before .before .before .before))
+    (okay (c .before)) _ (c .log-decided .ensures)
 
 pub get-decided-idx-without-stopsign-spec : {M : Type 1} → statement M
 get-decided-idx-without-stopsign-spec =

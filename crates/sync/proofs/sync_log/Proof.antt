@@ -34,7 +34,9 @@ returns : tie.Need-returns
 returns c =
     let st = c .before .before .before .before .before .before .before .before in
     let a = st .args in
-    ill-formed (sync (a .accepted-round) (a .decided-idx .0) (partOf (a .held) (a .log-sync) (now (a .incoming)) (now (a .suffix)))) (lentWhole (a .held) (a .log-sync) (now (a .incoming)) (now (a .suffix))) (stateAt st) (sym (c .before .well-formed .ensures) ∙ not-true _ (c .if1 .taken))
+    ill-formed (sync (a .accepted-round) (a .decided-idx .0) (partOf (a .held) (a .log-sync) (now (a .incoming))
+    (now (a .suffix)))) (lentWhole (a .held) (a .log-sync) (now (a .incoming)) (now (a .suffix))) (stateAt st)
+    (sym (c .before .well-formed .ensures) ∙ not-true _ (c .if1 .taken))
 
 returns-2 : tie.Need-returns-2
 returns-2 c =

@@ -11,10 +11,13 @@ noBatch c = sym (c .before .same .ensures) ∙ c .if1 .left
 noDel : (c : tie.Else2) → (now (c .before .before .before .before .before .before .before .args .w) is "del") ≡ false
 noDel c = sym (c .before .same2 .ensures) ∙ c .if2 .left
 
-noDecide : (c : tie.Else3) → (now (c .before .before .before .before .before .before .before .before .before .before .args .w) is "decide") ≡ false
+noDecide : (c : tie.Else3) → (now
+    (c .before .before .before .before .before .before .before .before .before .before .args .w) is "decide") ≡ false
 noDecide c = sym (c .before .same3 .ensures) ∙ c .if3 .left
 
-noStop : (c : tie.Else4) → (now (c .before .before .before .before .before .before .before .before .before .before .before .before .before .args .w) is "stop") ≡ false
+noStop : (c : tie.Else4) → (now
+    (c .before .before .before .before .before .before .before .before .before .before .before .before .before .args .w)
+    is "stop") ≡ false
 noStop c = sym (c .before .same4 .ensures) ∙ c .if4 .left
 
 returns : tie.Need-returns

@@ -12,13 +12,21 @@ returns-2 : tie.Need-returns-2
 unfolding withOne
 returns-2 c =
     let n = c .before .before in
-    rw (sym (n .before .before .same .ensures) ∙ n .before .if1 .left, sym (n .number .ensures) ∙ c .enum-told .given .1)
+    rw (
+      sym (n .before .before .same .ensures) ∙ n .before .if1 .left,
+      sym (n .number .ensures)
+          ∙ c .enum-told .given .1,
+    )
 
 returns-3 : tie.Need-returns-3
 unfolding withOne
 returns-3 c =
     let n = c .before .before .before .before in
-    rw (sym (n .before .before .same .ensures) ∙ n .before .if1 .left, sym (n .number .ensures) ∙ c .before .before .n .given .1) (c .numbered .ensures)
+    rw (
+      sym (n .before .before .same .ensures) ∙ n .before .if1 .left,
+      sym (n .number .ensures)
+          ∙ c .before .before .n .given .1,
+    ) (c .numbered .ensures)
 
 pub one-spec : {M : Type 1} → statement M
 one-spec =

@@ -18,7 +18,10 @@ returns-2 c =
     let g = h .before .before .before .before in
     let s = now (g .before .before .args .s) in
     let e = g .gap .result in
-    rw (words-more s e (g .gap .ensures .1) (g .gap .ensures .0 .0) (h .before .before .before .if1 .left), words-none (rest s e) (sym (h .gap2 .ensures .1) ∙ c .before .if2 .taken)) (c .one .ensures)
+    rw (
+      words-more s e (g .gap .ensures .1) (g .gap .ensures .0 .0) (h .before .before .before .if1 .left),
+      words-none (rest s e) (sym (h .gap2 .ensures .1) ∙ c .before .if2 .taken),
+    ) (c .one .ensures)
 
 returns-3 : tie.Need-returns-3
 unfolding parseOf

@@ -26,8 +26,13 @@ returns-2 c =
 loop-again : tie.Need-loop-again Inv-loop μ-loop
 loop-again c =
     let l = c .before .before .before .before in
-    let a = l .before .before .args in
-    (omega arith, omega arith, sym (same-step (now (a .a)) (now (a .b)) (l .loop .i) (omega arith) (omega arith) (c .if2 .left)) ∙ l .loop .inv .2)
+    let a = l .before .before .args in (
+      omega arith,
+      omega arith,
+      sym
+          (same-step (now (a .a)) (now (a .b)) (l .loop .i) (omega arith) (omega arith) (c .if2 .left))
+          ∙ l .loop .inv .2,
+    )
 
 returns-3 : tie.Need-returns-3 Inv-loop μ-loop
 returns-3 c =

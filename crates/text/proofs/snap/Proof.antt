@@ -12,13 +12,21 @@ returns-2 : tie.Need-returns-2
 unfolding snapOf
 returns-2 c =
     let n = c .before .before in
-    rw (sym (n .before .before .same .ensures) ∙ n .before .if1 .left, sym (n .number .ensures) ∙ c .enum-told .given .1)
+    rw (
+      sym (n .before .before .same .ensures) ∙ n .before .if1 .left,
+      sym (n .number .ensures)
+          ∙ c .enum-told .given .1,
+    )
 
 returns-3 : tie.Need-returns-3
 unfolding snapOf
 returns-3 c =
     let n = c .before .before .before in
-    rw (sym (n .before .before .same .ensures) ∙ n .before .if1 .left, sym (n .number .ensures) ∙ c .before .n .given .1)
+    rw (
+      sym (n .before .before .same .ensures) ∙ n .before .if1 .left,
+      sym (n .number .ensures)
+          ∙ c .before .n .given .1,
+    )
 
 pub snap-spec : {M : Type 1} → statement M
 snap-spec =

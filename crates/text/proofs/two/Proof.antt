@@ -10,14 +10,23 @@ returns c = rw (sym (c .before .before .number .ensures) ∙ c .enum-told .given
 returns-2 : tie.Need-returns-2
 returns-2 c =
     let m = c .before .before .before .before in
-    rw (sym (m .before .before .number .ensures) ∙ m .m .given .1, sym (c .before .before .number2 .ensures) ∙ c .enum-told2 .given .1)
+    rw (
+      sym (m .before .before .number .ensures) ∙ m .m .given .1,
+      sym (c .before .before .number2 .ensures)
+          ∙ c .enum-told2 .given .1,
+    )
 
 returns-3 : tie.Need-returns-3
 unfolding pairedOf
 returns-3 c =
     let n = c .before .before .before .before in
     let m = n .before .before .before .before in
-    rw (sym (m .before .before .number .ensures) ∙ m .m .given .1, sym (n .before .before .number2 .ensures) ∙ n .n .given .1, sym (c .before .same .ensures) ∙ c .if1 .taken)
+    rw (
+      sym (m .before .before .number .ensures) ∙ m .m .given .1,
+      sym (n .before .before .number2 .ensures)
+          ∙ n .n .given .1,
+      sym (c .before .same .ensures) ∙ c .if1 .taken,
+    )
 
 returns-4 : tie.Need-returns-4
 unfolding pairedOf

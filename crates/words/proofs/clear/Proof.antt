@@ -20,7 +20,8 @@ loop-again c =
     let a = s .before .args in (
       omega arith,
       omega arith,
-      clear-turn (a .s .now) (s .loop .s) (a .from) (a .to) (s .loop .i) (omega arith) (omega arith) (omega arith) (s .loop .inv .2),
+      clear-turn (a .s .now) (s .loop .s) (a .from) (a .to) (s .loop .i) (omega arith) (omega arith) (omega arith)
+          (s .loop .inv .2),
       simp length-set (omega arith),
     )
 

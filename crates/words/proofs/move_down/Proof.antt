@@ -12,7 +12,8 @@ abbrev μ-loop : tie.MeasureT-loop
 μ-loop s₀ from to n i₀ s i = n - i
 
 loop-holds : tie.Need-loop-holds Inv-loop μ-loop
-loop-holds c = (omega arith, (paste-zero (c .args .s .now) (c .args .to) (drop (c .args .from) (c .args .s .now)), omega arith))
+loop-holds c =
+    (omega arith, (paste-zero (c .args .s .now) (c .args .to) (drop (c .args .from) (c .args .s .now)), omega arith))
 
 loop-again : tie.Need-loop-again Inv-loop μ-loop
 loop-again c =
@@ -20,7 +21,8 @@ loop-again c =
     let a = s .before .args in (
       omega arith,
       (
-        down-turn (a .s .now) (s .loop .s) (a .from) (a .to) (s .loop .i) (omega arith) (omega arith) (s .loop .inv .1 .0),
+        down-turn (a .s .now) (s .loop .s) (a .from) (a .to) (s .loop .i) (omega arith) (omega arith)
+            (s .loop .inv .1 .0),
         simp length-set (omega arith),
       ),
     )

@@ -10,7 +10,8 @@ returns c =
     let sh = cp .before .before .before .before in
     let st = sh .before .before .before .before in
     let a = st .args in
-    splice-law (a .s .now) (a .insert .now) (sh .copy-within .last .0) (cp .copy-in .last .0) (cl .clear .last .0) (a .used) (a .at) (a .cut)
+    splice-law (a .s .now) (a .insert .now) (sh .copy-within .last .0) (cp .copy-in .last .0) (cl .clear .last .0)
+    (a .used) (a .at) (a .cut)
     (st .pre .0) (st .pre .1 .0) (st .pre .1 .1 .0) (st .pre .1 .1 .1)
     (sh .copy-within .ensures) (cp .copy-in .ensures) (cl .clear .ensures)
 

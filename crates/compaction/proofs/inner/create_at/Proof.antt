@@ -41,7 +41,11 @@ sub-n c =
     let k = c .before in
     let e = passedOf k in
     let st = startOf e in
-    omega (arith, k .target .ensures, target-from (st .args .idx .0) (numbersIn (st .args .index)) (st .pre .0 .numbers) (e .if1 .left))
+    omega (
+      arith,
+      k .target .ensures,
+      target-from (st .args .idx .0) (numbersIn (st .args .index)) (st .pre .0 .numbers) (e .if1 .left),
+    )
 
 fold-aside-requires : tie.Need-fold-aside-requires
 fold-aside-requires c κs =
@@ -62,4 +66,5 @@ returns-3 c =
 pub create-at-spec : {M : Type 1} → statement M
 create-at-spec =
     tie.close
-    (tie.spec returns (λ c κs. search needs) returns-2 target-requires sub-n fold-aside-requires (λ c. search needs) returns-3)
+    (tie.spec returns (λ c κs. search needs) returns-2 target-requires sub-n fold-aside-requires
+    (λ c. search needs) returns-3)

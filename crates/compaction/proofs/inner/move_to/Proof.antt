@@ -5,8 +5,10 @@ use Rattle.compaction.proofs.inner.move_to.Tie as tie
 
 cut-out-requires : tie.Need-cut-out-requires
 cut-out-requires c κs =
-    let st = c .before .before .before .before in
-    (omega (arith, st .pre .up, st .pre .within), (omega (arith, st .pre .laid-out .fits, st .pre .laid-out .long), st .pre .laid-out .zeros))
+    let st = c .before .before .before .before in (
+      omega (arith, st .pre .up, st .pre .within),
+      (omega (arith, st .pre .laid-out .fits, st .pre .laid-out .long), st .pre .laid-out .zeros),
+    )
 
 returns : tie.Need-returns
 returns c = search needs

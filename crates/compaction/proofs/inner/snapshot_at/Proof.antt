@@ -50,7 +50,8 @@ returns : tie.Need-returns
 returns c =
     let w = c .before .before .before in
     let st = w .before .before .before in
-    snapshot-stays (stateAt st) (st .pre .okay) (uptoOf (st .args .upto)) _ (rw (c .before .way .given .1) at (w .reach-of .ensures))
+    snapshot-stays (stateAt st) (st .pre .okay)
+    (uptoOf (st .args .upto)) _ (rw (c .before .way .given .1) at (w .reach-of .ensures))
 
 returns-2 : tie.Need-returns-2
 returns-2 c =

@@ -11,7 +11,8 @@ returns : tie.Need-returns
 unfolding target
 returns c =
     let d = c .before .before in
-    d .log-decided .ensures ∙ ap (λ (u : Upto). target (uptoOf u) (numbersIn (d .before .args .index))) (sym (c .enum-told .given .1))
+    d .log-decided .ensures ∙ ap (λ (u : Upto). target (uptoOf u) (numbersIn (d .before .args .index)))
+    (sym (c .enum-told .given .1))
 
 returns-2 : tie.Need-returns-2
 returns-2 c =

@@ -30,16 +30,19 @@ returns : tie.Need-returns
 returns c =
     let w = c .before .before .before in
     let st = w .before .before .before in
-    trim-stays (stateAt st) (st .pre .okay) (st .args .idx .0) _ (rw (c .before .way .given .1) at (w .reach-of .ensures))
+    trim-stays (stateAt st) (st .pre .okay)
+    (st .args .idx .0) _ (rw (c .before .way .given .1) at (w .reach-of .ensures))
 
 returns-2 : tie.Need-returns-2
 returns-2 c =
     let m = c .before .before in
     let k = m .before .before in
     let st = startOf k in
-    trim-moves (stateAt st) (st .pre .okay) (st .args .idx .0) _ (up k) (m .move-to .result) (m .move-to .last .1 .0) (m .move-to .ensures)
+    trim-moves (stateAt st) (st .pre .okay) (st .args .idx .0) _ (up k) (m .move-to .result) (m .move-to .last .1 .0)
+    (m .move-to .ensures)
 
 pub trim-at-spec : {M : Type 1} → statement M
 trim-at-spec =
     tie.close
-    (tie.spec reach-of-requires (λ c. search needs) (λ c. search needs) move-to-requires returns (λ c. search needs) returns-2)
+    (tie.spec reach-of-requires (λ c. search needs)
+    (λ c. search needs) move-to-requires returns (λ c. search needs) returns-2)

@@ -26,7 +26,12 @@ sub-fold-part : tie.Need-sub-fold-part
 sub-fold-part c =
     let k = knownOf c in
     let st = startOf k in
-    omega (arith, start-low (stateAt k) (st .pre .0 .okay) (st .args .from .0) (k .log-decided .result) (k .log-decided .ensures) (c .before .if1 .taken) (c .least .result) (c .least .ensures), c .least .ensures)
+    omega (
+      arith,
+      start-low (stateAt k) (st .pre .0 .okay) (st .args .from .0) (k .log-decided .result)
+          (k .log-decided .ensures) (c .before .if1 .taken) (c .least .result) (c .least .ensures),
+      c .least .ensures,
+    )
 
 fold-part-requires : tie.Need-fold-part-requires
 fold-part-requires c κs =
@@ -49,7 +54,9 @@ returns c =
     let k = knownOf m in
     let st = startOf k in
     rw (c .tell .ensures)
-    (delta-wrote (stateAt k) (st .args .from .0) (now (st .args .out)) (st .pre .0 .okay) (k .log-decided .result) (k .log-decided .ensures) (m .before .if1 .taken) (m .least .result) (m .least .ensures) (f .fold-part .result) (f .fold-part .last .1 .1 .1 .0) (f .fold-part .ensures))
+    (delta-wrote (stateAt k) (st .args .from .0) (now (st .args .out)) (st .pre .0 .okay) (k .log-decided .result)
+    (k .log-decided .ensures) (m .before .if1 .taken) (m .least .result) (m .least .ensures) (f .fold-part .result)
+    (f .fold-part .last .1 .1 .1 .0) (f .fold-part .ensures))
 
 returns-2 : tie.Need-returns-2
 returns-2 c =
@@ -63,14 +70,19 @@ sub-fold-aside : tie.Need-sub-fold-aside
 sub-fold-aside c =
     let k = leftOf c in
     let st = startOf k in
-    omega (arith, decided-low (numbersIn (st .args .index)) (st .pre .0 .numbers) (k .log-decided .result) (k .log-decided .ensures))
+    omega (
+      arith,
+      decided-low (numbersIn (st .args .index)) (st .pre .0 .numbers) (k .log-decided .result)
+          (k .log-decided .ensures),
+    )
 
 fold-aside-requires : tie.Need-fold-aside-requires
 fold-aside-requires c κs =
     let k = leftOf (c .before) in
     let st = startOf k in
     fold-needs (stateAt k) (st .pre .0 .okay) (k .log-decided .result)
-    (decided-high (numbersIn (st .args .index)) (st .pre .0 .numbers) (k .log-decided .result) (k .log-decided .ensures)) (now (st .args .out)) (st .pre .1)
+    (decided-high (numbersIn (st .args .index)) (st .pre .0 .numbers) (k .log-decided .result)
+    (k .log-decided .ensures)) (now (st .args .out)) (st .pre .1)
 
 returns-3 : tie.Need-returns-3
 returns-3 c =
@@ -79,7 +91,9 @@ returns-3 c =
     let k = leftOf g in
     let st = startOf k in
     rw (c .tell2 .ensures)
-    (complete-wrote (stateAt k) (st .args .from .0) (now (st .args .out)) (st .pre .0 .okay) (k .log-decided .result) (k .log-decided .ensures) (g .before .before .if1 .left) (not-false _ (g .if2 .left)) (f .fold-aside .result) (f .fold-aside .last .1 .1 .1 .1 .0) (f .fold-aside .ensures))
+    (complete-wrote (stateAt k) (st .args .from .0) (now (st .args .out)) (st .pre .0 .okay) (k .log-decided .result)
+    (k .log-decided .ensures) (g .before .before .if1 .left) (not-false _ (g .if2 .left)) (f .fold-aside .result)
+    (f .fold-aside .last .1 .1 .1 .1 .0) (f .fold-aside .ensures))
 
 pub diff-at-spec : {M : Type 1} → statement M
 diff-at-spec =

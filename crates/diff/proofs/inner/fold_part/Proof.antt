@@ -6,7 +6,8 @@ use Rattle.diff.proofs.inner.fold_part.Tie as tie
 fold-out-requires : tie.Need-fold-out-requires
 fold-out-requires c κs =
     let st = c .before .before .before .before .before in
-    rest-needs (st .args .first) (st .args .n) (now (st .args .log)) (now (st .args .out)) (st .pre .1 .0) (st .pre .1 .1)
+    rest-needs (st .args .first) (st .args .n) (now (st .args .log)) (now (st .args .out))
+    (st .pre .1 .0) (st .pre .1 .1)
 
 returns : tie.Need-returns
 returns c =

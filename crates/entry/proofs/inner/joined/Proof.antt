@@ -37,7 +37,8 @@ loop-again c =
     let w = c .next-word .result in (
       omega arith,
       λ h e. l .loop .inv .1 (omega (arith, h, or-add-and (l .loop .all) w, and-le-r (l .loop .all) w))
-          (turn (l .loop .i) (changeAt (now (a .s)) (l .loop .i)) es (entry-cons (l .loop .i) (a .n) (now (a .s)) (omega arith))
+          (turn (l .loop .i) (changeAt (now (a .s)) (l .loop .i)) es
+          (entry-cons (l .loop .i) (a .n) (now (a .s)) (omega arith))
           (c .next-word .ensures (omega (arith, h, or-add-and (l .loop .all) w, and-le-l (l .loop .all) w))) e),
     )
 

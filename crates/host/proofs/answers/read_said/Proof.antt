@@ -11,7 +11,11 @@ returns-2 c = λ (x : Raw). rw (c .before .before .a .given .1) (c .run-said .en
 
 returns-3 : tie.Need-returns-3
 returns-3 c = λ (x : Raw).
-    rw (c .before .before .before .before .a2 .given .1, ← c .before .before .number .ensures, ← c .before .carried .ensures) (c .show-none2 .ensures)
+    rw (
+      c .before .before .before .before .a2 .given .1,
+      ← c .before .before .number .ensures,
+      ← c .before .carried .ensures,
+    ) (c .show-none2 .ensures)
 
 pub read-said-spec : {M : Type 1} → statement M
 read-said-spec =

@@ -10,7 +10,9 @@ returns : tie.Need-returns
 returns c =
     let x = c .before .before .before .before .before .before .before .before .args in
     carry maybeFlushed (c .appended-reply .ensures)
-    (c .before .before .before .append-entry-with-batching .ensures ∙ ap (λ (y : Said). run (append (record { key = x .key; said = y } ∷ [])) true (raw (x .index) (now (x .log)) (now (x .snapshot)))) (c .before .before .before .before .before .entry-said .ensures))
+    (c .before .before .before .append-entry-with-batching .ensures
+    ∙ ap (λ (y : Said). run (append (record { key = x .key; said = y } ∷ [])) true (raw (x .index) (now (x .log))
+    (now (x .snapshot)))) (c .before .before .before .before .before .entry-said .ensures))
 
 pub kotuseraw-inner-append-entry-with-batching-spec : {M : Type 1} → statement M
 kotuseraw-inner-append-entry-with-batching-spec =

@@ -14,7 +14,8 @@ returns c =
     let e = c .before in
     let st = e .before .before .before in
     let x = raw (st .args .index) (now (st .args .log)) (now (st .args .snapshot)) in
-    c .accepted-said .ensures ∙ ap (plain aNumber) (asked-of acceptedOf x (st .pre .okay) (e .accepted .result) (e .accepted .ensures))
+    c .accepted-said .ensures
+    ∙ ap (plain aNumber) (asked-of acceptedOf x (st .pre .okay) (e .accepted .result) (e .accepted .ensures))
 
 pub kotuseraw-inner-get-accepted-idx-spec : {M : Type 1} → statement M
 kotuseraw-inner-get-accepted-idx-spec = tie.close (tie.spec accepted-requires (λ c κs. search needs) returns)

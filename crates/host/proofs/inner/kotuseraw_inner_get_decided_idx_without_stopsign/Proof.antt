@@ -14,7 +14,8 @@ returns c =
     let e = c .before in
     let st = e .before .before .before in
     let x = raw (st .args .index) (now (st .args .log)) (now (st .args .snapshot)) in
-    c .accepted-said .ensures ∙ ap (plain aNumber) (asked-of logDecided x (st .pre .okay) (e .log-decided .result) (e .log-decided .ensures))
+    c .accepted-said .ensures
+    ∙ ap (plain aNumber) (asked-of logDecided x (st .pre .okay) (e .log-decided .result) (e .log-decided .ensures))
 
 pub kotuseraw-inner-get-decided-idx-without-stopsign-spec : {M : Type 1} → statement M
 kotuseraw-inner-get-decided-idx-without-stopsign-spec =

@@ -14,7 +14,8 @@ returns c =
     let e = c .before in
     let st = e .before .before .before in
     let x = raw (st .args .index) (now (st .args .log)) (now (st .args .snapshot)) in
-    c .flag-said .ensures ∙ ap (plain aFlag) (asked-of stopDecided x (st .pre .okay) (e .stop-decided .result) (e .stop-decided .ensures))
+    c .flag-said .ensures ∙ ap (plain aFlag)
+    (asked-of stopDecided x (st .pre .okay) (e .stop-decided .result) (e .stop-decided .ensures))
 
 pub kotuseraw-inner-stopsign-is-decided-spec : {M : Type 1} → statement M
 kotuseraw-inner-stopsign-is-decided-spec = tie.close (tie.spec stop-decided-requires (λ c κs. search needs) returns)

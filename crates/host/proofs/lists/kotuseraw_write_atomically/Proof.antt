@@ -8,7 +8,8 @@ use Rattle.host.proofs.lists.kotuseraw_write_atomically.Tie as tie
 
 returns : tie.Need-returns
 returns c =
-    let x = c .before .before .before .before .before .before .before .before .before .before .before .before .before .before .args in
+    let x = c .before .before .before .before .before .before .before .before .before .before .before .before
+    .before .before .args in
     let asks : ℕ → List Op → Outcome (Unit {0}) = λ n os. run
     (write (lentOf (x .lent) (now (x .entries)) (now (x .incoming))) (map opOf (take n os)))
     (wholeLent (x .lent) (now (x .entries)) (now (x .incoming)))
@@ -17,7 +18,8 @@ returns c =
     (c .before .before .before .before .before .write-atomically .ensures
     ∙ ap (λ (n : ℕ). asks n (c .before .before .before .before .before .before .before .before .nine-of .result))
     (c .before .before .before .before .before .before .before .before .before .counted-in .ensures .0)
-    ∙ ap (asks (countAt (x .ops))) (c .before .before .before .before .before .before .before .before .nine-of .ensures))
+    ∙ ap (asks (countAt (x .ops)))
+    (c .before .before .before .before .before .before .before .before .nine-of .ensures))
 
 pub kotuseraw-write-atomically-spec : {M : Type 1} → statement M
 kotuseraw-write-atomically-spec =

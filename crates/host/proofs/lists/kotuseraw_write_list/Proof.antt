@@ -8,10 +8,13 @@ use Rattle.host.proofs.lists.kotuseraw_write_list.Tie as tie
 
 returns : tie.Need-returns
 returns c =
-    let x = c .before .before .before .before .before .before .before .before .before .before .before .before .before .args in
+    let x = c .before .before .before .before .before .before .before .before .before .before .before
+    .before .before .args in
     carry nothing (c .settled-reply .ensures)
     (c .before .before .before .before .before .write-list .ensures
-    ∙ ap (λ (l : OpList). run (write (lentOf (x .lent) (now (x .entries)) (now (x .incoming))) (opsIn l)) (wholeList (x .lent) (now (x .entries)) (now (x .incoming)) l) (raw (x .index) (now (x .log)) (now (x .snapshot)))) (c .before .before .before .before .before .before .before .before .list-of .ensures))
+    ∙ ap (λ (l : OpList). run (write (lentOf (x .lent) (now (x .entries)) (now (x .incoming))) (opsIn l)) (wholeList
+    (x .lent) (now (x .entries)) (now (x .incoming)) l) (raw (x .index) (now (x .log)) (now (x .snapshot))))
+    (c .before .before .before .before .before .before .before .before .list-of .ensures))
 
 pub kotuseraw-write-list-spec : {M : Type 1} → statement M
 kotuseraw-write-list-spec =

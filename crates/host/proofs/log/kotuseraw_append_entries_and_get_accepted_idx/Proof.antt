@@ -11,7 +11,8 @@ append-entries-and-get-accepted-idx-requires :
 append-entries-and-get-accepted-idx-requires c κs = search needs
 
 returns : tie.Need-returns
-returns c = carry maybeNumber (c .accepted-idx-reply .ensures) (c .before .before .before .append-entries-and-get-accepted-idx .ensures)
+returns c = carry maybeNumber (c .accepted-idx-reply .ensures)
+    (c .before .before .before .append-entries-and-get-accepted-idx .ensures)
 
 pub kotuseraw-append-entries-and-get-accepted-idx-spec : {M : Type 1} → statement M
 kotuseraw-append-entries-and-get-accepted-idx-spec =

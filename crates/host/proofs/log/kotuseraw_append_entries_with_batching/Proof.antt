@@ -4,7 +4,8 @@ use Rattle.words.proofs.Prelude.{needs}
 use Rattle.host.proofs.log.kotuseraw_append_entries_with_batching.Tie as tie
 
 returns : tie.Need-returns
-returns c = carry maybeFlushed (c .appended-reply .ensures) (c .before .before .before .append-entries-with-batching .ensures)
+returns c = carry maybeFlushed (c .appended-reply .ensures)
+    (c .before .before .before .append-entries-with-batching .ensures)
 
 pub kotuseraw-append-entries-with-batching-spec : {M : Type 1} → statement M
 kotuseraw-append-entries-with-batching-spec =

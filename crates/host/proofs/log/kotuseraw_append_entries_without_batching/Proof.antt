@@ -4,7 +4,8 @@ use Rattle.words.proofs.Prelude.{needs}
 use Rattle.host.proofs.log.kotuseraw_append_entries_without_batching.Tie as tie
 
 returns : tie.Need-returns
-returns c = carry aNumber (c .accepted-reply .ensures) (c .before .before .before .append-entries-without-batching .ensures)
+returns c = carry aNumber (c .accepted-reply .ensures)
+    (c .before .before .before .append-entries-without-batching .ensures)
 
 pub kotuseraw-append-entries-without-batching-spec : {M : Type 1} → statement M
 kotuseraw-append-entries-without-batching-spec =

@@ -9,7 +9,9 @@ returns : tie.Need-returns
 returns c =
     let x = c .before .before .before .before .before .before .before .before .before .before .before .args in
     carry nothing (c .settled-reply .ensures)
-    (c .before .before .before .before .before .try-snapshot .ensures ∙ ap (λ (u : Option ℕ). run (snapshot u) true (raw (x .index) (now (x .log)) (now (x .snapshot)))) (c .before .before .before .before .before .before .before .before .upto .ensures))
+    (c .before .before .before .before .before .try-snapshot .ensures
+    ∙ ap (λ (u : Option ℕ). run (snapshot u) true (raw (x .index) (now (x .log)) (now (x .snapshot))))
+    (c .before .before .before .before .before .before .before .before .upto .ensures))
 
 pub kotuseraw-try-snapshot-spec : {M : Type 1} → statement M
 kotuseraw-try-snapshot-spec =

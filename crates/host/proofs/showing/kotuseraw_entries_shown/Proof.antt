@@ -11,7 +11,8 @@ returns c =
     let a = c .before .before .before .before .before .before .before .before .args in
     c .before .before .copy-out .ensures
     ∙ ap (λ (p : List ℕ). copiedOut p (now (a .out)))
-    (c .before .before .before .before .entries-shown .ensures any .0 ∙ c .before .before .before .before .before .reply-of .ensures any (now (a .log)))
+    (c .before .before .before .before .entries-shown .ensures any .0
+    ∙ c .before .before .before .before .before .reply-of .ensures any (now (a .log)))
 
 pub kotuseraw-entries-shown-spec : {M : Type 1} → statement M
 kotuseraw-entries-shown-spec =

@@ -9,7 +9,10 @@ use Rattle.host.proofs.showing.kotuseraw_read_entries.Tie as tie
 returns : tie.Need-returns
 returns c =
     let a = c .before .before .before .before .before .before .before .before .before .before .args in
-    let ends = ap₂ (λ (x y : Bound). copiedOut (partShown (run (query (read x y)) true (raw (a .index) (now (a .log)) (now (a .snapshot))) .answer) (now (a .log))) (now (a .out))) (c .before .before .before .before .before .before .start-of .ensures) (c .before .before .before .before .before .stop-of .ensures) in
+    let ends = ap₂ (λ (x y : Bound). copiedOut
+    (partShown (run (query (read x y)) true (raw (a .index) (now (a .log)) (now (a .snapshot))) .answer)
+    (now (a .log))) (now (a .out))) (c .before .before .before .before .before .before .start-of .ensures)
+    (c .before .before .before .before .before .stop-of .ensures) in
     c .before .before .copy-out .ensures
     ∙ ap (λ (p : List ℕ). copiedOut p (now (a .out))) (c .before .before .before .before .read-entries .ensures .0)
     ∙ ends

@@ -12,7 +12,9 @@ use Rattle.internal_storage.proofs.append.append_entries_and_get_accept
 returns : tie.Need-returns
 returns c =
     let st = c .before .before .before .before .before .before in
-    ap withIndexOnly (ill-formed (append (entriesIn (now (st .args .entries)))) (wholeIn (now (st .args .entries))) (raw (st .args .index) (now (st .args .log)) (now (st .args .snapshot))) (sym (c .before .well-formed .ensures) ∙ not-true _ (c .if1 .taken)))
+    ap withIndexOnly (ill-formed (append (entriesIn (now (st .args .entries))))
+    (wholeIn (now (st .args .entries))) (raw (st .args .index) (now (st .args .log)) (now (st .args .snapshot)))
+    (sym (c .before .well-formed .ensures) ∙ not-true _ (c .if1 .taken)))
 
 append-entries-and-get-accepted-idx-requires : tie.Need-append-entries-and-get-accepted-idx-requires
 append-entries-and-get-accepted-idx-requires c κs =

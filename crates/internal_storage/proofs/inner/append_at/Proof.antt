@@ -13,11 +13,14 @@ stateAt c = raw (c .args .index) (now (c .args .log)) (now (c .args .snapshot))
 
 -- no refusal applies
 pass : (e : tie.After-enum-told)
-    → passes ≡ first (appendGuards (e .before .before .before .before .before .before .args .n) (numbersIn (e .before .before .before .before .before .before .args .index)))
+    → passes ≡ first (appendGuards (e .before .before .before .before .before .before .args .n)
+    (numbersIn (e .before .before .before .before .before .before .args .index)))
 pass e = ap verdictOf (sym (e .enum-told .given .1)) ∙ e .before .before .check-append .ensures
 
 room : (e : tie.After-enum-told)
-    → e .before .before .before .before .before .before .args .index .retained + e .before .before .before .before .before .before .args .index .batched + e .before .before .before .before .before .before .args .n ≤ entryRoom
+    → e .before .before .before .before .before .before .args .index .retained
+    + e .before .before .before .before .before .before .args .index .batched
+    + e .before .before .before .before .before .before .args .n ≤ entryRoom
 room e = append-room (e .before .before .before .before .before .before .args .n)
     (numbersIn (e .before .before .before .before .before .before .args .index)) (pass e)
 
@@ -51,7 +54,8 @@ returns-2 c =
     let p = c .before .before .before in
     let e = p .before .before .before in
     let st = e .before .before .before .before .before .before in
-    rw (c .batch-with .ensures) (append-run (stateAt st) (st .pre .ready .okay) (st .args .n) (now (st .args .entries)) (p .splice .last .0) (st .pre .whole) (p .splice .ensures) (st .pre .fine) (pass e))
+    rw (c .batch-with .ensures) (append-run (stateAt st) (st .pre .ready .okay) (st .args .n) (now (st .args .entries))
+    (p .splice .last .0) (st .pre .whole) (p .splice .ensures) (st .pre .fine) (pass e))
 
 pub append-at-spec : {M : Type 1} → statement M
 append-at-spec =

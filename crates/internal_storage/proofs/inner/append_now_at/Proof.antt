@@ -14,11 +14,14 @@ stateAt c = raw (c .args .index) (now (c .args .log)) (now (c .args .snapshot))
 
 -- no refusal applies
 pass : (e : tie.After-enum-told)
-    → passes ≡ first (appendGuards (e .before .before .before .before .before .before .args .n) (numbersIn (e .before .before .before .before .before .before .args .index)))
+    → passes ≡ first (appendGuards (e .before .before .before .before .before .before .args .n)
+    (numbersIn (e .before .before .before .before .before .before .args .index)))
 pass e = ap verdictOf (sym (e .enum-told .given .1)) ∙ e .before .before .check-append .ensures
 
 room : (e : tie.After-enum-told)
-    → e .before .before .before .before .before .before .args .index .retained + e .before .before .before .before .before .before .args .index .batched + e .before .before .before .before .before .before .args .n ≤ entryRoom
+    → e .before .before .before .before .before .before .args .index .retained
+    + e .before .before .before .before .before .before .args .index .batched
+    + e .before .before .before .before .before .before .args .n ≤ entryRoom
 room e = append-room (e .before .before .before .before .before .before .args .n)
     (numbersIn (e .before .before .before .before .before .before .args .index)) (pass e)
 

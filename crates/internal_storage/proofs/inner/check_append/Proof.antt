@@ -47,7 +47,8 @@ returns-3 c =
     let st = k .before in
     let h : acceptedOf (numbersIn (st .args .index)) + st .args .index .batched + st .args .n ≤ lastIndex = omega
     (arith, k .accepted .ensures, st .pre .inside, c .before .before .if2 .left) in
-    let g : entryRoom < st .args .index .retained + st .args .index .batched + st .args .n = omega (arith, st .pre .room, c .if3 .taken) in
+    let g : entryRoom < st .args .index .retained + st .args .index .batched + st .args .n =
+    omega (arith, st .pre .room, c .if3 .taken) in
     found {gs = appendGuards (st .args .n) (numbersIn (st .args .index))} {v = refuses 1 0}
     (passing (c .before .before .before .if1 .left) (passing (le-ltb _ _ h) (stopping (lt-ltb _ _ g) refl)))
 
@@ -58,7 +59,8 @@ returns-4 c =
     let st = k .before in
     let h : acceptedOf (numbersIn (st .args .index)) + st .args .index .batched + st .args .n ≤ lastIndex = omega
     (arith, k .accepted .ensures, st .pre .inside, c .before .before .if2 .left) in
-    let g : st .args .index .retained + st .args .index .batched + st .args .n ≤ entryRoom = omega (arith, st .pre .room, c .if3 .left) in
+    let g : st .args .index .retained + st .args .index .batched + st .args .n ≤ entryRoom =
+    omega (arith, st .pre .room, c .if3 .left) in
     found {gs = appendGuards (st .args .n) (numbersIn (st .args .index))} {v = passes}
     (passing (c .before .before .before .if1 .left) (passing (le-ltb _ _ h) (passing (le-ltb _ _ g) clear-all)))
 

@@ -13,7 +13,8 @@ use Rattle.reading.proofs.inner.look.Tie as tie
 -- where the newest entry is
 newest-is : (e : tie.After-known-told)
     → NewestIs (e .before .before .before .before .before .before .before .before .args .key)
-    (e .before .before .before .before .before .log-decided .result - e .before .before .before .before .before .before .before .before .args .index .compacted .0)
+    (e .before .before .before .before .before .log-decided .result
+    - e .before .before .before .before .before .before .before .before .args .index .compacted .0)
     (now (e .before .before .before .before .before .before .before .before .args .log))
     (At (e .before .newest .given .0 .0))
 newest-is e = rw (e .before .newest .given .1) at (e .before .before .before .newest-at .ensures)
@@ -25,7 +26,11 @@ sub-n : tie.Need-sub-n
 sub-n c =
     let e = c .before in
     let st = e .before .before .before in
-    omega (arith, e .log-decided .ensures, decided-low (raw (st .args .index) (now (st .args .log)) (now (st .args .snapshot))) (st .pre))
+    omega (
+      arith,
+      e .log-decided .ensures,
+      decided-low (raw (st .args .index) (now (st .args .log)) (now (st .args .snapshot))) (st .pre),
+    )
 
 newest-at-requires : tie.Need-newest-at-requires
 newest-at-requires c κs =
@@ -44,7 +49,8 @@ returns c =
     let e = c .before .before .before in
     let d = e .before .before in
     let st = d .before .before .before in
-    let n : NewestIs (st .args .key) (d .log-decided .result - st .args .index .compacted .0) (now (st .args .log)) Nowhere =
+    let n : NewestIs (st .args .key) (d .log-decided .result - st .args .index .compacted .0)
+    (now (st .args .log)) Nowhere =
     rw (c .before .enum-told .given .1) at (e .newest-at .ensures) in
     c .look-up .ensures
     ∙ look-snapshot (raw (st .args .index) (now (st .args .log)) (now (st .args .snapshot))) (st .pre) (st .args .key)
@@ -54,7 +60,12 @@ said-at-requires : tie.Need-said-at-requires
 said-at-requires c κs =
     let d = c .before .before .before .before .before in
     let st = d .before .before .before in
-    omega (arith, newest-is c .inside, look-inside (raw (st .args .index) (now (st .args .log)) (now (st .args .snapshot))) (st .pre) (st .args .key) (d .log-decided .result) (d .log-decided .ensures))
+    omega (
+      arith,
+      newest-is c .inside,
+      look-inside (raw (st .args .index) (now (st .args .log))
+          (now (st .args .snapshot))) (st .pre) (st .args .key) (d .log-decided .result) (d .log-decided .ensures),
+    )
 
 returns-2 : tie.Need-returns-2
 returns-2 c =

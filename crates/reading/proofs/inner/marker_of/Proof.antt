@@ -6,7 +6,8 @@ use Rattle.reading.proofs.inner.marker_of.Tie as tie
 
 returns : tie.Need-returns
 returns c = c .compacted-marker .ensures
-    ∙ sym (ap (λ (e : IndexEntry). markerAt e (c .before .before .before .args .index)) (c .before .enum-told .given .1))
+    ∙ sym (ap (λ (e : IndexEntry). markerAt e (c .before .before .before .args .index))
+    (c .before .enum-told .given .1))
 
 returns-2 : tie.Need-returns-2
 returns-2 c = sym (ap (λ (e : IndexEntry). markerAt e (c .before .before .args .index)) (c .enum-told2 .given .1))

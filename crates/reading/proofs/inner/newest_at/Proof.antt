@@ -25,14 +25,17 @@ two : (e : tie.Else3 Inv-loop μ-loop)
 two e =
     let l = e .before .before .before .before .before in
     let a = l .before .before .args in
-    newest-back (a .n) (now (a .log)) (a .key) (l .loop .i - 1) (one (e .before .before)) (l .loop .i - 2) (omega arith) (e .if3 .left)
+    newest-back (a .n) (now (a .log)) (a .key) (l .loop .i - 1) (one (e .before .before)) (l .loop .i - 2)
+    (omega arith) (e .if3 .left)
 
 three : (e : tie.Else4 Inv-loop μ-loop)
-    → Still (e .before .before .before .before .before .before .before) (e .before .before .before .before .before .before .before .loop .i - 3)
+    → Still (e .before .before .before .before .before .before .before)
+    (e .before .before .before .before .before .before .before .loop .i - 3)
 three e =
     let l = e .before .before .before .before .before .before .before in
     let a = l .before .before .args in
-    newest-back (a .n) (now (a .log)) (a .key) (l .loop .i - 2) (two (e .before .before)) (l .loop .i - 3) (omega arith) (e .if4 .left)
+    newest-back (a .n) (now (a .log)) (a .key) (l .loop .i - 2) (two (e .before .before)) (l .loop .i - 3)
+    (omega arith) (e .if4 .left)
 
 four : (e : tie.Else5 Inv-loop μ-loop)
     → Still (e .before .before .before .before .before .before .before .before .before)
@@ -40,7 +43,8 @@ four : (e : tie.Else5 Inv-loop μ-loop)
 four e =
     let l = e .before .before .before .before .before .before .before .before .before in
     let a = l .before .before .args in
-    newest-back (a .n) (now (a .log)) (a .key) (l .loop .i - 3) (three (e .before .before)) (l .loop .i - 4) (omega arith) (e .if5 .left)
+    newest-back (a .n) (now (a .log)) (a .key) (l .loop .i - 3) (three (e .before .before)) (l .loop .i - 4)
+    (omega arith) (e .if5 .left)
 
 loop-holds : tie.Need-loop-holds Inv-loop μ-loop
 loop-holds c = record { within = omega arith; newest = refl }
@@ -58,25 +62,29 @@ returns-2 : tie.Need-returns-2 Inv-loop μ-loop
 returns-2 c =
     let l = c .before .before .before in
     let a = l .before .before .args in
-    newest-found (a .n) (now (a .log)) (a .key) (l .loop .i) (l .loop .inv) (l .loop .i - 1) (omega arith) (c .if2 .taken)
+    newest-found (a .n) (now (a .log)) (a .key) (l .loop .i) (l .loop .inv) (l .loop .i - 1)
+    (omega arith) (c .if2 .taken)
 
 returns-3 : tie.Need-returns-3 Inv-loop μ-loop
 returns-3 c =
     let l = c .before .before .before .before .before in
     let a = l .before .before .args in
-    newest-found (a .n) (now (a .log)) (a .key) (l .loop .i - 1) (one (c .before .before)) (l .loop .i - 2) (omega arith) (c .if3 .taken)
+    newest-found (a .n) (now (a .log)) (a .key) (l .loop .i - 1) (one (c .before .before)) (l .loop .i - 2)
+    (omega arith) (c .if3 .taken)
 
 returns-4 : tie.Need-returns-4 Inv-loop μ-loop
 returns-4 c =
     let l = c .before .before .before .before .before .before .before in
     let a = l .before .before .args in
-    newest-found (a .n) (now (a .log)) (a .key) (l .loop .i - 2) (two (c .before .before)) (l .loop .i - 3) (omega arith) (c .if4 .taken)
+    newest-found (a .n) (now (a .log)) (a .key) (l .loop .i - 2) (two (c .before .before)) (l .loop .i - 3)
+    (omega arith) (c .if4 .taken)
 
 returns-5 : tie.Need-returns-5 Inv-loop μ-loop
 returns-5 c =
     let l = c .before .before .before .before .before .before .before .before .before in
     let a = l .before .before .args in
-    newest-found (a .n) (now (a .log)) (a .key) (l .loop .i - 3) (three (c .before .before)) (l .loop .i - 4) (omega arith) (c .if5 .taken)
+    newest-found (a .n) (now (a .log)) (a .key) (l .loop .i - 3) (three (c .before .before)) (l .loop .i - 4)
+    (omega arith) (c .if5 .taken)
 
 pub newest-at-spec : {M : Type 1} → statement M
 newest-at-spec =

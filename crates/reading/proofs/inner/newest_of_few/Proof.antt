@@ -29,7 +29,8 @@ returns-2 : tie.Need-returns-2 Inv-loop μ-loop
 returns-2 c =
     let l = c .before .before .before in
     let a = l .before .args in
-    newest-found (a .n) (now (a .log)) (a .key) (l .loop .i) (l .loop .inv) (l .loop .i - 1) (omega arith) (c .if2 .taken)
+    newest-found (a .n) (now (a .log)) (a .key) (l .loop .i) (l .loop .inv) (l .loop .i - 1)
+    (omega arith) (c .if2 .taken)
 
 pub newest-of-few-spec : {M : Type 1} → statement M
 newest-of-few-spec =

@@ -17,7 +17,8 @@ held : (e : tie.After-known-told)
 held e =
     let k = e .before .before .before in
     let a = k .before .before .args in
-    let h : kindIs (numbersIn (a .index)) (a .to - 1) (Is (e .before .kind .given .0 .0)) = rw (e .before .kind .given .1) at (k .kind-at .ensures) in
+    let h : kindIs (numbersIn (a .index)) (a .to - 1) (Is (e .before .kind .given .0 .0)) =
+    rw (e .before .kind .given .1) at (k .kind-at .ensures) in
     h
 
 returns : tie.Need-returns

@@ -10,7 +10,8 @@ use Rattle.reading.proofs.inner.read_reply.Tie as tie
 
 -- both tests of the bounds, as the model has them
 bounds : (e : tie.After-stop-past) (t : Bool) → (e .before .start-past .result || e .stop-past .result) ≡ t
-    → (startPast (boundOf (e .before .before .before .before .args .from)) || stopPast (boundOf (e .before .before .before .before .args .to))) ≡ t
+    → (startPast (boundOf (e .before .before .before .before .args .from))
+    || stopPast (boundOf (e .before .before .before .before .args .to))) ≡ t
 bounds e t q = ap₂ (λ (a b : Bool). a || b) (sym (e .before .start-past .ensures)) (sym (e .stop-past .ensures)) ∙ q
 
 returns : tie.Need-returns
@@ -29,7 +30,8 @@ start-at-requires c κs = or-left _ _ (bounds (c .before .before) false (c .befo
 stop-at-requires : tie.Need-stop-at-requires
 stop-at-requires c κs =
     let a = c .before .before .before .before .before .before .before .args in
-    or-right (startPast (boundOf (a .from))) (stopPast (boundOf (a .to))) (bounds (c .before .before .before) false (c .before .before .if1 .left))
+    or-right (startPast (boundOf (a .from))) (stopPast (boundOf (a .to)))
+    (bounds (c .before .before .before) false (c .before .before .if1 .left))
 
 read-at-requires : tie.Need-read-at-requires
 read-at-requires c κs = sound-small _ (c .before .before .before .before .before .before .before .before .pre .numbers)

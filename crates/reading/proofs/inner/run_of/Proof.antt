@@ -17,7 +17,8 @@ returns c =
     let k₁ = k₂ .before in
     let st = k₁ .before in
     let a = st .args in
-    run-is (a .index) (a .from) (a .to) _ _ (k₂ .monus2 .result) (e .least .result) (k₃ .monus3 .result) (n .least2 .result) _ _ _ _
+    run-is (a .index) (a .from) (a .to) _ _ (k₂ .monus2 .result) (e .least .result) (k₃ .monus3 .result)
+    (n .least2 .result) _ _ _ _
     (m .marker-of .ensures ∙ marker-at (a .index) (a .from) (a .entry) (st .pre .1)) (k₁ .monus .ensures)
     (k₂ .monus2 .ensures) (e .least .ensures) (k₃ .monus3 .ensures) (n .least2 .ensures)
     (l .accepted .ensures) (d .stop-decided .ensures) (k₄ .monus4 .ensures) (k₅ .monus5 .ensures)

@@ -15,7 +15,8 @@ add-result c =
     omega (arith, eqb-false (k .0 .0 .0) lastWord e)
 
 returns : tie.Need-returns
-returns c = sym (ap (λ (b : Bound). stopAt (boundOf b) (c .before .before .before .before .args .last)) (c .before .before .b .given .1))
+returns c = sym (ap (λ (b : Bound). stopAt (boundOf b) (c .before .before .before .before .args .last))
+    (c .before .before .b .given .1))
 
 returns-2 : tie.Need-returns-2
 returns-2 c = search needs

@@ -18,12 +18,14 @@ returns c =
 returns-2 : tie.Need-returns-2
 unfolding answering
 returns-2 c =
-    let a = c .before .before .before .before .before .before .before .before .before .before .before .before .before .args in
+    let a = c .before .before .before .before .before .before .before .before .before .before .before
+    .before .before .args in
     let made = c .before .before .before .before .before .before .before .before .fresh in
     let x = raw (made .result .index) (made .last .1 .0) (made .last .1 .1 .0) in
     let r = c .before .before .answer .given in
     let e = sym (ap (λ (s : Settled). outcome (settled s) x) (r .1)) ∙ made .ensures in
-    stays (a .n) _ (numberOf (r .0 .0)) (carriedOf (r .0 .0)) x (raw (a .index) (now (a .log)) (now (a .snapshot))) e (c .number .ensures)
+    stays (a .n) _ (numberOf (r .0 .0))
+    (carriedOf (r .0 .0)) x (raw (a .index) (now (a .log)) (now (a .snapshot))) e (c .number .ensures)
 
 pub batch-spec : {M : Type 1} → statement M
 batch-spec =

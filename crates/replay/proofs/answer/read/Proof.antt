@@ -10,7 +10,8 @@ returns : tie.Need-returns
 unfolding answering
 returns c =
     let a = c .before .before .before .args in
-    reads (included (a .from)) (excluded (a .to)) (c .read-reply .result) (raw (a .index) (now (a .log)) (now (a .snapshot))) (c .read-reply .ensures)
+    reads (included (a .from)) (excluded (a .to)) (c .read-reply .result)
+    (raw (a .index) (now (a .log)) (now (a .snapshot))) (c .read-reply .ensures)
 
 pub read-spec : {M : Type 1} → statement M
 read-spec = tie.close (tie.spec (λ c κs. search needs) returns)

@@ -14,7 +14,8 @@ returns c =
     let a = c .before .before .before .before .before .before .before .args in
     let to = c .before .before .before .append-stopsign in
     let last = c .before .get-accepted-idx in
-    let e = to .ensures ∙ ap (λ (g : StopSign). run (appendStop g) true (raw (a .index) (now (a .log)) (now (a .snapshot)))) (c .before .before .before .before .stop-sign .ensures) in
+    let e = to .ensures ∙ ap (λ (g : StopSign). run (appendStop g) true
+    (raw (a .index) (now (a .log)) (now (a .snapshot)))) (c .before .before .before .before .stop-sign .ensures) in
     stops _ (appendSaid (to .result .answer)) (indexSaid (last .result))
     (raw (to .result .index) (now (a .log)) (now (a .snapshot))) _ e (last .ensures) (c .stop-line .ensures)
 

@@ -9,15 +9,18 @@ use Rattle.replay.proofs.answer.stop_line.Tie as tie
 
 returns : tie.Need-returns
 returns c = c .accepted-line .ensures
-    ∙ sym (ap (λ (x : Appended). stopLine (appendSaid x) (indexSaid (c .before .before .before .args .last))) (c .before .enum-told .given .1))
+    ∙ sym (ap (λ (x : Appended). stopLine (appendSaid x) (indexSaid (c .before .before .before .args .last)))
+    (c .before .enum-told .given .1))
 
 returns-2 : tie.Need-returns-2
 returns-2 c = c .accepted-line2 .ensures
-    ∙ sym (ap (λ (x : Appended). stopLine (appendSaid x) (indexSaid (c .before .before .before .args .last))) (c .before .enum-told2 .given .1))
+    ∙ sym (ap (λ (x : Appended). stopLine (appendSaid x) (indexSaid (c .before .before .before .args .last)))
+    (c .before .enum-told2 .given .1))
 
 returns-3 : tie.Need-returns-3
 returns-3 c = ap (λ (n : ℕ). lineOf (Refused n)) (c .number .ensures)
-    ∙ sym (ap (λ (x : Appended). stopLine (appendSaid x) (indexSaid (c .before .before .before .before .args .last))) (c .before .before .answer .given .1))
+    ∙ sym (ap (λ (x : Appended). stopLine (appendSaid x) (indexSaid (c .before .before .before .before .args .last)))
+    (c .before .before .answer .given .1))
 
 pub stop-line-spec : {M : Type 1} → statement M
 stop-line-spec =

@@ -14,7 +14,8 @@ slice-aggregate-parse c = sym (length-take-le _ _ (c .before .before .before .pr
 
 returns-2 : tie.Need-returns-2
 returns-2 c = let a = c .before .before .before .before .args in
-    c .parse .ensures ∙ sym (ap (λ (b : Bool). meaning (come b (a .held .len) (now (a .line)))) (c .before .before .if1 .left))
+    c .parse .ensures
+    ∙ sym (ap (λ (b : Bool). meaning (come b (a .held .len) (now (a .line)))) (c .before .before .if1 .left))
 
 pub command-of-spec : {M : Type 1} → statement M
 command-of-spec = tie.close (tie.spec returns slice-aggregate-parse (λ c κs. search needs) returns-2)

@@ -7,7 +7,8 @@ use Rattle.replay.proofs.feed.end.Tie as tie
 
 returns : tie.Need-returns
 returns c =
-    let s = c .before .before .before .before .before .before .before .before .before .before .before .before .before .before .before .before .before .before in
+    let s = c .before .before .before .before .before .before .before .before .before .before .before .before .before
+    .before .before .before .before .before in
     let a = s .args in
     let finish = c .before .before .before .before .before .before .finish in
     (finish .ensures .0 .1, λ (ls : Lines) st. rw (last-line ls (a .st .held .len) (now (a .line)) (raw (a .st .index) (now (a .log)) (now (a .snapshot))) (take (a .st .used) (now (a .out))) (a .st .held .over) st (c .before .before .before .before .before .before .before .before .before .before .if1 .taken) (s .pre .inside)) (finish .ensures .1 ls st))
@@ -15,8 +16,11 @@ returns c =
 returns-2 : tie.Need-returns-2
 returns-2 c =
     let s = c .before .before .before .before .before .before .before .before in
-    let a = s .args in
-    (s .pre .waiting, λ (ls : Lines) st. rw (no-last-line ls (a .st .held .len) (now (a .line)) (raw (a .st .index) (now (a .log)) (now (a .snapshot))) (take (a .st .used) (now (a .out))) (a .st .held .over) st (c .if1 .left)) st)
+    let a = s .args in (
+      s .pre .waiting,
+      λ (ls : Lines) st. rw (no-last-line ls (a .st .held .len) (now (a .line)) (raw (a .st .index) (now
+          (a .log)) (now (a .snapshot))) (take (a .st .used) (now (a .out))) (a .st .held .over) st (c .if1 .left)) st,
+    )
 
 pub end-spec : {M : Type 1} → statement M
 end-spec =

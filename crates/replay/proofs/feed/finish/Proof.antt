@@ -8,23 +8,28 @@ use Rattle.replay.proofs.{Inputs.finished, feed.finish.Statement.statem
 use Rattle.replay.proofs.feed.finish.Tie as tie
 
 step-requires : tie.Need-step-requires
-step-requires c κs = let s = c .before .before .before .before .before .before .before .before .before .before .before in
+step-requires c κs = let s =
+    c .before .before .before .before .before .before .before .before .before .before .before in
     (omega (arith, c .before .before .before .before .room .ensures, next-low lastStart (s .args .st .used), s .pre .room), s .pre .words)
 
 returns : tie.Need-returns
 returns c =
-    let s = c .before .before .before .before .before .before .before .before .before .before .before .before .before .before .before .before .before .before .before in
+    let s = c .before .before .before .before .before .before .before .before .before .before .before .before .before
+    .before .before .before .before .before .before in
     let a = s .args in
     let done = c .before .before .before .before .before .before .before .step in
-    let room = c .before .before .before .before .before .before .before .before .before .before .before .before .room in
+    let room =
+    c .before .before .before .before .before .before .before .before .before .before .before .before .room in
     let x = raw (a .st .index) (now (a .log)) (now (a .snapshot)) in
     let came = come (a .st .held .over) (a .st .held .len) (now (a .line)) in
     let answered =
     done .ensures .1
     ∙ ap (λ (k : Command). after (take (room .result) (now (a .out))) (answering k x))
     (c .before .before .before .before .before .before .before .before .before .before .before .command-of .ensures)
-    ∙ ap (λ (n : ℕ). after (take n (now (a .out))) (answering (meaning came) x)) (room .ensures) in
-    ((omega arith, omega (arith, done .ensures .0, room .ensures, next-low lastStart (a .st .used))), λ (ls : Lines) st. finished ls x came (a .st .used) (now (a .out)) st _ _ (now (a .line)) answered)
+    ∙ ap (λ (n : ℕ). after (take n (now (a .out))) (answering (meaning came) x)) (room .ensures) in (
+      (omega arith, omega (arith, done .ensures .0, room .ensures, next-low lastStart (a .st .used))),
+      λ (ls : Lines) st. finished ls x came (a .st .used) (now (a .out)) st _ _ (now (a .line)) answered,
+    )
 
 pub finish-spec : {M : Type 1} → statement M
 finish-spec =

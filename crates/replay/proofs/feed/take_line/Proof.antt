@@ -6,9 +6,11 @@ use Rattle.replay.proofs.feed.take_line.Tie as tie
 
 returns : tie.Need-returns
 returns c =
-    let s = c .before .before .before .before .before .before .before .before .before .before .before .before .before .before .before .before .before .before .before .before .before in
+    let s = c .before .before .before .before .before .before .before .before .before .before .before .before .before
+    .before .before .before .before .before .before .before .before in
     let a = s .args in
-    let keep = c .before .before .before .before .before .before .before .before .before .before .before .before .before .before .keep in
+    let keep = c .before .before .before .before .before .before .before .before .before .before .before .before
+    .before .before .keep in
     let finish = c .before .before .before .before .before .before .finish in
     ((omega (arith, finish .ensures .0 .0, keep .kept), finish .ensures .0 .1), λ (ls : Lines) st. rw (c .before .before .before .before .before .before .before .before .before .before .before .if1 .taken) (finish .ensures .1 (restWith (now (a .bytes)) ls) (kept ls _ _ _ _ _ _ _ _ _ (now (a .out)) (now (a .bytes)) (keep .ensures .0 .2) (keep .ensures .0 .1) (s .pre .buffer) (keep .ensures .1) st)))
 

@@ -11,11 +11,14 @@ use Rattle.replay.proofs.feed.take_part.Tie as tie
 
 abbrev Inv-loop : tie.InvT-loop
 Inv-loop part line₀ log₀ snapshot₀ out₀ s₀ at₀ line log snapshot out s at =
-    ((at ≤ length part + 1) × (s .held .len ≤ length line) × (s .used ≤ outRoom) × (length out ≡ outRoom) × (length log ≡ logWords) × (length line ≡ inputLine)
+    ((at ≤ length part + 1) × (s .held .len ≤ length line) × (s .used ≤ outRoom) × (length out ≡ outRoom)
+    × (length log ≡ logWords) × (length line ≡ inputLine)
     × (length line ≡ length line₀) × (length log ≡ length log₀) × (length snapshot ≡ length snapshot₀)
     × (length out ≡ length out₀))
-    × ((ls : Lines) → Reached ls (raw (s₀ .index) log₀ snapshot₀) (come (s₀ .held .over) (s₀ .held .len) line₀) (take (s₀ .used) out₀)
-    → Reached (linesFrom ls (take at part)) (raw (s .index) log snapshot) (come (s .held .over) (s .held .len) line) (take (s .used) out))
+    × ((ls : Lines) → Reached ls (raw (s₀ .index) log₀ snapshot₀) (come (s₀ .held .over) (s₀ .held .len) line₀)
+    (take (s₀ .used) out₀)
+    → Reached (linesFrom ls (take at part)) (raw (s .index) log snapshot) (come (s .held .over) (s .held .len) line)
+    (take (s .used) out))
 
 abbrev μ-loop : tie.MeasureT-loop
 μ-loop part line₀ log₀ snapshot₀ out₀ s₀ at₀ line log snapshot out s at = length part + 1 - at
@@ -37,8 +40,10 @@ loop-less c = let g = simp (length-take, length-drop) at
 loop-again : tie.Need-loop-again Inv-loop μ-loop
 loop-again c =
     let part = now (c .before .before .before .before .before .before .before .before .before .before .before .before .before .before .before .before .before .before .before .before .before .before .before .args .part) in
-    let turn = c .before .before .before .before .before .before .before .before .before .before .before .before .before .before .before .before .before .loop in
-    let gap = c .before .before .before .before .before .before .before .before .before .before .before .before .before .before .gap in
+    let turn = c .before .before .before .before .before .before .before .before .before .before .before .before .before
+    .before .before .before .before .loop in
+    let gap = c .before .before .before .before .before .before .before .before .before .before .before .before
+    .before .before .gap in
     let line = c .before .before .before .before .before .before .before .before .take-line in
     let g = simp (length-take, length-drop) at (gap .ensures .0 .0) in (
       omega (arith, g, turn .inv .0, line .ensures .0, line .kept, c .before .before .before .before .before .before .before .before .before .before .before .before .before .before .before .before .loop-test .taken),

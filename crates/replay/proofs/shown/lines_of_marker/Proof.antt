@@ -7,13 +7,16 @@ use Rattle.replay.proofs.shown.lines_of_marker.Statement.{statement}
 use Rattle.replay.proofs.shown.lines_of_marker.Tie as tie
 
 returns : tie.Need-returns
-returns c = λ (snapshot : List ℕ). sym (ap (λ (m : Marker). oneIf (given (markerSaid snapshot m))) (c .enum-told .given .1))
+returns c = λ (snapshot : List ℕ). sym
+    (ap (λ (m : Marker). oneIf (given (markerSaid snapshot m))) (c .enum-told .given .1))
 
 returns-2 : tie.Need-returns-2
-returns-2 c = λ (snapshot : List ℕ). sym (ap (λ (m : Marker). oneIf (given (markerSaid snapshot m))) (c .enum-told2 .given .1))
+returns-2 c = λ (snapshot : List ℕ). sym
+    (ap (λ (m : Marker). oneIf (given (markerSaid snapshot m))) (c .enum-told2 .given .1))
 
 returns-3 : tie.Need-returns-3
-returns-3 c = λ (snapshot : List ℕ). sym (ap (λ (m : Marker). oneIf (given (markerSaid snapshot m))) (c .enum-told3 .given .1))
+returns-3 c = λ (snapshot : List ℕ). sym
+    (ap (λ (m : Marker). oneIf (given (markerSaid snapshot m))) (c .enum-told3 .given .1))
 
 pub lines-of-marker-spec : {M : Type 1} → statement M
 lines-of-marker-spec =

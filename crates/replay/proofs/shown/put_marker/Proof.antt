@@ -8,15 +8,21 @@ use Rattle.replay.proofs.shown.put_marker.Tie as tie
 returns : tie.Need-returns
 returns c =
     let a = c .before .before .before .args in
-    let front = take (a .at) (now (a .out)) in
-    (omega arith, λ (snapshot : List ℕ). sym (append-nil front) ∙ sym (ap (λ (m : Marker). front ++ markerText (markerSaid snapshot m)) (c .enum-told .given .1)))
+    let front = take (a .at) (now (a .out)) in (
+      omega arith,
+      λ (snapshot : List ℕ). sym (append-nil front)
+          ∙ sym (ap (λ (m : Marker). front ++ markerText (markerSaid snapshot m)) (c .enum-told .given .1)),
+    )
 
 returns-2 : tie.Need-returns-2
 returns-2 c =
     let b = c .before .before in
     let a = b .before .before .before .before .before .before .args in
-    let front = take (a .at) (now (a .out)) in
-    (b .put-line .ensures .0, λ (snapshot : List ℕ). b .put-line .ensures .1 ∙ sym (ap (λ (m : Marker). front ++ markerText (markerSaid snapshot m)) (b .before .before .before .marker .given .1)))
+    let front = take (a .at) (now (a .out)) in (
+      b .put-line .ensures .0,
+      λ (snapshot : List ℕ). b .put-line .ensures .1 ∙ sym (ap (λ (m : Marker). front
+          ++ markerText (markerSaid snapshot m)) (b .before .before .before .marker .given .1)),
+    )
 
 returns-3 : tie.Need-returns-3
 returns-3 c =

@@ -19,7 +19,8 @@ use Rattle.text.proofs.inner.put_run.Reads as put-run-reads
 -- the entries shown are at most the log's
 few : (c : lts.After-entries-of (entries-of-reads.Asked, entries-of-reads.Learnt, lines-of-marker-reads.Asked, lines-of-marker-reads.Learnt, one-if-reads.Asked, one-if-reads.Learnt, put-line-reads.Asked, put-line-reads.Learnt, put-marker-reads.Asked, put-marker-reads.Learnt, put-run-reads.Asked, put-run-reads.Learnt, put-stop-reads.Asked, put-stop-reads.Learnt) reads.Pre reads.Post) → length (now (c .entries-of .result)) ≤ logWords
 few c = let a = c .before .before .before .args in
-    rw (c .entries-of .ensures .0) (omega (arith, part-few (a .run .first) (a .run .count) (now (a .log)), c .before .before .before .pre .1))
+    rw (c .entries-of .ensures .0)
+    (omega (arith, part-few (a .run .first) (a .run .count) (now (a .log)), c .before .before .before .pre .1))
 
 add-lines : tie.Need-add-lines
 add-lines c = let m = c .lines-of-marker .ensures [] in
@@ -38,7 +39,8 @@ put-stop-requires c κs = omega
 
 returns : tie.Need-returns
 returns c =
-    let e = c .before .before .before .before .before .before .before .before .before .before .before .before .before .before .before .before .before .before in
+    let e = c .before .before .before .before .before .before .before .before .before .before .before .before .before
+    .before .before .before .before .before in
     let a = e .before .before .before .args in (
       omega (arith, few (c .before .before .before .before .before .before .before .before .before .before .before .before .before .before .before .before .before .before), c .before .before .before .before .before .before .before .before .before .before .before .before .before .before .put-line .ensures .0, c .before .before .before .before .before .before .before .before .before .before .before .before .before .before .put-line .kept, c .before .before .before .before .before .before .before .before .before .before .put-marker .ensures .0, c .before .before .before .before .before .before .before .before .before .before .put-marker .kept, c .before .before .before .before .before .before .before .before .before .before .before .before .before .before .before .before .before .before .before .before .before .pre, c .before .before .before .before .before .before .put-run .ensures .0, c .before .before .put-stop .ensures .0),
       λ (snapshot : List ℕ). shown-is (take (a .at) (now (a .out))) (a .run) (a .index) (now (a .log)) snapshot

@@ -4,7 +4,8 @@ use Rattle.snapshot.proofs.inner.fold_aside.Statement.{statement}
 use Rattle.snapshot.proofs.inner.fold_aside.Tie as tie
 
 fold-out-requires : tie.Need-fold-out-requires
-fold-out-requires c κs = rw (c .before .before .before .copy-words .ensures) (c .before .before .before .before .before .before .before .before .pre)
+fold-out-requires c κs = rw (c .before .before .before .copy-words .ensures)
+    (c .before .before .before .before .before .before .before .before .pre)
 
 returns : tie.Need-returns
 returns c = rw (c .before .before .before .before .before .before .before .copy-words .ensures) at (c .before .before .before .fold-out .ensures)

@@ -7,7 +7,8 @@ use Rattle.snapshot.proofs.inner.fold_out.Tie as tie
 fold-onto-requires : tie.Need-fold-onto-requires
 fold-onto-requires c κs =
     let st = c .before .before .before .before in
-    aside-needs (st .args .kept) (now (st .args .scratch)) (st .args .n) (now (st .args .entries)) (now (st .args .out)) (st .pre)
+    aside-needs (st .args .kept) (now (st .args .scratch)) (st .args .n) (now (st .args .entries))
+    (now (st .args .out)) (st .pre)
 
 returns : tie.Need-returns
 returns c =
@@ -22,7 +23,9 @@ returns-2 c =
     let m = g .before .before .before .before in
     let f = m .before .before .before .before in
     let st = f .before .before .before .before .before in
-    rw (g .copy-words .ensures) (out-written (st .args .kept) (now (st .args .scratch)) (st .args .n) (now (st .args .entries)) (now (st .args .out)) (st .pre) (f .fold-onto .result) (f .fold-onto .last .0) (f .fold-onto .ensures) _ (m .r .given .1))
+    rw (g .copy-words .ensures) (out-written (st .args .kept) (now (st .args .scratch)) (st .args .n)
+    (now (st .args .entries)) (now (st .args .out)) (st .pre) (f .fold-onto .result) (f .fold-onto .last .0)
+    (f .fold-onto .ensures) _ (m .r .given .1))
 
 pub fold-out-spec : {M : Type 1} → statement M
 fold-out-spec =

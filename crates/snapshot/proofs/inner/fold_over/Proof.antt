@@ -12,14 +12,16 @@ startOf f = f .before .before .before .before .before .before .before .before .b
 -- the scratch words are the snapshot's
 folded-is : (f : tie.After-fold-onto)
     → FoldIs (length (now (startOf f .args .snapshot)))
-    (foldOnto (entriesOf (startOf f .args .kept) (now (startOf f .args .snapshot))) (entriesOf (startOf f .args .n) (now (startOf f .args .entries)))) (f .fold-onto .result) (f .fold-onto .last .0)
+    (foldOnto (entriesOf (startOf f .args .kept) (now (startOf f .args .snapshot))) (entriesOf (startOf f .args .n)
+    (now (startOf f .args .entries)))) (f .fold-onto .result) (f .fold-onto .last .0)
 folded-is f = rw (f .before .before .before .copy-words .ensures) at (f .fold-onto .ensures)
 
 fold-onto-requires : tie.Need-fold-onto-requires
 fold-onto-requires c κs =
     let st = c .before .before .before .before .before .before .before .before in
     rw (c .before .before .copy-words .ensures)
-    (aside-needs (st .args .kept) (now (st .args .snapshot)) (st .args .n) (now (st .args .entries)) (now (st .args .snapshot)) (st .pre .0))
+    (aside-needs (st .args .kept) (now (st .args .snapshot)) (st .args .n) (now (st .args .entries))
+    (now (st .args .snapshot)) (st .pre .0))
 
 returns : tie.Need-returns
 returns c =

@@ -16,7 +16,12 @@ said-at-requires : tie.Need-said-at-requires
 said-at-requires c κs =
     let f = c .before .before .before in
     let st = f .before .before in
-    omega (arith, st .pre .laid .fits, spot-inside (st .args .n) (now (st .args .s)) (st .args .key) _ (sym (c .before .spot .given .1) ∙ f .search .ensures))
+    omega (
+      arith,
+      st .pre .laid .fits,
+      spot-inside (st .args .n) (now (st .args .s))
+          (st .args .key) _ (sym (c .before .spot .given .1) ∙ f .search .ensures),
+    )
 
 returns-2 : tie.Need-returns-2
 returns-2 c =

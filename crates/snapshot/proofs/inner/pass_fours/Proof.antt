@@ -17,8 +17,11 @@ loop-holds c = (omega arith, passed-none _ _)
 loop-again : tie.Need-loop-again Inv-loop μ-loop
 loop-again c =
     let l = c .before .before .before in
-    let a = l .before .args in
-    (omega arith, pass-four (a .n) (now (a .s)) (a .key) (l .loop .i) (l .before .pre .rises) (l .loop .inv .1) (omega arith) (c .if2 .left))
+    let a = l .before .args in (
+      omega arith,
+      pass-four (a .n) (now (a .s)) (a .key) (l .loop .i) (l .before .pre .rises) (l .loop .inv .1)
+          (omega arith) (c .if2 .left),
+    )
 
 returns : tie.Need-returns Inv-loop μ-loop
 returns c = c .before .loop .inv

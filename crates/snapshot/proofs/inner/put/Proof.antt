@@ -8,13 +8,19 @@ mul-splice : tie.Need-mul-splice
 mul-splice c =
     let k = c .before .before .before .before in
     let st = k .before .before .before .before .before in
-    omega (arith, spot-inside (st .args .n) (now (st .args .s)) _ _ (sym (c .before .before .spot .given .1) ∙ k .search .ensures), st .pre .0 .laid .fits)
+    omega (
+      arith,
+      spot-inside (st .args .n)
+          (now (st .args .s)) _ _ (sym (c .before .before .spot .given .1) ∙ k .search .ensures),
+      st .pre .0 .laid .fits,
+    )
 
 splice-requires : tie.Need-splice-requires
 splice-requires c κs =
     let k = c .before .before .before .before in
     let st = k .before .before .before .before .before in
-    let i = spot-inside (st .args .n) (now (st .args .s)) _ _ (sym (c .before .before .spot .given .1) ∙ k .search .ensures) in
+    let i = spot-inside (st .args .n)
+    (now (st .args .s)) _ _ (sym (c .before .before .spot .given .1) ∙ k .search .ensures) in
     (omega arith, (omega arith, (omega arith, st .pre .0 .laid .zeros)))
 
 returns : tie.Need-returns
@@ -28,7 +34,12 @@ mul-splice-2 : tie.Need-mul-splice-2
 mul-splice-2 c =
     let k = c .before .before .before .before .before in
     let st = k .before .before .before .before .before in
-    omega (arith, before-inside (now (st .args .s)) (st .args .n) (now (st .args .item)) (st .pre .0) (st .pre .1) _ (sym (c .before .before .before .spot2 .given .1) ∙ k .search .ensures), st .pre .0 .laid .fits)
+    omega (
+      arith,
+      before-inside (now (st .args .s)) (st .args .n) (now (st .args .item)) (st .pre .0)
+          (st .pre .1) _ (sym (c .before .before .before .spot2 .given .1) ∙ k .search .ensures),
+      st .pre .0 .laid .fits,
+    )
 
 splice-requires-2 : tie.Need-splice-requires-2
 splice-requires-2 c κs =
@@ -43,14 +54,17 @@ returns-2 c =
     let k = c .before .before .before .before .before .before .before in
     let st = k .before .before .before .before .before in
     rw (c .before .before .splice .ensures)
-    (put-at (now (st .args .s)) (st .args .n) (now (st .args .item)) (st .pre .0) (st .pre .1) _ (sym (c .before .before .before .before .before .spot .given .1) ∙ k .search .ensures))
+    (put-at (now (st .args .s)) (st .args .n) (now (st .args .item)) (st .pre .0)
+    (st .pre .1) _ (sym (c .before .before .before .before .before .spot .given .1) ∙ k .search .ensures))
 
 returns-3 : tie.Need-returns-3
 returns-3 c =
     let k = c .before .before .before .before .before .before .before .before in
     let st = k .before .before .before .before .before in
     rw (c .before .before .splice2 .ensures)
-    (put-before (now (st .args .s)) (st .args .n) (now (st .args .item)) (st .pre .0) (st .pre .1) _ (sym (c .before .before .before .before .before .before .spot2 .given .1) ∙ k .search .ensures) (c .before .before .before .before .if1 .left))
+    (put-before (now (st .args .s)) (st .args .n) (now (st .args .item)) (st .pre .0)
+    (st .pre .1) _ (sym (c .before .before .before .before .before .before .spot2 .given .1) ∙ k .search .ensures)
+    (c .before .before .before .before .if1 .left))
 
 pub put-spec : {M : Type 1} → statement M
 put-spec =

@@ -34,13 +34,15 @@ returns-2 : tie.Need-returns-2 Inv-loop μ-loop
 returns-2 c =
     let l = c .before .before .before .before in
     let a = l .before .before .before .args in
-    search-at (a .n) (now (a .s)) (a .key) (l .loop .i) (l .loop .inv .1) (omega arith) (c .before .if2 .taken) (c .if3 .taken)
+    search-at (a .n) (now (a .s)) (a .key) (l .loop .i) (l .loop .inv .1) (omega arith)
+    (c .before .if2 .taken) (c .if3 .taken)
 
 returns-3 : tie.Need-returns-3 Inv-loop μ-loop
 returns-3 c =
     let l = c .before .before .before .before in
     let a = l .before .before .before .args in
-    search-before (a .n) (now (a .s)) (a .key) (l .loop .i) (l .loop .inv .1) (omega arith) (c .before .if2 .taken) (c .if3 .left)
+    search-before (a .n) (now (a .s)) (a .key) (l .loop .i) (l .loop .inv .1) (omega arith)
+    (c .before .if2 .taken) (c .if3 .left)
 
 pub search-spec : {M : Type 1} → statement M
 search-spec =

@@ -6,8 +6,10 @@ use Rattle.state_cache.proofs.inner.reload.Tie as tie
 
 cut-out-requires : tie.Need-cut-out-requires
 cut-out-requires c κs =
-    let st = c .before .before .before .before .before .before in
-    (omega (arith, st .pre .numbers .room), (omega (arith, st .pre .log .fits, st .pre .log .long), st .pre .log .zeros))
+    let st = c .before .before .before .before .before .before in (
+      omega (arith, st .pre .numbers .room),
+      (omega (arith, st .pre .log .fits, st .pre .log .long), st .pre .log .zeros),
+    )
 
 accepted-requires : tie.Need-accepted-requires
 accepted-requires c κs =

@@ -7,7 +7,8 @@ use Rattle.model.specs.{Numbers.Numbers, Numbers.endOf, Sync.partNumberGuards}
 use Rattle.state_cache.specs.State.{numbersIn, oneIf}
 use Rattle.state_cache.proofs.Small.{one-le}
 use Rattle.sync.specs.Requests.{plainBy, numbersBy}
-use Rattle.sync.proofs.Checking.{past-is, outside-is, above-is, kept-few, no-room, room, above-accepted, not-above}
+use Rattle.sync.proofs.Checking.{past-is, outside-is, above-is, kept-few, no-room, room, above-accepted}
+use Rattle.sync.proofs.Checking.{not-above}
 use Rattle.sync.proofs.inner.check_sync.Statement.{statement}
 use Rattle.sync.proofs.inner.check_sync.Tie as tie
 
@@ -58,10 +59,13 @@ left2 : (e : tie.Else2) → Left 2 (from2 e)
 unfolding partNumberGuards
 left2 e = left1 (e .before .before) ∙ first-goes-on 5 _ _ _ (le-ltb _ _ (e .if2 .left))
 
-inside : (e : tie.Else3) → (plainBy (startOf (from3 e) .args .log-sync .«decided_snapshot») && (ltb (startOf (from3 e) .args .log-sync .«sync_idx» .0) (numbersAt (from3 e) .compacted) || ltb (endOf (numbersAt (from3 e))) (startOf (from3 e) .args .log-sync .«sync_idx» .0))) ≡ false
+inside : (e : tie.Else3) → (plainBy (startOf (from3 e) .args .log-sync .«decided_snapshot»)
+    && (ltb (startOf (from3 e) .args .log-sync .«sync_idx» .0) (numbersAt (from3 e) .compacted)
+    || ltb (endOf (numbersAt (from3 e))) (startOf (from3 e) .args .log-sync .«sync_idx» .0))) ≡ false
 inside e =
     let k = from3 e in
-    outside-is _ (numbersAt k) _ _ _ (askedAt k .is-plain .ensures) (k .before .before .before .before .end .ensures) false (e .if3 .left)
+    outside-is _ (numbersAt k) _ _ _ (askedAt k .is-plain .ensures)
+    (k .before .before .before .before .end .ensures) false (e .if3 .left)
 
 left3 : (e : tie.Else3) → Left 3 (from3 e)
 unfolding partNumberGuards
@@ -74,12 +78,14 @@ left4 e = left3 (e .before) ∙ first-goes-on 10 _ _ _ (e .if4 .left)
 -- the accepted index that the sync leaves, and the batch after it
 abbrev lastAt : tie.After-stop-decided → ℕ
 lastAt k =
-    startOf k .args .log-sync .«sync_idx» .0 + startOf k .args .n + oneIf (startOf k .args .log-sync .«stop_held») + numbersAt k .batched
+    startOf k .args .log-sync .«sync_idx» .0 + startOf k .args .n + oneIf (startOf k .args .log-sync .«stop_held»)
+    + numbersAt k .batched
 
 indexed : (e : tie.Else5) → ltb lastIndex (lastAt (from5 e)) ≡ false
 indexed e =
     let k = from5 e in
-    past-is _ _ _ _ (startOf k .args .log-sync .«stop_held») _ (k .before .before .one-if .ensures) (e .before .past-last .ensures) ∙ e .if5 .left
+    past-is _ _ _ _ (startOf k .args .log-sync .«stop_held») _ (k .before .before .one-if .ensures)
+    (e .before .past-last .ensures) ∙ e .if5 .left
 
 left5 : (e : tie.Else5) → Left 5 (from5 e)
 unfolding partNumberGuards
@@ -96,19 +102,24 @@ unfolding partNumberGuards
 left6 e =
     let k = from6 e in
     left5 (e .before .before)
-    ∙ first-goes-on 1 _ _ _ (room (startOf k .args .log-sync .«sync_idx» .0) (startOf k .args .n) (e .before .kept-of .result) _ _ (numbersAt k) (startOf k .pre) (askedAt k .is-plain .ensures) (e .before .kept-of .ensures) (few (e .before)) (e .if6 .left))
+    ∙ first-goes-on 1 _ _ _ (room (startOf k .args .log-sync .«sync_idx» .0) (startOf k .args .n)
+    (e .before .kept-of .result) _ _ (numbersAt k) (startOf k .pre) (askedAt k .is-plain .ensures)
+    (e .before .kept-of .ensures) (few (e .before)) (e .if6 .left))
 
 left7 : (e : tie.Else7) → Left 7 (from7 e)
 unfolding partNumberGuards
 left7 e =
     let k = from7 e in
     left6 (e .before)
-    ∙ first-goes-on 6 _ _ _ (not-above (startOf k .args .log-sync .«sync_idx» .0) (startOf k .args .n) (startOf k .args .decided-idx .0) _ _ (startOf k .args .log-sync .«stop_held») (numbersAt k) (k .before .before .one-if .ensures) (k .before .larger .ensures) (e .if7 .left))
+    ∙ first-goes-on 6 _ _ _ (not-above (startOf k .args .log-sync .«sync_idx» .0) (startOf k .args .n)
+    (startOf k .args .decided-idx .0) _ _ (startOf k .args .log-sync .«stop_held») (numbersAt k)
+    (k .before .before .one-if .ensures) (k .before .larger .ensures) (e .if7 .left))
 
 returns : tie.Need-returns
 unfolding partNumberGuards
 returns c = let k = c .before in
-    found {gs = guardsAt k} (stopping (sym (k .stop-decided .ensures) ∙ c .if1 .taken) (k .before .before .before .accepted .ensures))
+    found {gs = guardsAt k} (stopping (sym (k .stop-decided .ensures) ∙ c .if1 .taken)
+    (k .before .before .before .accepted .ensures))
 
 returns-2 : tie.Need-returns-2
 unfolding partNumberGuards
@@ -122,7 +133,9 @@ returns-3 c =
     let e = c .before in
     let k = from2 e in
     found {gs = drop 2 (guardsAt k)}
-    (stopping (outside-is _ (numbersAt k) _ _ _ (askedAt k .is-plain .ensures) (k .before .before .before .before .end .ensures) true (c .if3 .taken)) (k .before .before .before .before .end .ensures))
+    (stopping (outside-is _ (numbersAt k) _ _ _ (askedAt k .is-plain .ensures)
+    (k .before .before .before .before .end .ensures) true (c .if3 .taken))
+    (k .before .before .before .before .end .ensures))
     ∙ sym (left2 e)
 
 returns-4 : tie.Need-returns-4
@@ -148,7 +161,8 @@ returns-5 c =
     let e = m .before in
     let k = from4 e in
     found {gs = drop 4 (guardsAt k)}
-    (stopping (past-is _ _ _ _ (startOf k .args .log-sync .«stop_held») _ (k .before .before .one-if .ensures) (m .past-last .ensures) ∙ c .if5 .taken) (k .before .before .before .accepted .ensures))
+    (stopping (past-is _ _ _ _ (startOf k .args .log-sync .«stop_held») _ (k .before .before .one-if .ensures)
+    (m .past-last .ensures) ∙ c .if5 .taken) (k .before .before .before .accepted .ensures))
     ∙ sym (left4 e)
 
 add-if6 : tie.Need-add-if6
@@ -164,7 +178,9 @@ returns-6 c =
     let e = m .before in
     let k = from5 e in
     found {gs = drop 5 (guardsAt k)}
-    (stopping (no-room (startOf k .args .log-sync .«sync_idx» .0) (startOf k .args .n) (m .kept-of .result) _ _ (numbersAt k) (startOf k .pre) (askedAt k .is-plain .ensures) (m .kept-of .ensures) (few m) (c .if6 .taken)) refl)
+    (stopping (no-room (startOf k .args .log-sync .«sync_idx» .0) (startOf k .args .n)
+    (m .kept-of .result) _ _ (numbersAt k) (startOf k .pre) (askedAt k .is-plain .ensures) (m .kept-of .ensures)
+    (few m) (c .if6 .taken)) refl)
     ∙ sym (left5 e)
 
 add-then : tie.Need-add-then
@@ -183,7 +199,9 @@ returns-7 c =
     let k = from6 e in
     found {gs = drop 6 (guardsAt k)}
     (stopping
-    (above-accepted (startOf k .args .log-sync .«sync_idx» .0) (startOf k .args .n) (startOf k .args .decided-idx .0) _ _ (startOf k .args .log-sync .«stop_held») (numbersAt k) (k .before .before .one-if .ensures) (k .before .larger .ensures) (c .if7 .taken))
+    (above-accepted (startOf k .args .log-sync .«sync_idx» .0) (startOf k .args .n)
+    (startOf k .args .decided-idx .0) _ _ (startOf k .args .log-sync .«stop_held») (numbersAt k)
+    (k .before .before .one-if .ensures) (k .before .larger .ensures) (c .if7 .taken))
     (omega (arith, k .before .before .one-if .ensures)))
     ∙ sym (left6 e)
 
@@ -193,7 +211,8 @@ returns-8 c =
     let e = c .before in
     let k = from7 e in
     found {gs = drop 7 (guardsAt k)}
-    (stopping (above-is _ (startOf k .args .decided-idx .0) _ (numbersAt k) _ _ (askedAt k .is-plain .ensures) (k .before .larger .ensures) true (c .if8 .taken)) (k .before .larger .ensures))
+    (stopping (above-is _ (startOf k .args .decided-idx .0) _ (numbersAt k) _ _ (askedAt k .is-plain .ensures)
+    (k .before .larger .ensures) true (c .if8 .taken)) (k .before .larger .ensures))
     ∙ sym (left7 e)
 
 returns-9 : tie.Need-returns-9
@@ -202,7 +221,8 @@ returns-9 c =
     let e = c .before in
     let k = from7 e in
     found {gs = drop 7 (guardsAt k)}
-    (passing (above-is _ (startOf k .args .decided-idx .0) _ (numbersAt k) _ _ (askedAt k .is-plain .ensures) (k .before .larger .ensures) false (c .if8 .left)) clear-all)
+    (passing (above-is _ (startOf k .args .decided-idx .0) _ (numbersAt k) _ _ (askedAt k .is-plain .ensures)
+    (k .before .larger .ensures) false (c .if8 .left)) clear-all)
     ∙ sym (left7 e)
 
 pub check-sync-spec : {M : Type 1} → statement M

@@ -34,14 +34,17 @@ fold-over-requires c κs =
     let k = c .before .before in
     let st = startOf k in (
       fold-needs (stateAt st) (st .pre .0 .okay) (k .log-decided .result)
-          (decided-high (numbersIn (st .args .index)) (st .pre .0 .numbers) (k .log-decided .result) (k .log-decided .ensures)) (now (st .args .snapshot)) (st .pre .0 .snapshot .laid .long),
-      held-shows (st .args .keys) (now (st .args .incoming)) (st .pre .1 (ap plainBy (k .before .enum-told3 .given .1))),
+          (decided-high (numbersIn (st .args .index)) (st .pre .0 .numbers) (k .log-decided .result)
+          (k .log-decided .ensures)) (now (st .args .snapshot)) (st .pre .0 .snapshot .laid .long),
+      held-shows (st .args .keys) (now (st .args .incoming))
+          (st .pre .1 (ap plainBy (k .before .enum-told3 .given .1))),
     )
 
 returns : tie.Need-returns
 returns c =
     let st = c .before .before .before .before .before in
-    hold-plain (st .args .kind) (stateAt st) (st .pre .0) (st .args .keys) (now (st .args .incoming)) (c .enum-told .given .1)
+    hold-plain (st .args .kind) (stateAt st) (st .pre .0) (st .args .keys) (now (st .args .incoming))
+    (c .enum-told .given .1)
 
 returns-2 : tie.Need-returns-2
 returns-2 c =

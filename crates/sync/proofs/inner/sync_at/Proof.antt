@@ -17,7 +17,8 @@ startOf t = t .before .before .before .before .before .before .before
 -- no refusal of numbers applies
 
 pass : (t : tie.After-enum-told)
-    → passes ≡ first (partNumberGuards (startOf t .args .decided-idx .0) (numbersBy (startOf t .args .log-sync) (length (now (startOf t .args .suffix)) / width)) (numbersIn (startOf t .args .index)))
+    → passes ≡ first (partNumberGuards (startOf t .args .decided-idx .0) (numbersBy (startOf t .args .log-sync)
+    (length (now (startOf t .args .suffix)) / width)) (numbersIn (startOf t .args .index)))
 pass t = ap verdictOf (sym (t .enum-told .given .1)) ∙ t .before .before .check-sync .ensures
 
 abbrev markOf : tie.After-hold → tie.After-mark
@@ -50,7 +51,8 @@ take-suffix-requires c κs =
     let h = c .before .before .before .before .before .before in
     let t = toldOf h in
     let st = startOf t in
-    rw (markOf h .mark .ensures) (fits (stateAt st) (st .args .log-sync) (now (st .args .incoming)) (now (st .args .suffix)) (st .pre) (st .args .accepted-round) (st .args .decided-idx .0) (pass t))
+    rw (markOf h .mark .ensures) (fits (stateAt st) (st .args .log-sync) (now (st .args .incoming))
+    (now (st .args .suffix)) (st .pre) (st .args .accepted-round) (st .args .decided-idx .0) (pass t))
 
 accepted-requires : tie.Need-accepted-requires
 accepted-requires c κs =

@@ -21,7 +21,11 @@ returns c =
 loop-again : tie.Need-loop-again Inv-loop μ-loop
 loop-again c =
     let l = c .before .before .before in
-    omega (arith, gap-step (l .before .args .b) (now (l .before .args .s)) (l .loop .i) (c .before .before .loop-test .taken) (c .if1 .left))
+    omega (
+      arith,
+      gap-step (l .before .args .b) (now (l .before .args .s)) (l .loop .i)
+          (c .before .before .loop-test .taken) (c .if1 .left),
+    )
 
 returns-2 : tie.Need-returns-2 Inv-loop μ-loop
 returns-2 c =

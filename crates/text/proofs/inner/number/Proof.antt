@@ -4,7 +4,8 @@ use Rattle.words.proofs.Prelude.{arith, now, _≡_, sym, _∙_, _-_, _≤_, _<_
 use Prim.Native.Nat.{_^_}
 use mathlib.Core.Logic.{⊎-elim}
 use Rattle.text.specs.Number.{numeralOf}
-use Rattle.text.proofs.ParseLaws.{whole, number-empty, number-zero, number-one, number-more, whole-step, whole-below, whole-above, whole-over, whole-end}
+use Rattle.text.proofs.ParseLaws.{whole, number-empty, number-zero, number-one, number-more, whole-step}
+use Rattle.text.proofs.ParseLaws.{whole-below, whole-above, whole-over, whole-end}
 use Rattle.text.proofs.inner.number.Statement.{statement}
 use Rattle.text.proofs.inner.number.Tie as tie
 
@@ -53,8 +54,13 @@ returns-5 c =
 loop-again : tie.Need-loop-again Inv-loop μ-loop
 loop-again c =
     let l = c .before .before .before .before .before in
-    let a = l .before .before .before .args in
-    (omega arith, omega arith, sym (whole-step (l .loop .n) (now (a .s)) (l .loop .i) (omega arith) (omega arith) (omega arith)) ∙ l .loop .inv .2)
+    let a = l .before .before .before .args in (
+      omega arith,
+      omega arith,
+      sym
+          (whole-step (l .loop .n) (now (a .s)) (l .loop .i) (omega arith) (omega arith) (omega arith))
+          ∙ l .loop .inv .2,
+    )
 
 returns-6 : tie.Need-returns-6 Inv-loop μ-loop
 returns-6 c =

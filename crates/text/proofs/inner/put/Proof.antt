@@ -19,7 +19,8 @@ loop-again c =
     let l = c .before .before .loop in (
       omega arith,
       simp length-set (omega arith),
-      rw (add-one (l .i), l .inv .2) (paste-suc (now (a .out)) (a .at) (now (a .src)) (l .i) 0 (omega arith) (omega arith)),
+      rw (add-one (l .i), l .inv .2)
+          (paste-suc (now (a .out)) (a .at) (now (a .src)) (l .i) 0 (omega arith) (omega arith)),
     )
 
 returns : tie.Need-returns Inv-loop μ-loop
@@ -27,7 +28,11 @@ returns c =
     let a = c .before .before .args in
     let l = c .before .loop in (
       omega arith,
-      rw (l .inv .2, take-paste (now (a .out)) (a .at) (now (a .src)) (l .i) (omega arith) (omega arith), take-all (l .i) (now (a .src)) (omega arith)),
+      rw (
+        l .inv .2,
+        take-paste (now (a .out)) (a .at) (now (a .src)) (l .i) (omega arith) (omega arith),
+        take-all (l .i) (now (a .src)) (omega arith),
+      ),
     )
 
 pub put-spec : {M : Type 1} → statement M

@@ -6,11 +6,17 @@ use Rattle.text.proofs.inner.put_entry.Tie as tie
 
 returns : tie.Need-returns
 unfolding entryLine
-returns c = (search needs, rw (c .before .before .before .before .before .if1 .taken) (c .before .before .put-change .ensures .1))
+returns c = (
+  search needs,
+  rw (c .before .before .before .before .before .if1 .taken) (c .before .before .put-change .ensures .1),
+)
 
 returns-2 : tie.Need-returns-2
 unfolding entryLine
-returns-2 c = (search needs, rw (c .before .before .before .before .before .if1 .left) (c .before .before .put-change2 .ensures .1))
+returns-2 c = (
+  search needs,
+  rw (c .before .before .before .before .before .if1 .left) (c .before .before .put-change2 .ensures .1),
+)
 
 pub put-entry-spec : {M : Type 1} → statement M
 put-entry-spec =

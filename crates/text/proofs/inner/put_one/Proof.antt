@@ -9,8 +9,11 @@ returns c =
     let q = c .before .before in
     let n = q .before .before .before .before in
     let p = n .before .before .before .before in
-    let a = p .before .before .before .before .before .args in
-    (search needs, glue (take (a .at) (now (a .out))) (now (a .label)) (decimalOf (a .n)) (now (a .tail)) (q .put2 .ensures .1) (n .put-number .ensures .1) (p .put .ensures .1))
+    let a = p .before .before .before .before .before .args in (
+      search needs,
+      glue (take (a .at) (now (a .out))) (now (a .label)) (decimalOf (a .n)) (now (a .tail))
+          (q .put2 .ensures .1) (n .put-number .ensures .1) (p .put .ensures .1),
+    )
 
 pub put-one-spec : {M : Type 1} → statement M
 put-one-spec =

@@ -11,7 +11,8 @@ use Rattle.text.proofs.inner.put_run.Tie as tie
 abbrev Inv-loop : tie.InvT-loop
 Inv-loop out₀ at entries n decided o₀ i₀ out o i =
     (i ≤ n) × (o ≤ at + outputLine * i) × (length out ≡ length out₀)
-    × (take o out ++ entryLines (decided - i) (drop i (entriesOf n entries)) ≡ take at out₀ ++ entryLines decided (entriesOf n entries))
+    × (take o out ++ entryLines (decided - i) (drop i (entriesOf n entries)) ≡ take at out₀
+    ++ entryLines decided (entriesOf n entries))
 
 abbrev μ-loop : tie.MeasureT-loop
 μ-loop out₀ at entries n decided o₀ i₀ out o i = n - i
@@ -30,14 +31,16 @@ loop-again c =
     let ws = now (a .entries) in
     let es = entriesOf (a .n) ws in
     let i = l .loop .i in
-    let line : Said → List ℕ = λ (x : Said). entryLine (ltb i (a .decided)) (record { key = changeAt ws i .key; said = x }) in (
+    let line : Said → List ℕ =
+    λ (x : Said). entryLine (ltb i (a .decided)) (record { key = changeAt ws i .key; said = x }) in (
       omega arith,
       omega arith,
       omega arith,
       turn (take (l .loop .o) (l .loop .out)) (line (changeAt ws i .said)) (entryLines (a .decided - i) (drop i es))
           (entryLines (a .decided - (i + 1)) (drop (i + 1) es))
           (take (a .at) (now (a .out)) ++ entryLines (a .decided) es)
-          (p .put-entry .ensures .1 ∙ ap (λ (x : Said). take (l .loop .o) (l .loop .out) ++ line x) (p .before .said-at .ensures)) (lines-next (a .decided) (a .n) ws i (omega arith)) (l .loop .inv .3),
+          (p .put-entry .ensures .1 ∙ ap (λ (x : Said). take (l .loop .o) (l .loop .out) ++ line x)
+          (p .before .said-at .ensures)) (lines-next (a .decided) (a .n) ws i (omega arith)) (l .loop .inv .3),
     )
 
 returns : tie.Need-returns Inv-loop μ-loop

@@ -6,11 +6,17 @@ use Rattle.text.proofs.inner.put_stop.Tie as tie
 
 returns : tie.Need-returns
 unfolding lineOf
-returns c = (search needs, rw (c .before .before .before .before .before .before .if1 .taken) (c .before .before .put-one .ensures .1))
+returns c = (
+  search needs,
+  rw (c .before .before .before .before .before .before .if1 .taken) (c .before .before .put-one .ensures .1),
+)
 
 returns-2 : tie.Need-returns-2
 unfolding lineOf
-returns-2 c = (search needs, rw (c .before .before .before .before .before .before .if1 .left) (c .before .before .put-one2 .ensures .1))
+returns-2 c = (
+  search needs,
+  rw (c .before .before .before .before .before .before .if1 .left) (c .before .before .put-one2 .ensures .1),
+)
 
 pub put-stop-spec : {M : Type 1} → statement M
 put-stop-spec =

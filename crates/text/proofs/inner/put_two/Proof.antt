@@ -8,8 +8,11 @@ returns : tie.Need-returns
 returns c =
     let q = c .before .before in
     let p = q .before .before .before .before .before in
-    let a = p .before .before .before .before .before .args in
-    (search needs, glue-two (take (a .at) (now (a .out))) (now (a .label)) (decimalOf (a .m)) (bytes " ") (decimalOf (a .n)) (bytes "\n") (q .put-count .ensures .1) (p .put-one .ensures .1))
+    let a = p .before .before .before .before .before .args in (
+      search needs,
+      glue-two (take (a .at) (now (a .out))) (now (a .label)) (decimalOf (a .m)) (bytes " ")
+          (decimalOf (a .n)) (bytes "\n") (q .put-count .ensures .1) (p .put-one .ensures .1),
+    )
 
 pub put-two-spec : {M : Type 1} → statement M
 put-two-spec =

@@ -3,7 +3,8 @@ use Rattle.entry.specs.Limits.{lastIndex}
 use Rattle.model.specs.Numbers.{acceptedOf}
 use Rattle.state_cache.specs.State.{Raw, raw, numbersIn}
 use Rattle.state_cache.proofs.Small.{one-le}
-use Rattle.backend.proofs.Lasts.{past-sum, formed-numbers, last-past, last-small, last-apart, last-unformed, last-stands}
+use Rattle.backend.proofs.Lasts.{past-sum, formed-numbers, last-past, last-small, last-apart, last-unformed}
+use Rattle.backend.proofs.Lasts.{last-stands}
 use Rattle.backend.proofs.inner.list.judge_last.Statement.{statement}
 use Rattle.backend.proofs.inner.list.judge_last.Tie as tie
 
@@ -45,7 +46,8 @@ numbers-formed-requires : tie.Need-numbers-formed-requires
 numbers-formed-requires c κs =
     let e = c .before .before in
     let st = e .before .before .before .before .before .before in
-    last-small (numbersIn (st .args .before)) (st .args .start) (stateAt st) (st .pre .0) (sym (past (e .before)) ∙ e .if1 .left)
+    last-small (numbersIn (st .args .before)) (st .args .start) (stateAt st) (st .pre .0)
+    (sym (past (e .before)) ∙ e .if1 .left)
 
 returns-3 : tie.Need-returns-3
 returns-3 c =

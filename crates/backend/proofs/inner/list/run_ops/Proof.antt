@@ -6,7 +6,8 @@ use Rattle.model.specs.Backend.{Lent}
 use Rattle.state_cache.specs.State.{Raw, raw, numbersIn}
 use Rattle.state_cache.proofs.Small.{sound-small}
 use Rattle.backend.specs.{Ops.opOf, Ops.opsIn, Ops.lentOf, Inner.midstOf, Inner.Kept}
-use Rattle.backend.proofs.Turns.{Left, asked, end, is-supplied, turn-refused, turn-held, turn-left, ended, all-left, wrote-refused, wrote, ops-supplied}
+use Rattle.backend.proofs.Turns.{Left, asked, end, is-supplied, turn-refused, turn-held, turn-left, ended}
+use Rattle.backend.proofs.Turns.{all-left, wrote-refused, wrote, ops-supplied}
 use Rattle.backend.proofs.Amid.{ready-held}
 use Rattle.backend.proofs.inner.list.run_ops.Statement.{statement}
 use Rattle.backend.proofs.inner.list.run_ops.Tie as tie
@@ -14,7 +15,8 @@ use Rattle.backend.proofs.inner.list.run_ops.Tie as tie
 abbrev Inv-loop : tie.InvT-loop
 Inv-loop before log₀ snapshot₀ entries incoming lent n ops start₀ index₀ i₀ log snapshot start index i =
     (i ≤ n) × (Kept (raw index log snapshot)
-    × Left (numbersIn before) (lentOf lent entries incoming) (drop i (map opOf (take n ops))) (midstOf start (raw index log snapshot))
+    × Left (numbersIn before) (lentOf lent entries incoming) (drop i (map opOf (take n ops)))
+    (midstOf start (raw index log snapshot))
     (asked (raw before log₀ snapshot₀) (lentOf lent entries incoming) (map opOf (take n ops)))
     (end (raw before log₀ snapshot₀) (lentOf lent entries incoming) (map opOf (take n ops))))
 
@@ -38,8 +40,10 @@ startOf l = l .before .before .before .before .before .before
 
 loop-holds : tie.Need-loop-holds Inv-loop μ-loop
 loop-holds c =
-    let st = c .before .before .before .before .before in
-    (omega arith, (ready-held (stateAt st) (st .pre .ready), all-left (stateAt st) (lentAt st) (opsIn (st .args .list))))
+    let st = c .before .before .before .before .before in (
+      omega arith,
+      (ready-held (stateAt st) (st .pre .ready), all-left (stateAt st) (lentAt st) (opsIn (st .args .list))),
+    )
 
 step-requires : tie.Need-step-requires Inv-loop μ-loop
 step-requires c κs =
@@ -81,9 +85,13 @@ returns c =
     let st = startOf l in
     let a = st .args in
     let v = l .loop in
-    wrote-refused (stateAt st) (lentAt st) (opsIn (a .list)) _ (raw (v .index) (p .step .last .1 .1 .1 .0) (p .step .last .1 .1 .1 .1 .0))
-    (turn-refused (numbersIn (a .before)) (lentAt st) (a .list .ops) (a .list .count) (st .pre .few) (eight st) (asked (stateAt st) (lentAt st) (opsIn (a .list))) (end (stateAt st) (lentAt st) (opsIn (a .list))) (midstOf (v .start) (raw (v .index) (v .log) (v .snapshot))) (v .i) (v .inv .1 .1) (t .loop-test .taken)
-    (p .step .result) (p .step .last .1 .1 .1 .0) (p .step .last .1 .1 .1 .1 .0) (p .step .ensures) _ (c .before .answer .given .1))
+    wrote-refused (stateAt st) (lentAt st)
+    (opsIn (a .list)) _ (raw (v .index) (p .step .last .1 .1 .1 .0) (p .step .last .1 .1 .1 .1 .0))
+    (turn-refused (numbersIn (a .before)) (lentAt st) (a .list .ops) (a .list .count) (st .pre .few)
+    (eight st) (asked (stateAt st) (lentAt st) (opsIn (a .list))) (end (stateAt st) (lentAt st) (opsIn (a .list)))
+    (midstOf (v .start) (raw (v .index) (v .log) (v .snapshot))) (v .i) (v .inv .1 .1) (t .loop-test .taken)
+    (p .step .result) (p .step .last .1 .1 .1 .0) (p .step .last .1 .1 .1 .1 .0)
+    (p .step .ensures) _ (c .before .answer .given .1))
 
 loop-again : tie.Need-loop-again Inv-loop μ-loop
 loop-again c =
@@ -131,8 +139,11 @@ returns-2 c =
     let a = st .args in
     let v = l .loop in
     let x = raw (v .index) (v .log) (v .snapshot) in
-    wrote (stateAt st) (lentAt st) (opsIn (a .list)) (numbersIn (a .before)) (v .start) x (c .judge-last .result) (v .inv .1 .0)
-    (ended (numbersIn (a .before)) (lentAt st) (a .list .ops) (a .list .count) (st .pre .few) (eight st) (asked (stateAt st) (lentAt st) (opsIn (a .list))) (end (stateAt st) (lentAt st) (opsIn (a .list))) (midstOf (v .start) x) (v .i) (v .inv .1 .1) (t .loop-test .left))
+    wrote (stateAt st) (lentAt st) (opsIn (a .list)) (numbersIn (a .before))
+    (v .start) x (c .judge-last .result) (v .inv .1 .0)
+    (ended (numbersIn (a .before)) (lentAt st) (a .list .ops) (a .list .count) (st .pre .few)
+    (eight st) (asked (stateAt st) (lentAt st) (opsIn (a .list))) (end (stateAt st) (lentAt st) (opsIn (a .list)))
+    (midstOf (v .start) x) (v .i) (v .inv .1 .1) (t .loop-test .left))
     (c .judge-last .ensures)
 
 pub run-ops-spec : {M : Type 1} → statement M

@@ -65,7 +65,8 @@ copy-words-requires-3 c κs =
 copy-words-requires-4 : tie.Need-copy-words-requires-4
 copy-words-requires-4 c κs =
     let e = c .before .before .before .before .before .before .before in
-    stood e .snapshot .laid .long ∙ sym (startOf (copied (e .before .before .before .before .before)) .pre .ready .snapshot .laid .long)
+    stood e .snapshot .laid .long
+    ∙ sym (startOf (copied (e .before .before .before .before .before)) .pre .ready .snapshot .laid .long)
 
 returns-2 : tie.Need-returns-2
 returns-2 c =
@@ -74,7 +75,8 @@ returns-2 c =
     let e = k3 .before .before .before in
     let p = e .before .before .before .before .before in
     let st = startOf (copied p) in
-    ap₂ (λ (l s : List ℕ). outcome (replied tt) (raw (p .run-ops .result .index) l s)) (k3 .copy-words3 .ensures) (k4 .copy-words4 .ensures)
+    ap₂ (λ (l s : List ℕ). outcome (replied tt) (raw (p .run-ops .result .index) l s)) (k3 .copy-words3 .ensures)
+    (k4 .copy-words4 .ensures)
     ∙ write-stands (stateAt st) (lentAt st) (opsIn (st .args .list)) (st .pre .ready .okay) (st .pre .okay)
     (p .run-ops .result .answer) (left p) (ran p) (e .enum-told .given .1)
 

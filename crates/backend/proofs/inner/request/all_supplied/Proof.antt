@@ -12,7 +12,8 @@ use Rattle.backend.proofs.inner.request.all_supplied.Tie as tie
 
 abbrev Inv-loop : tie.InvT-loop
 Inv-loop lent n ops ok₀ i₀ ok i =
-    (i ≤ n) × ((ok && allOf (supplied (lentOf lent [] [])) (drop i (map opOf (take n ops)))) ≡ allOf (supplied (lentOf lent [] [])) (map opOf (take n ops)))
+    (i ≤ n) × ((ok && allOf (supplied (lentOf lent [] [])) (drop i (map opOf (take n ops))))
+    ≡ allOf (supplied (lentOf lent [] [])) (map opOf (take n ops)))
 
 abbrev μ-loop : tie.MeasureT-loop
 μ-loop lent n ops ok₀ i₀ ok i = n - i

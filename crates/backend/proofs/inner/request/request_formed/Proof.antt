@@ -18,7 +18,8 @@ returns-2 c =
     let e = c .before .before .before .before .before in
     let st = e .before .before .before .before in
     simp (c .before .all-supplied .ensures, c .before .before .sign-formed .ensures, c .before .before .before .incoming-formed .ensures, c .before .before .before .before .entries-formed .ensures)
-    (request-is (st .args .lent) (now (st .args .entries)) (now (st .args .incoming)) (st .args .list) (e .if1 .left) (eight st))
+    (request-is (st .args .lent) (now (st .args .entries)) (now (st .args .incoming)) (st .args .list)
+    (e .if1 .left) (eight st))
 
 pub request-formed-spec : {M : Type 1} → statement M
 request-formed-spec =

@@ -10,7 +10,8 @@ stateAt c = raw (c .args .index) (now (c .args .log)) (now (c .args .snapshot))
 returns : tie.Need-returns
 returns c =
     let st = c .before .before .before .before .before in
-    put-refused (st .args .start) (stateAt st) (st .pre .0) (st .args .at) (now (st .args .entries)) (now (st .args .log)) (c .if1 .taken)
+    put-refused (st .args .start) (stateAt st) (st .pre .0) (st .args .at) (now (st .args .entries))
+    (now (st .args .log)) (c .if1 .taken)
 
 splice-requires : tie.Need-splice-requires
 splice-requires c κs =
@@ -25,7 +26,8 @@ returns-2 c =
     let e = p .before .before .before .before in
     let st = e .before .before .before .before .before in
     rw (c .done .ensures)
-    (put-goes (st .args .start) (stateAt st) (st .pre .0) (st .args .at) (now (st .args .entries)) (p .splice .last .0) (e .if1 .left) (st .pre .1 .0) (st .pre .1 .1) (p .splice .ensures))
+    (put-goes (st .args .start) (stateAt st) (st .pre .0) (st .args .at) (now (st .args .entries)) (p .splice .last .0)
+    (e .if1 .left) (st .pre .1 .0) (st .pre .1 .1) (p .splice .ensures))
 
 pub put-at-spec : {M : Type 1} → statement M
 put-at-spec =

@@ -5,9 +5,12 @@ use Rattle.backend.specs.Ops.{ofKind, opOf, lentOf}
 use Rattle.backend.specs.Inner.{midstOf, Steps}
 use Rattle.backend.specs.declared.OpKind.{OpKind}
 use Rattle.backend.specs.declared.inner.step.Stepped.{Stepped}
-use Rattle.backend.specs.declared.OpKind.the-variants.{AppendEntries, AppendOnPrefix, SetPromise, SetDecidedIndex, SetAcceptedRound, SetCompactedIdx, Trim, SetStopsign, SetSnapshot}
+use Rattle.backend.specs.declared.OpKind.the-variants.{AppendEntries, AppendOnPrefix, SetPromise, SetDecidedIndex}
+use Rattle.backend.specs.declared.OpKind.the-variants.{SetAcceptedRound, SetCompactedIdx, Trim, SetStopsign}
+use Rattle.backend.specs.declared.OpKind.the-variants.{SetSnapshot}
 use Rattle.backend.proofs.Requests.{long-incoming}
-use Rattle.backend.proofs.Goings.{goes-of, append-goes, on-prefix-goes, promise-goes, decided-goes, round-goes, compacted-goes, trimmed-goes, is-supplied, sign-goes, snapshot-goes}
+use Rattle.backend.proofs.Goings.{goes-of, append-goes, on-prefix-goes, promise-goes, decided-goes, round-goes}
+use Rattle.backend.proofs.Goings.{compacted-goes, trimmed-goes, is-supplied, sign-goes, snapshot-goes}
 use Rattle.backend.proofs.inner.step.step.Statement.{statement}
 use Rattle.backend.proofs.inner.step.step.Tie as tie
 
@@ -32,8 +35,10 @@ came st = goes-of (numbersAt st) (lentAt st) (midstAt st) (st .args .o)
 write-snapshot-requires : tie.Need-write-snapshot-requires
 write-snapshot-requires c κs =
     let st = c .before .before .before .before .before .before .before .before .before in
-    let a = st .args in
-    (st .pre .0 .snapshot .laid .long, long-incoming (a .lent) (now (a .entries)) (now (a .incoming)) (st .pre .1 .1 .0))
+    let a = st .args in (
+      st .pre .0 .snapshot .laid .long,
+      long-incoming (a .lent) (now (a .entries)) (now (a .incoming)) (st .pre .1 .1 .0),
+    )
 
 returns : tie.Need-returns
 returns c =

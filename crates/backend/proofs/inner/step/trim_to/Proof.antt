@@ -16,7 +16,9 @@ returns c =
     let st = k .before .before .before .before in
     let a = st .args in
     rw (c .done .ensures)
-    (trim-goes (a .start) (raw (a .index) (now (a .log)) (now (a .snapshot))) (st .pre) (a .to .0) (k .before .above .result) (k .least .result) (c .before .larger .result) (p .cut-out .last .0) (k .before .above .ensures) (k .least .ensures) (c .before .larger .ensures) (p .cut-out .ensures))
+    (trim-goes (a .start) (raw (a .index) (now (a .log)) (now (a .snapshot))) (st .pre)
+    (a .to .0) (k .before .above .result) (k .least .result) (c .before .larger .result) (p .cut-out .last .0)
+    (k .before .above .ensures) (k .least .ensures) (c .before .larger .ensures) (p .cut-out .ensures))
 
 pub trim-to-spec : {M : Type 1} → statement M
 trim-to-spec =

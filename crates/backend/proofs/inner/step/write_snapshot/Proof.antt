@@ -9,7 +9,8 @@ returns c = search needs
 returns-2 : tie.Need-returns-2
 returns-2 c =
     let st = c .before .before .before .before .before .before .before in
-    rw (c .before .before .before .before .if1 .left) (c .before .before .clear .ensures ∙ cleared (now (st .args .snapshot)) (st .pre .0))
+    rw (c .before .before .before .before .if1 .left)
+    (c .before .before .clear .ensures ∙ cleared (now (st .args .snapshot)) (st .pre .0))
 
 pub write-snapshot-spec : {M : Type 1} → statement M
 write-snapshot-spec =

@@ -6,7 +6,8 @@ use Rattle.internal_storage.proofs.inner.append.append_entries_and_get_
 use Rattle.internal_storage.proofs.inner.append.append_entries_and_get_accepted_idx.Tie as tie
 
 returns : tie.Need-returns
-returns c = index-told _ _ _ _ (c .index-only .ensures) (c .before .before .before .before .append-entries-with-batching .ensures)
+returns c = index-told _ _ _ _ (c .index-only .ensures)
+    (c .before .before .before .before .append-entries-with-batching .ensures)
 
 pub append-entries-and-get-accepted-idx-spec : {M : Type 1} → statement M
 append-entries-and-get-accepted-idx-spec =

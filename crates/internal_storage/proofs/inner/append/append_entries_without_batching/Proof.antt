@@ -21,7 +21,8 @@ append-now-at-requires : tie.Need-append-now-at-requires
 append-now-at-requires c κs =
     let f = c .before in
     let st = f .before .before .before .before .before in
-    slice-appends (now (st .args .entries)) (stateAt st) (st .pre .okay) (sym (f .before .entries-formed .ensures) ∙ not-false _ (f .if1 .left))
+    slice-appends (now (st .args .entries)) (stateAt st) (st .pre .okay)
+    (sym (f .before .entries-formed .ensures) ∙ not-false _ (f .if1 .left))
 
 returns-2 : tie.Need-returns-2
 returns-2 c =

@@ -12,7 +12,8 @@ returns c =
     let k = p .before .before .before in
     let a = k .before .before .before .args in
     p .append-entries-with-batching .ensures
-    ∙ one-run (record { key = a .key; said = saidIs (a .said) }) _ (k .lent .ensures) (raw (a .index) (now (a .log)) (now (a .snapshot)))
+    ∙ one-run (record { key = a .key; said = saidIs (a .said) }) _ (k .lent .ensures)
+    (raw (a .index) (now (a .log)) (now (a .snapshot)))
 
 pub append-entry-with-batching-spec : {M : Type 1} → statement M
 append-entry-with-batching-spec =

@@ -21,7 +21,8 @@ returns-2 c =
     let a = k .before .before .before .before .before .args in
     told-by (decideGuards (a .idx .0) (numbersIn (a .index))) tt (withDecided (a .idx) (a .index)) (a .index)
     (refuses 6 (k .accepted .result))
-    (passing (le-ltb _ _ (k .before .if1 .left)) (stopping (rw (← k .accepted .ensures) (lt-ltb _ _ (c .if2 .taken))) (k .accepted .ensures)))
+    (passing (le-ltb _ _ (k .before .if1 .left))
+    (stopping (rw (← k .accepted .ensures) (lt-ltb _ _ (c .if2 .taken))) (k .accepted .ensures)))
 
 returns-3 : tie.Need-returns-3
 unfolding decideGuards
@@ -29,7 +30,8 @@ returns-3 c =
     let k = c .before .before in
     let a = k .before .before .before .before .before .args in
     told-by (decideGuards (a .idx .0) (numbersIn (a .index))) tt (withDecided (a .idx) (a .index)) (a .index) passes
-    (passing (le-ltb _ _ (k .before .if1 .left)) (passing (rw (← k .accepted .ensures) (le-ltb _ _ (c .if2 .left))) clear-all))
+    (passing (le-ltb _ _ (k .before .if1 .left))
+    (passing (rw (← k .accepted .ensures) (le-ltb _ _ (c .if2 .left))) clear-all))
 
 pub decide-at-spec : {M : Type 1} → statement M
 decide-at-spec = tie.close (tie.spec returns (λ c κs. search needs) returns-2 returns-3)

@@ -10,7 +10,8 @@ returns : tie.Need-returns
 unfolding further malformed replyOf
 returns c =
     let x = raw (c .args .index) (now (c .args .log)) (now (c .args .snapshot)) in
-    quiet-stands x (c .pre .okay) (setPromise (c .args .n-prom)) refl refl tt _ refl (promised-stands x (c .pre .okay) (c .args .n-prom))
+    quiet-stands x (c .pre .okay)
+    (setPromise (c .args .n-prom)) refl refl tt _ refl (promised-stands x (c .pre .okay) (c .args .n-prom))
 
 pub set-promise-spec : {M : Type 1} → statement M
 set-promise-spec = tie.close (tie.spec returns)

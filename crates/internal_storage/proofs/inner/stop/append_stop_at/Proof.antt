@@ -31,7 +31,8 @@ unfolding appendStopGuards
 returns-2 c =
     let k = c .before .before in
     let a = k .before .args in
-    let h : lastIndex < acceptedOf (numbersIn (a .index)) + a .index .batched + 1 = omega (arith, k .accepted .ensures, c .if2 .taken) in
+    let h : lastIndex < acceptedOf (numbersIn (a .index)) + a .index .batched + 1 =
+    omega (arith, k .accepted .ensures, c .if2 .taken) in
     told-by (appendStopGuards (numbersIn (a .index))) (flushSays (a .index))
     (withStop true (a .ss) (allFlushed (a .index))) (a .index) (refuses 9 (k .accepted .result))
     (passing (c .before .if1 .left) (stopping (lt-ltb _ _ h) (k .accepted .ensures)))
@@ -48,7 +49,8 @@ returns-3 c =
     let e = c .before .before in
     let k = e .before .before in
     let a = k .before .args in
-    let h : acceptedOf (numbersIn (a .index)) + a .index .batched + 1 ≤ lastIndex = omega (arith, k .accepted .ensures, e .if2 .left) in
+    let h : acceptedOf (numbersIn (a .index)) + a .index .batched + 1 ≤ lastIndex =
+    omega (arith, k .accepted .ensures, e .if2 .left) in
     ap₂ (λ (x : Answer (Option Flushed)) (y : IndexRecord). indexed x (withStop true (a .ss) y))
     (c .before .flush-answer .ensures) (c .flush .ensures)
     ∙ told-by (appendStopGuards (numbersIn (a .index))) (flushSays (a .index))

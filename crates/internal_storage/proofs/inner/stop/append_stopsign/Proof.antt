@@ -14,7 +14,8 @@ returns : tie.Need-returns
 unfolding malformed
 returns c =
     let st = c .before .before .before .before in
-    bad-call (appendStop (st .args .ss)) (stateAt st) (st .pre .okay) (ap not (sym (c .before .sign-formed .ensures) ∙ not-true _ (c .if1 .taken)))
+    bad-call (appendStop (st .args .ss)) (stateAt st) (st .pre .okay)
+    (ap not (sym (c .before .sign-formed .ensures) ∙ not-true _ (c .if1 .taken)))
 
 append-stop-at-requires : tie.Need-append-stop-at-requires
 append-stop-at-requires c κs = c .before .before .before .before .pre .numbers

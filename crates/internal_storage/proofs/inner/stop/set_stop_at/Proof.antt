@@ -64,7 +64,8 @@ returns-3 c =
     told-by (setStopGuards (a .held) (numbersIn (a .index)))
     (acceptedOf (numbersIn (withStop (a .held) (a .ss) (a .index)))) (withStop (a .held) (a .ss) (a .index))
     (a .index) (refuses 9 (p .accepted .result))
-    (passing (sym (d .stop-decided .ensures) ∙ k .before .before .if1 .left) (passing (k .before .if2 .left) (stopping (lt-ltb _ _ h) (p .accepted .ensures))))
+    (passing (sym (d .stop-decided .ensures) ∙ k .before .before .if1 .left)
+    (passing (k .before .if2 .left) (stopping (lt-ltb _ _ h) (p .accepted .ensures))))
 
 returns-4 : tie.Need-returns-4
 unfolding setStopGuards acceptedOf endOf
@@ -76,7 +77,10 @@ returns-4 c =
     let h : acceptedOf (numbersIn (withStop (a .held) (a .ss) (a .index))) + a .index .batched ≤ lastIndex = omega
     (arith, k .accepted2 .ensures, c .if3 .left) in
     rw (k .accepted2 .ensures)
-    (told-by (setStopGuards (a .held) (numbersIn (a .index))) (acceptedOf (numbersIn (withStop (a .held) (a .ss) (a .index)))) (withStop (a .held) (a .ss) (a .index)) (a .index) passes (passing (sym (d .stop-decided .ensures) ∙ k .before .before .if1 .left) (passing (k .before .if2 .left) (passing (le-ltb _ _ h) clear-all))))
+    (told-by (setStopGuards (a .held) (numbersIn (a .index)))
+    (acceptedOf (numbersIn (withStop (a .held) (a .ss) (a .index)))) (withStop (a .held) (a .ss) (a .index))
+    (a .index) passes (passing (sym (d .stop-decided .ensures) ∙ k .before .before .if1 .left)
+    (passing (k .before .if2 .left) (passing (le-ltb _ _ h) clear-all))))
 
 pub set-stop-at-spec : {M : Type 1} → statement M
 set-stop-at-spec =

@@ -24,4 +24,5 @@ returns-2 c =
     (c .set-stop-at .result .index) (c .set-stop-at .ensures)
 
 pub set-stopsign-spec : {M : Type 1} → statement M
-set-stopsign-spec = tie.close (tie.spec (λ c κs. search needs) returns (λ c κs. search needs) (λ c κs. search needs) returns-2)
+set-stopsign-spec = tie.close
+    (tie.spec (λ c κs. search needs) returns (λ c κs. search needs) (λ c κs. search needs) returns-2)

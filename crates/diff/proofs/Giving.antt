@@ -22,8 +22,7 @@ abbrev diffTo : ℕ → ℕ → Run → Given
 diffTo last i r =
     if leb i (r .compacted)
     then (if ltb (r .compacted) last then complete (foldedTo last r) else elim (r .held) [
-      | none ↦
-          plain
+      | none ↦ plain
       | some h ↦ complete h
     ])
     else delta (fold (between i last r))
@@ -62,8 +61,7 @@ module _ (last i : ℕ) (r : Run) where
         go : Reach last (r .compacted)
             → (if ltb (r .compacted) last then complete (foldedTo last r) else elim (r .held) [
               | none ↦ plain
-              | some t ↦
-                  complete t
+              | some t ↦ complete t
             ]) ≡ complete (foldedTo last r)
         go (reached x) =
             let e = le-ltb (r .compacted) last x in

@@ -48,8 +48,8 @@ numbersBy x n = record {
   stop = x .«stop_held»;
 }
 
--- "any snapshot slice not of 1,024 words", "an entry slice of odd length", lent or not; and a lent snapshot in form,
--- unused words too
+-- a snapshot slice of its length and an entry slice of whole entries, lent or not: else 11, as document 01 lists; and a
+-- lent snapshot in form, unused words too
 unfoldable pub lentWhole : Bool → LogSync → List ℕ → List ℕ → Bool
 lentWhole held x incoming suffix =
     eqb (length incoming) snapshotWords

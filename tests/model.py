@@ -1,8 +1,8 @@
 #!/usr/bin/env python3
-"""model.py <SCRIPT: what document 01's replay answers to a script, from its text alone.
+"""model.py <SCRIPT: what document 01's replay answers to a script, from its text and that of document 02's requests that have landed.
 
 The recorded answers in tests/replay are this program's. It shares no line with the crates: where the two differ, one of them
-reads document 01 wrongly.
+reads the documents wrongly.
 """
 import re
 import sys
@@ -75,11 +75,15 @@ class Log:
             return "ok"
         gone = to - self.compacted
         if fold:
+            if self.compacted > 0 and self.snapshot is None:
+                return "refused 16"
             snapshot = dict(self.snapshot or {})
             snapshot.update(self.retained[:gone])
             if len(snapshot) > KEYS:
                 return "refused 8"
             self.snapshot = snapshot
+        else:
+            self.snapshot = None
         self.retained = self.retained[gone:]
         self.compacted = to
         return "ok"

@@ -234,10 +234,11 @@ kotuseraw_reply kotuseraw_set_decided_idx(
     const uint64_t *log, size_t log_len,
     const uint64_t *snapshot, size_t snapshot_len,
     kotuseraw_index idx);
+/* A trim that passes the compacted index drops the held snapshot too: its words become zero. */
 kotuseraw_reply kotuseraw_try_trim(
     kotuseraw_record index,
     uint64_t *log, size_t log_len,
-    const uint64_t *snapshot, size_t snapshot_len,
+    uint64_t *snapshot, size_t snapshot_len,
     kotuseraw_index idx);
 /* Where `given` is not set the snapshot goes over all that is decided, and `idx` is not looked at. */
 kotuseraw_reply kotuseraw_try_snapshot(
@@ -286,7 +287,7 @@ kotuseraw_said kotuseraw_in_place_set_decided_idx(
 kotuseraw_said kotuseraw_in_place_try_trim(
     kotuseraw_record *held,
     uint64_t *log, size_t log_len,
-    const uint64_t *snapshot, size_t snapshot_len,
+    uint64_t *snapshot, size_t snapshot_len,
     kotuseraw_index idx);
 
 /* The calls that read a log and change nothing. */

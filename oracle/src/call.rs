@@ -206,7 +206,7 @@ impl Call {
         }
     }
 
-    /// The names of all that it may be, with the refusals that document 01 gives each in its order: a run is to meet them all.
+    /// The names of all that it may be, with the refusals that the documents give each in its order: a run is to meet them all.
     pub fn all() -> Vec<(&'static str, Vec<u64>)> {
         let on_state: &[(&str, &[u64])] = &[
             ("state_cache::load_cache", &[]),
@@ -232,13 +232,13 @@ impl Call {
             ("lookup", &[]),
             ("try_trim", &[2]),
             ("in_place::try_trim", &[2]),
-            ("try_snapshot", &[2, 8]),
-            ("create_snapshot", &[11, 3, 2, 8]),
-            ("create_diff_snapshot", &[11, 8]),
+            ("try_snapshot", &[2, 16, 8]),
+            ("create_snapshot", &[11, 3, 2, 16, 8]),
+            ("create_diff_snapshot", &[11, 16, 8]),
             ("sync_log without a log part", &[11, 6]),
             ("sync_log, plain", &[11, 4, 5, 7, 10, 9, 1, 6]),
             ("sync_log, complete", &[11, 4, 5, 10, 9, 1, 6, 2]),
-            ("sync_log, delta", &[11, 4, 5, 10, 9, 1, 6, 2, 8]),
+            ("sync_log, delta", &[11, 4, 5, 10, 9, 1, 6, 2, 16, 8]),
             ("write_list", &[11, 7, 1, 9]),
             ("write_atomically", &[11, 7, 1, 9]),
         ];

@@ -83,6 +83,26 @@ fn cases() -> Vec<Case> {
             },
         },
         Case {
+            name: "a trim past a held snapshot",
+            calls: vec![
+                append(2),
+                decide(2),
+                Call::Snapshot(Some(1)),
+                Call::Trim(Form::Covered, 2),
+            ],
+            rust: |s| {
+                rust_append(s, 2);
+                s.set_decided_idx(2).unwrap();
+                s.try_snapshot(Some(1)).unwrap();
+                s.try_trim(2).unwrap();
+                format!(
+                    "holds {:?}, and shows {:?}",
+                    s.get_snapshot().unwrap(),
+                    s.read(0..2).unwrap()
+                )
+            },
+        },
+        Case {
             name: "a creation at a decided stop-sign",
             calls: vec![
                 append(1),

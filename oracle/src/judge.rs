@@ -3,7 +3,7 @@ use crate::backend::{Backend, Change, Keys, Sight};
 use crate::ballot_leader_election::Ballot;
 use crate::call::{Call, Form, Kind, List, Op, OpKind, Part};
 use crate::entry::{self, changes, entries_formed, place_formed, words};
-use crate::rules::{folded, held_with, merged};
+use crate::rules::{folded, held_with, merged, target};
 use crate::state::{used, State};
 use crate::storage::internal_storage::{InternalStorage, InternalStorageConfig};
 use crate::storage::{Snapshot, SnapshotType, StorageOp};
@@ -200,6 +200,21 @@ fn after_delta(before: &State, round: &Ballot, decided: u64, p: &Part) -> State 
     after.with_snapshot(&keys)
 }
 
+/// The state that a trim past compacted is to leave: the snapshot is dropped with the entries that it lacks.
+fn after_trim(before: &State, i: u64) -> State {
+    let to = target(before, i);
+    let kept = before.entries()[(to - before.compacted) as usize..].to_vec();
+    let all = [kept.clone(), before.batch()].concat();
+    let after = State {
+        compacted: to,
+        snapshot_held: false,
+        keys: 0,
+        snapshot: vec![],
+        ..before.clone()
+    };
+    after.with_entries(&all, kept.len())
+}
+
 fn operation(op: &Op, list: &List) -> StorageOp<Change> {
     let entries = || changes(&list.entries);
     let index = op.index as usize;
@@ -321,10 +336,14 @@ impl<S: Sight> Judge<S> {
                     .sync_log(*round, *decided as usize, Some(log_sync(p)));
                 // Its base goes past the old decided index: over the library that may be refused for room.
                 let same = rust.is_ok_and(|idx| idx as u64 == accepted);
-                if !same || self.apart(&due).is_err() {
-                    *self = Judge::of(&due);
-                    return Ok(Verdict::Listed("a delta sync"));
-                }
+                return Ok(self.listed_unless(same, &due, "a delta sync"));
+            }
+            Call::Trim(_, i) if before.snapshot_held && target(before, *i) > before.compacted => {
+                let due = after_trim(before, *i);
+                differ("the state", &due, told.after)?;
+                differ("the answer", &[1][..], told.answer)?;
+                let same = self.storage.try_trim(*i as usize).is_ok();
+                return Ok(self.listed_unless(same, &due, "a trim past a held snapshot"));
             }
             Call::Write(_, list) => self.written_atomically(list, told)?,
             Call::Fresh(n) => {
@@ -343,6 +362,15 @@ impl<S: Sight> Judge<S> {
             }
         }
         Ok(Verdict::Same)
+    }
+
+    /// The verdict on a call whose state after it may be another than the Rust's, which is then brought there.
+    fn listed_unless(&mut self, same: bool, due: &State, name: &'static str) -> Verdict {
+        if same && self.apart(due).is_ok() {
+            return Verdict::Same;
+        }
+        *self = Judge::of(due);
+        Verdict::Listed(name)
     }
 
     /// The list as the backend performs it, and the storage above it begun anew, with its batch.

@@ -4,7 +4,7 @@
 
 use crate::backend::{Change, Shared};
 use crate::storage::internal_storage::{InternalStorage, InternalStorageConfig};
-use crate::storage::StopSign;
+use crate::storage::{StopSign, Storage, StorageOp};
 use crate::util::{AcceptedMetaData, LogEntry};
 use crate::ClusterConfig;
 use std::collections::BTreeMap;
@@ -17,14 +17,31 @@ struct Report {
     listed: BTreeMap<&'static str, u64>,
 }
 
-fn storage_of(size: usize) -> InternalStorage<Shared, Change> {
-    InternalStorage::with(
-        Shared::default(),
-        InternalStorageConfig { batch_size: size },
-    )
+/// The Rust's storage, and the backend below it.
+struct Rust {
+    shared: Shared,
+    storage: InternalStorage<Shared, Change>,
 }
 
-/// Differences that docs/DIFFERENCES.md lists: there the Rust panics.
+fn rust_of(size: usize) -> Rust {
+    let shared = Shared::default();
+    let config = InternalStorageConfig { batch_size: size };
+    let storage = InternalStorage::with(shared.clone(), config);
+    Rust { shared, storage }
+}
+
+/// After a trim from `start` on that docs/DIFFERENCES.md lists the snapshot is dropped here too. Whether it was one.
+fn drop_lacking(rust: &mut Rust, start: usize) -> bool {
+    let passes = rust.storage.get_compacted_idx() > start;
+    let lacks = passes && rust.storage.get_snapshot().unwrap().is_some();
+    if lacks {
+        let none = vec![StorageOp::SetSnapshot(None)];
+        rust.shared.write_atomically(none).unwrap();
+    }
+    lacks
+}
+
+/// Reads that docs/DIFFERENCES.md lists: there the Rust panics.
 fn listed(rust: &InternalStorage<Shared, Change>, from: usize, to: usize) -> Option<&'static str> {
     let stop_at = rust.get_accepted_idx().wrapping_sub(1);
     if from == usize::MAX && to > rust.get_compacted_idx() {
@@ -66,14 +83,15 @@ fn appended(meta: Option<AcceptedMetaData<Change>>) -> Vec<String> {
 }
 
 /// What the Rust answers to a line that the program does not refuse.
-fn answer(rust: &mut InternalStorage<Shared, Change>, line: &str) -> Vec<String> {
+fn answer(judge: &mut Rust, line: &str) -> Vec<String> {
     let words: Vec<&str> = line.split(' ').collect();
     let number = |at: usize| words[at].parse::<u64>().unwrap();
     let index = |at: usize| number(at) as usize;
     let done = vec!["ok".to_string()];
+    let rust = &mut judge.storage;
     match words[0] {
         "batch" => {
-            *rust = storage_of(index(1));
+            *judge = rust_of(index(1));
             done
         }
         "put" => appended(
@@ -125,7 +143,7 @@ fn answer(rust: &mut InternalStorage<Shared, Change>, line: &str) -> Vec<String>
 
 /// The answers to one script; the first line that differs.
 fn judge(script: &[u8], answers: &str, report: &mut Report) -> Result<(), String> {
-    let mut rust = storage_of(0);
+    let mut rust = rust_of(0);
     let mut given = answers.lines();
     let script = script.strip_suffix(b"\n").unwrap_or(script);
     for (at, line) in script.split(|b| *b == b'\n').enumerate() {
@@ -148,13 +166,21 @@ fn judge(script: &[u8], answers: &str, report: &mut Report) -> Result<(), String
             .map_err(|_| format!("line {}: not a command, yet answered {first:?}", at + 1))?;
         let words: Vec<&str> = line.split(' ').collect();
         if words[0] == "read" {
-            if let Some(name) = listed(&rust, words[1].parse().unwrap(), words[2].parse().unwrap())
-            {
+            if let Some(name) = listed(
+                &rust.storage,
+                words[1].parse().unwrap(),
+                words[2].parse().unwrap(),
+            ) {
                 *report.listed.entry(name).or_default() += 1;
                 continue;
             }
         }
+        let start = rust.storage.get_compacted_idx();
         let theirs = answer(&mut rust, line);
+        if words[0] == "trim" && drop_lacking(&mut rust, start) {
+            let name = "a trim past a held snapshot";
+            *report.listed.entry(name).or_default() += 1;
+        }
         if theirs != port {
             return Err(format!(
                 "line {}, `{line}`: the Rust answers {theirs:?}, the port {port:?}",

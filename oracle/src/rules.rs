@@ -1,4 +1,4 @@
-//! Document 01's refusals: which number a call is answered on a state, and what it carries. All numbers are judged as numbers.
+//! The refusals of document 01, and of document 02 where it has landed: which number a call is answered on a state, and what it carries. All numbers are judged as numbers.
 use crate::backend::{Change, Keys};
 use crate::call::{Call, Kind, List, OpKind, Part};
 use crate::entry::{self, changes, count, entries_formed, whole, LOG_WORDS, SNAPSHOT_WORDS};
@@ -92,6 +92,11 @@ pub fn merged(first: &Keys, second: &Keys) -> Keys {
     keys
 }
 
+/// Whether entries were dropped that no held snapshot has: nothing may be folded onto such a log.
+fn hole(s: &State) -> bool {
+    s.compacted > 0 && !s.snapshot_held
+}
+
 fn over(keys: &Keys) -> bool {
     keys.0.len() as u64 > KEYS
 }
@@ -117,14 +122,19 @@ fn append(s: &State, n: u64) -> Refusal {
 
 fn snapshot(s: &State, i: u64) -> Refusal {
     let to = target(s, i);
-    first(&[(i > s.decided, 2, s.decided as u128)])
-        .or_else(|| first(&[(to > s.compacted && over(&folded(s, to)), 8, 0)]))
+    let folds = to > s.compacted;
+    first(&[
+        (i > s.decided, 2, s.decided as u128),
+        (folds && hole(s), 16, 0),
+    ])
+    .or_else(|| first(&[(folds && over(&folded(s, to)), 8, 0)]))
 }
 
 fn create(s: &State, i: u64) -> Refusal {
     first(&[
         (i < s.compacted, 3, s.compacted as u128),
         (i > s.decided, 2, s.decided as u128),
+        (hole(s), 16, 0),
     ])
     .or_else(|| first(&[(over(&folded(s, target(s, i))), 8, 0)]))
 }
@@ -144,7 +154,8 @@ fn diff(s: &State, from: u64) -> Refusal {
     } else {
         Keys::create(&delta_entries(s, from))
     };
-    first(&[(over(&made), 8, 0)])
+    let folds = from <= s.compacted && s.compacted < s.log_decided();
+    first(&[(folds && hole(s), 16, 0), (over(&made), 8, 0)])
 }
 
 fn sync(s: &State, d: u64, p: &Part) -> Refusal {
@@ -172,6 +183,7 @@ fn sync(s: &State, d: u64, p: &Part) -> Refusal {
         (too_many(kept + suffix + batched), 1, 0),
         (decided > accepted, 6, accepted),
         (!plain && idx > decided, 2, decided),
+        (p.kind == Kind::Delta && hole(s), 16, 0),
     ])
     .or_else(|| {
         let delta =

@@ -186,7 +186,22 @@ macro_rules! calls {
             kept(record, reply).map(drop)
         }
 
-        /// Drops the decided entries below an index.
+        /// Drops the decided entries below an index, and the held snapshot, which lacks them: nothing can be folded onto the log until
+        /// a complete sync. One that does not pass the compacted index keeps both.
+        ///
+        /// ```
+        /// # use kotuseraw::{BlockPlace, Entry, Index, LogIndex, Marker};
+        /// let mut index = Index::fresh(0)?;
+        /// for key in 1..4 {
+        ///     index.append(Entry::put(key, BlockPlace(10 * key)))?;
+        /// }
+        /// index.set_decided_idx(LogIndex(3))?;
+        /// index.try_snapshot(Some(LogIndex(1)))?;
+        /// index.try_trim(LogIndex(2))?;
+        /// assert_eq!(index.read(LogIndex(0)..)?.unwrap().marker, Marker::Trimmed(LogIndex(2)));
+        /// assert_eq!(index.try_snapshot(None).unwrap_err().number(), 16);
+        /// # Ok::<(), kotuseraw::Refusal>(())
+        /// ```
         pub fn try_trim(&mut self, idx: LogIndex) -> Result<(), Refusal> {
             let (record, log, snapshot) = self.parts_mut();
             let reply = $call!(try_trim(*record, log, snapshot, idx));

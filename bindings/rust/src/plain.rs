@@ -236,7 +236,7 @@ exports! {
     set_stopsign(index: IndexRecord, log: &[u64], snapshot: &[u64], held: bool, ss: StopSign) -> Reply = "kotuseraw_set_stopsign";
     set_promise(index: IndexRecord, log: &[u64], snapshot: &[u64], n_prom: Ballot) -> Reply = "kotuseraw_set_promise";
     set_decided_idx(index: IndexRecord, log: &[u64], snapshot: &[u64], idx: LogIndex) -> Reply = "kotuseraw_set_decided_idx";
-    try_trim(index: IndexRecord, log: &mut [u64], snapshot: &[u64], idx: LogIndex) -> Reply = "kotuseraw_try_trim";
+    try_trim(index: IndexRecord, log: &mut [u64], snapshot: &mut [u64], idx: LogIndex) -> Reply = "kotuseraw_try_trim";
     /// Where `given` is not set the snapshot goes over all that is decided, and `idx` is not looked at.
     try_snapshot(index: IndexRecord, log: &mut [u64], snapshot: &mut [u64], given: bool, idx: LogIndex) -> Reply = "kotuseraw_try_snapshot";
     /// Where `held` is not set there is no log part, and of what is lent only the slices' lengths are looked at.
@@ -247,7 +247,7 @@ exports! {
     /// [`set_decided_idx`] on a record where it stands.
     in_place_set_decided_idx(held: &mut IndexRecord, log: &[u64], snapshot: &[u64], idx: LogIndex) -> Said = "kotuseraw_in_place_set_decided_idx";
     /// [`try_trim`] on a record where it stands.
-    in_place_try_trim(held: &mut IndexRecord, log: &mut [u64], snapshot: &[u64], idx: LogIndex) -> Said = "kotuseraw_in_place_try_trim";
+    in_place_try_trim(held: &mut IndexRecord, log: &mut [u64], snapshot: &mut [u64], idx: LogIndex) -> Said = "kotuseraw_in_place_try_trim";
 
     lookup(index: IndexRecord, log: &[u64], snapshot: &[u64], key: u64) -> Said = "kotuseraw_lookup";
     read(index: IndexRecord, log: &[u64], snapshot: &[u64], from: Bound, to: Bound) -> ShownSaid = "kotuseraw_read";

@@ -9,20 +9,21 @@ pub struct Refusal {
     carried: u64,
 }
 
-/// What each number means, and what it carries, from 1 on.
-const MEANINGS: [(&str, &str); 12] = [
-    ("the log has no room", ""),
-    ("the index is above the decided index", "decided index"),
-    ("the index is below the compacted index", "compacted index"),
-    ("the log is stopped", "accepted index"),
-    ("the index is below the decided index", "decided index"),
-    ("the decided index would be above the accepted index", "accepted index"),
-    ("the index is outside the run that is held", "end of the run"),
-    ("the snapshot would have too many keys", ""),
-    ("the log would pass the last index", "accepted index"),
-    ("entries wait in the batch", "entries waiting"),
-    ("an argument is malformed", ""),
-    ("the state is not well formed", ""),
+/// What each number means, and what it carries.
+const MEANINGS: [(u64, &str, &str); 13] = [
+    (1, "the log has no room", ""),
+    (2, "the index is above the decided index", "decided index"),
+    (3, "the index is below the compacted index", "compacted index"),
+    (4, "the log is stopped", "accepted index"),
+    (5, "the index is below the decided index", "decided index"),
+    (6, "the decided index would be above the accepted index", "accepted index"),
+    (7, "the index is outside the run that is held", "end of the run"),
+    (8, "the snapshot would have too many keys", ""),
+    (9, "the log would pass the last index", "accepted index"),
+    (10, "entries wait in the batch", "entries waiting"),
+    (11, "an argument is malformed", ""),
+    (12, "the state is not well formed", ""),
+    (16, "the log has a hole: entries were trimmed, and no snapshot has them", ""),
 ];
 
 impl Refusal {
@@ -37,8 +38,8 @@ impl Refusal {
     }
 
     fn told(&self) -> (&'static str, &'static str) {
-        let at = usize::try_from(self.number).unwrap_or(0).wrapping_sub(1);
-        MEANINGS.get(at).copied().unwrap_or(("refused", ""))
+        let known = MEANINGS.iter().find(|(number, ..)| *number == self.number);
+        known.map_or(("refused", ""), |(_, meaning, carried)| (meaning, carried))
     }
 
     /// What the number means.

@@ -205,6 +205,31 @@ fn a_state_that_is_not_well_formed_becomes_no_index() {
     assert_eq!(Index::judged(*index.record(), &log, &snapshot[..SNAPSHOT_WORDS - WIDTH]), None);
 }
 
+/// A log of two entries, the first of them trimmed.
+fn holed() -> Index {
+    let mut index = Index::fresh(0).unwrap();
+    for key in [1, 2] {
+        index.append(Entry::removed(key)).unwrap();
+    }
+    index.set_decided_idx(LogIndex(2)).unwrap();
+    index.try_trim(LogIndex(1)).unwrap();
+    index
+}
+
+#[test]
+fn a_complete_sync_mends_a_hole() {
+    let mut index = holed();
+    let (empty, snapshot) = (Snapshot::default(), Snapshot::fold(&[Entry::removed(1), Entry::removed(2)]).unwrap());
+    let sync = |decided_snapshot| LogSync { sync_idx: LogIndex(2), decided_snapshot, suffix: &[], stopsign: None };
+    let delta = index.sync_log(Ballot::default(), LogIndex(2), Some(sync(SnapshotType::Delta(&empty))));
+    assert_eq!(delta.unwrap_err().number(), 16);
+    index.sync_log(Ballot::default(), LogIndex(2), Some(sync(SnapshotType::Complete(&snapshot)))).unwrap();
+    index.append(Entry::put(1, BlockPlace(10))).unwrap();
+    index.set_decided_idx(LogIndex(3)).unwrap();
+    index.try_snapshot(None).unwrap();
+    assert_eq!(index.lookup(1).unwrap(), Some(BlockPlace(10)));
+}
+
 #[test]
 fn a_refusal_says_what_it_means() {
     let mut index = Index::fresh(0).unwrap();
@@ -214,6 +239,7 @@ fn a_refusal_says_what_it_means() {
         index.try_trim(LogIndex(1)).unwrap_err(),
         index.append_stopsign(StopSign::default()).unwrap_err(),
         Index::fresh(LARGEST_BATCH + 1).unwrap_err(),
+        holed().try_snapshot(None).unwrap_err(),
     ]
     .map(|refusal| refusal.to_string())
     .to_vec();
@@ -222,6 +248,7 @@ fn a_refusal_says_what_it_means() {
         "refused 2: the index is above the decided index (decided index: 0)",
         "refused 11: an argument is malformed",
         "refused 11: an argument is malformed",
+        "refused 16: the log has a hole: entries were trimmed, and no snapshot has them",
     ];
     assert_eq!(said, due);
 }

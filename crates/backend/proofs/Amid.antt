@@ -1,15 +1,13 @@
 -- The log's words in the midst of a list, whatever the numbers are: another run before the same batch.
 use Rattle.words.proofs.Prelude.{arith, _≡_, refl, sym, ap, _∙_, ℕ, _+_, _-_, _*_, _/_, _≤_, min, true, List, []}
 use Rattle.words.proofs.Prelude.{append-assoc, _++_, length-drop, length-take, length-append, drop-of-length-le, length}
-use Rattle.words.proofs.Prelude.{take, drop, replicate, take-all}
-use lib.{ListN.length-replicate, Seq.paste}
+use Rattle.words.proofs.Prelude.{take, drop, take-all}
 use Rattle.words.specs.{Words.laid, Words.spliced, Coded.wordsOf}
 use Rattle.words.proofs.Tests.{reach, reached, short, and-left, and-right}
-use Rattle.words.proofs.Laws.{paste-all}
 use Rattle.words.proofs.Alls.{all-join, all-left, all-right, all-take, all-drop}
 use Rattle.words.proofs.CodedLaws.{entries-length, entries-add, entries-first, entries-second, words-entries}
 use Rattle.words.proofs.CodedLaws.{spliced-laid, spliced-trim, spliced-sync}
-use Rattle.entry.specs.Limits.{width, entryRoom, logWords, snapshotWords}
+use Rattle.entry.specs.Limits.{width, entryRoom, logWords}
 use Rattle.entry.specs.Change.{Change, changeCode, changeFormed, entriesFormed, entriesOf, entriesIn, sliceFormed}
 use Rattle.entry.specs.Change.{stored, storedIn}
 use Rattle.entry.proofs.ChangeLaws.{changeOk}
@@ -177,11 +175,3 @@ module _ (r : Raw) (h : Kept r) where
         words (r .snapshot))
     trim-held = rerun-held (drop below kept) words (r .index .retained - gone) trim-words trim-count
         (all-drop changeFormed below kept kept-fine) trim-room
-
--- a slice cleared whole
-pub cleared : (ws : List ℕ) → length ws ≡ snapshotWords
-    → paste ws 0 (replicate (snapshotWords - 0) 0) (snapshotWords - 0) ≡ replicate snapshotWords 0
-cleared ws e =
-    let k : length (replicate {A = ℕ} snapshotWords 0) ≡ snapshotWords = length-replicate {A = ℕ} snapshotWords 0 in
-    ap (λ (j : ℕ). paste ws 0 (replicate snapshotWords 0) j) (sym k)
-    ∙ paste-all ws (replicate snapshotWords 0) (k ∙ sym e)

@@ -1,4 +1,4 @@
--- A snapshot created from a lent state: refusals 12, 11, 3, 2 and 8, or the fold written out.
+-- A snapshot created from a lent state: refusals 12, 11, 3, 2, 16 and 8, or the fold written out.
 use Rattle.words.proofs.Prelude.{arith, _≡_, refl, sym, ap, _∙_, ℕ, _+_, _-_, _≤_, _<_, Bool, true, false, ltb, lt-ltb}
 use Rattle.words.proofs.Prelude.{le-ltb, some, List}
 use Rattle.entry.specs.Change.{Change}
@@ -6,13 +6,14 @@ use Rattle.entry.specs.Guards.{Verdict, passes, refuses, first, Answer, refused
 use Rattle.entry.proofs.GuardLaws.{passing, stopping, found, first-goes-on}
 use Rattle.snapshot.specs.Calls.{outcome as snapshotOutcome, writtenBy, foldGuards, writtenOut}
 use Rattle.snapshot.specs.Inner.{foldWritten, foldedOut}
-use Rattle.model.specs.{Numbers.Numbers, Log.Log, Log.numbersOf, Log.foldedTo, Compact.target, Compact.pastDecided}
-use Rattle.model.specs.{Compact.foldedUpto, Compact.createGuards, Compact.created, Calls.Call, Calls.query}
-use Rattle.model.specs.{Calls.create, Calls.malformed, Calls.further, Calls.queryGuards, Calls.effect, Calls.replyOf}
-use Rattle.model.specs.{Calls.queryReply, Inner.Sound}
+use Rattle.model.specs.{Numbers.Numbers, Log.Log, Log.numbersOf, Log.foldedTo, Log.hole, Compact.target}
+use Rattle.model.specs.{Compact.pastDecided, Compact.foldedUpto, Compact.createGuards, Compact.created, Calls.Call}
+use Rattle.model.specs.{Calls.query, Calls.create, Calls.malformed, Calls.further, Calls.queryGuards, Calls.effect}
+use Rattle.model.specs.{Calls.replyOf, Calls.queryReply, Inner.Sound}
 use Rattle.model.proofs.{Forms.ranges, Keeps.target-least}
 use Rattle.state_cache.specs.{State.Raw, State.numbersIn, State.formed, State.logOf, Run.Outcome, Run.run}
-use Rattle.state_cache.proofs.Stands.{Stands, stands-of}
+use Rattle.state_cache.specs.Inner.{holeIn}
+use Rattle.state_cache.proofs.Stands.{Stands, stands-of, hole-is}
 use Rattle.state_cache.proofs.Runs.{ill-formed, not-whole, call-refused, call-stands}
 use Rattle.internal_storage.proofs.Effects.{numbers}
 use Rattle.compaction.proofs.Folding.{fold-is}
@@ -69,11 +70,19 @@ module _ (r : Raw) (i : ℕ) (out : List ℕ) where
           (found {gs = createGuards i s} {v = refuses 2 (r .index .decided .0)}
           (passing from (stopping (rw (numbers r ok) h) (sym (st .marks .index)))))
 
-      pub create-folds : pastDecided (some i) (numbersIn (r .index)) ≡ false → (to : ℕ)
+      pub create-holed : pastDecided (some i) (numbersIn (r .index)) ≡ false → holeIn (r .index) ≡ true
+          → snapshotOutcome (refused 16 0) out ≡ writtenOut (run c true r .answer) out
+      unfolding further queryGuards createGuards
+      create-holed h e =
+          told (refuses 16 0)
+          (found {gs = createGuards i s} {v = refuses 16 0}
+          (passing from (passing (rw (numbers r ok) h) (stopping (hole-is s r st ∙ e) refl))))
+
+      pub create-folds : pastDecided (some i) (numbersIn (r .index)) ≡ false → holeIn (r .index) ≡ false → (to : ℕ)
           → to ≡ target (some i) (numbersIn (r .index)) → to ≤ r .index .compacted .0 + r .index .retained
           → foldedOut (r .index .keys) (r .snapshot) (to - r .index .compacted .0) (r .log) out
           ≡ writtenOut (run c true r .answer) out
-      create-folds h to e in-run =
+      create-folds h whole to e in-run =
           ap (λ (es : List Change). foldWritten es out) (fold-is r ok to in-run ∙ asked)
           ∙ told (first (foldGuards (created i s))) verdict
         where
@@ -84,4 +93,5 @@ module _ (r : Raw) (i : ℕ) (out : List ℕ) where
           verdict : first (foldGuards (created i s)) ≡ first (further c s)
           verdict = unfold further queryGuards createGuards in
               sym (first-goes-on 3 (s .run .compacted) (ltb i (s .run .compacted)) _ from
-              ∙ first-goes-on 2 (s .marks .decided) (pastDecided (some i) (numbersOf s)) _ (rw (numbers r ok) h))
+              ∙ first-goes-on 2 (s .marks .decided) (pastDecided (some i) (numbersOf s)) _ (rw (numbers r ok) h)
+              ∙ first-goes-on 16 0 (hole (s .run)) _ (hole-is s r st ∙ whole))

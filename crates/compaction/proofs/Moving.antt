@@ -1,8 +1,8 @@
 -- A trim or a snapshot of a lent state: refusal 2, where it ends, and the run's start moved up there, the model's
 -- `movedTo`.
 use Rattle.words.proofs.Prelude.{arith, _≡_, refl, sym, ap, _∙_, ℕ, _+_, _-_, _≤_, Bool, true, false, lt-ltb, le-ltb}
-use Rattle.words.proofs.Prelude.{Option, some, List, [], _∷_, _++_, length-drop, length}
-use Rattle.words.specs.Coded.{wordsOf}
+use Rattle.words.proofs.Prelude.{Option, none, some, List, [], _∷_, _++_, length-drop, length, replicate}
+use Rattle.words.specs.{Words.laid, Coded.wordsOf}
 use Rattle.words.proofs.CodedLaws.{spliced-trim}
 use Rattle.entry.specs.{Limits.logWords, Limits.snapshotWords, Change.Change, Change.stored, Guards.Guard}
 use Rattle.entry.specs.{Guards.passes, Guards.refuses, Guards.first, Guards.replied, Refusals.numberOf}
@@ -109,23 +109,23 @@ module _ (r : Raw) (ok : formed r ≡ true) (i : ℕ) where
   unfolding further trimGuards
   only = refl
 
-  trim-stands : passes ≡ pastVerdict (some i) (r .index) → (x : Raw) → Stands (movedTo (some i) (t .run .held) t) x
+  trim-stands : passes ≡ pastVerdict (some i) (r .index) → (x : Raw) → Stands (movedTo (some i) none t) x
       → outcome (replied tt) x ≡ run (trim i) true r
   unfolding malformed effect trimmedTo replyOf first
   trim-stands v x p = call-stands (trim i) r ok refl (sym (past-goes-on r ok (some i) (trim i) [] only v)) tt x refl p
 
   pub trim-stays : (a : Settled) → Stay (some i) (r .index) a → outcome (settled a) r ≡ run (trim i) true r
   unfolding malformed
-  trim-stays Done p = trim-stands (p .verdict) r (unmoved-stands r ok (some i) (p .low refl) (t .run .held))
+  trim-stays Done p = trim-stands (p .verdict) r (unmoved-stands r ok (some i) (p .low refl) none)
   trim-stays (Refused x) p =
       call-refused (trim i) r ok refl (numberOf x) (carriedOf x)
       (past-stops r ok (some i) (trim i) [] only (numberOf x) (carriedOf x) (p .verdict))
 
-  pub trim-moves : (to : ℕ) (u : Up (some i) (r .index) to) (y : IndexRecord) (words : List ℕ)
-      → Moved to (r .index .«snapshot_held») (r .index .keys) (r .index) (r .log) y words
-      → outcome (replied tt) (raw y words (r .snapshot)) ≡ run (trim i) true r
-  trim-moves to u y words m =
-      let st = stands-of r ok in
-      trim-stands (u .verdict) (raw y words (r .snapshot))
-      (moved-stands r ok (some i) to u (r .index .«snapshot_held») (r .index .keys) y words m (t .run .held)
-      (r .snapshot) (st .run .snapshot) (st .run .snapshot-keys) (st .snapshot))
+  -- the snapshot is dropped with all its words
+  pub trim-moves : (to : ℕ) (u : Up (some i) (r .index) to) (y : IndexRecord) (words snapshot : List ℕ)
+      → Moved to false 0 (r .index) (r .log) y words → snapshot ≡ replicate snapshotWords 0
+      → outcome (replied tt) (raw y words snapshot) ≡ run (trim i) true r
+  unfolding laid wordsOf
+  trim-moves to u y words snapshot m e =
+      trim-stands (u .verdict) (raw y words snapshot)
+      (moved-stands r ok (some i) to u false 0 y words m none snapshot refl refl (sym e))

@@ -1,22 +1,25 @@
--- A snapshot taken of a lent state: refusals 2 and 8, or the fold held and the run's start moved up.
-use Rattle.words.proofs.Prelude.{_≡_, refl, sym, ap, _∙_, ℕ, _-_, Bool, true, if_then_else_, Option, some, List, []}
-use Rattle.words.proofs.Prelude.{_∷_}
+-- A snapshot taken of a lent state: refusals 2, 16 and 8, or the fold held and the run's start moved up.
+use Rattle.words.proofs.Prelude.{_≡_, refl, sym, ap, _∙_, ℕ, _-_, Bool, true, false, if_then_else_, Option, some, List}
+use Rattle.words.proofs.Prelude.{[], _∷_}
 use Rattle.words.specs.Coded.{entriesAt}
-use Rattle.entry.specs.{Change.Change, Change.entriesOf, Guards.passes, Guards.first, Guards.replied, Guards.refusedBy}
+use Rattle.entry.specs.{Change.Change, Change.entriesOf, Guards.Guard, Guards.passes, Guards.first, Guards.refused}
+use Rattle.entry.specs.{Guards.replied, Guards.refusedBy}
 use Rattle.entry.specs.{Refusals.numberOf, Refusals.carriedOf, declared.Refusal.Refusal}
 use Rattle.snapshot.specs.{Folds.foldOnto, Calls.outcome as snapshotOutcome, Calls.folded, Calls.foldGuards}
 use Rattle.snapshot.specs.{Inner.foldWritten, declared.Folded.Folded, declared.Folded.the-variants.Keys}
 use Rattle.snapshot.specs.{declared.Folded.the-variants.Refused}
 use Rattle.snapshot.proofs.Calling.{wrote-nothing, wrote-keys}
-use Rattle.model.specs.Log.{Log, numbersOf, foldedTo}
-use Rattle.model.specs.Compact.{aboveDecided, passesStart, foldedUpto, snapshotGuards, movedTo, snapshotTo}
+use Rattle.entry.proofs.GuardLaws.{first-refuses, first-goes-on}
+use Rattle.model.specs.Log.{Log, numbersOf, foldedTo, hole}
+use Rattle.model.specs.Compact.{aboveDecided, passesStart, foldedUpto, ontoGuards, snapshotGuards, movedTo, snapshotTo}
 use Rattle.model.specs.Calls.{snapshot, malformed, further, effect, replyOf}
 use Rattle.state_cache.specs.{State.Raw, State.raw, State.formed, State.logOf, Run.outcome, Run.run, Run.settled}
 use Rattle.state_cache.specs.{declared.IndexRecord.IndexRecord, declared.Settled.Settled}
 use Rattle.state_cache.specs.{declared.Settled.the-variants.Done}
 use Rattle.state_cache.specs.{declared.Settled.the-variants.Refused as SettledRefused}
-use Rattle.state_cache.proofs.{Stands.Stands, Runs.call-refused, Runs.call-stands}
-use Rattle.compaction.specs.Inner.{Stay, Up, Moved}
+use Rattle.state_cache.specs.Inner.{holeIn}
+use Rattle.state_cache.proofs.{Stands.Stands, Stands.stands-of, Stands.hole-is, Runs.call-refused, Runs.call-stands}
+use Rattle.compaction.specs.Inner.{pastVerdict, Stay, Up, Moved}
 use Rattle.compaction.proofs.Moving.{past-stops, past-goes-on, not-past, unmoved-stands, in-run, ends-at}
 use Rattle.compaction.proofs.Moving.{is-past, moved-stands}
 use Rattle.compaction.proofs.Folding.{fold-is}
@@ -25,13 +28,19 @@ module _ (r : Raw) (ok : formed r ≡ true) (upto : Option ℕ) where
   abbrev s : Log
   s = logOf r
 
-  -- what is folded, and refusal 8 for it
-  abbrev due : List Change
-  due = if passesStart upto s then foldedUpto upto s else []
+  -- what is folded, and refusals 16 and 8 for it
+  abbrev due : Bool → List Guard
+  due t = ontoGuards t s (if t then foldedUpto upto s else [])
 
-  both : further (snapshot upto) s ≡ aboveDecided upto (numbersOf s) ∷ foldGuards due
+  all-guards : further (snapshot upto) s ≡ aboveDecided upto (numbersOf s) ∷ due (passesStart upto s)
   unfolding further snapshotGuards
-  both = refl
+  all-guards = refl
+
+  on-from : passes ≡ pastVerdict upto (r .index) → (t : Bool) → passesStart upto s ≡ t
+      → first (further (snapshot upto) s) ≡ first (due t)
+  on-from v t e =
+      past-goes-on r ok upto (snapshot upto) (due (passesStart upto s)) all-guards v
+      ∙ ap (λ (b : Bool). first (due b)) e
 
   snapshot-stands : passes ≡ first (further (snapshot upto) s) → (x : Raw)
       → Stands (movedTo upto (some (foldedUpto upto s)) s) x → outcome (replied tt) x ≡ run (snapshot upto) true r
@@ -41,15 +50,23 @@ module _ (r : Raw) (ok : formed r ≡ true) (upto : Option ℕ) where
   pub snapshot-stays : (a : Settled) → Stay upto (r .index) a → outcome (settled a) r ≡ run (snapshot upto) true r
   unfolding malformed first
   snapshot-stays Done p =
-      snapshot-stands (sym (past-goes-on r ok upto (snapshot upto) (foldGuards due) both (p .verdict)
-      ∙ rw (not-past r ok upto (p .low refl)))) r
+      snapshot-stands (sym (on-from (p .verdict) false (not-past r ok upto (p .low refl)))) r
       (unmoved-stands r ok upto (p .low refl) (some (foldedUpto upto s)))
   snapshot-stays (SettledRefused x) p =
       call-refused (snapshot upto) r ok refl (numberOf x) (carriedOf x)
-      (past-stops r ok upto (snapshot upto) (foldGuards due) both (numberOf x) (carriedOf x) (p .verdict))
+      (past-stops r ok upto (snapshot upto) (due (passesStart upto s)) all-guards (numberOf x) (carriedOf x)
+      (p .verdict))
+
+  pub snapshot-holed : (to : ℕ) (u : Up upto (r .index) to) → holeIn (r .index) ≡ true
+      → outcome (refused 16 0) r ≡ run (snapshot upto) true r
+  unfolding malformed
+  snapshot-holed to u h =
+      call-refused (snapshot upto) r ok refl 16 0
+      (sym (on-from (u .verdict) true (is-past r ok upto to u)
+      ∙ first-refuses 16 0 (hole (s .run)) _ (hole-is s r (stands-of r ok) ∙ h)))
 
   -- a fold of the entries below the target, with nothing folded after it
-  module _ (to : ℕ) (u : Up upto (r .index) to) (a : Folded) (exit : List ℕ)
+  module _ (to : ℕ) (u : Up upto (r .index) to) (whole : holeIn (r .index) ≡ false) (a : Folded) (exit : List ℕ)
       (f : snapshotOutcome (folded a) exit ≡ foldWritten (foldOnto (foldOnto (entriesOf (r .index .keys) (r .snapshot))
       (entriesOf (to - r .index .compacted .0) (r .log))) (entriesOf 0 [])) (r .snapshot)) where
     folds : foldOnto (foldOnto (entriesOf (r .index .keys) (r .snapshot))
@@ -62,8 +79,8 @@ module _ (r : Raw) (ok : formed r ≡ true) (upto : Option ℕ) where
 
     verdict : first (further (snapshot upto) s) ≡ first (foldGuards (foldedUpto upto s))
     verdict =
-        past-goes-on r ok upto (snapshot upto) (foldGuards due) both (u .verdict)
-        ∙ ap (λ (b : Bool). first (foldGuards (if b then foldedUpto upto s else []))) (is-past r ok upto to u)
+        on-from (u .verdict) true (is-past r ok upto to u)
+        ∙ first-goes-on 16 0 (hole (s .run)) _ (hole-is s r (stands-of r ok) ∙ whole)
 
     pub snapshot-over : (x : Refusal) → a ≡ Refused x
         → outcome (refusedBy x) (raw (r .index) (r .log) exit) ≡ run (snapshot upto) true r

@@ -87,17 +87,23 @@ pub fn move_to(
     next
 }
 
-// Refusal 2, or the entries below the target dropped.
-pub fn trim_at(index: IndexRecord, log: &mut [u64], snapshot: &[u64], idx: LogIndex) -> SettledAt
+// Refusal 2, or the entries below the target dropped, and with them the snapshot of what came before.
+pub fn trim_at(
+    index: IndexRecord,
+    log: &mut [u64],
+    snapshot: &mut [u64],
+    idx: LogIndex,
+) -> SettledAt
     requires { ⌜ Ready (raw index (now log) (now snapshot)) ⌝ }
-    ensures { λ r. ⌜ outcome (settled (r .answer)) (raw (r .index) (now (log .exit)) (now (snapshot .entry)))
+    ensures { λ r. ⌜ outcome (settled (r .answer)) (raw (r .index) (now (log .exit)) (now (snapshot .exit)))
         ≡ run (trim (idx .0)) true (raw index (now (log .entry)) (now (snapshot .entry))) ⌝ }
 {
     let way = reach_of(index, Upto::Index(idx));
     match way {
         Reach::Stays(answer) => SettledAt { answer, index },
         Reach::To(to) => {
-            let next = move_to(index, log, to, index.snapshot_held, index.keys);
+            words::clear(snapshot, 0, entry::SNAPSHOT_WORDS);
+            let next = move_to(index, log, to, false, 0);
             SettledAt {
                 answer: Settled::Done,
                 index: next,
@@ -106,7 +112,7 @@ pub fn trim_at(index: IndexRecord, log: &mut [u64], snapshot: &[u64], idx: LogIn
     }
 }
 
-// Refusals 2 and 8, or the entries below the target folded and dropped.
+// Refusals 2, 16 and 8, or the entries below the target folded and dropped.
 pub fn snapshot_at(
     index: IndexRecord,
     log: &mut [u64],
@@ -121,6 +127,12 @@ pub fn snapshot_at(
     match way {
         Reach::Stays(answer) => SettledAt { answer, index },
         Reach::To(to) => {
+            if state_cache::inner::hole(index) {
+                return SettledAt {
+                    answer: Settled::Refused(Refusal::Hole),
+                    index,
+                };
+            }
             let gone = (to - index.compacted.0) as usize;
             let folded = snapshot::inner::fold_over(snapshot, index.keys, log, gone, &[], 0);
             match folded {
@@ -140,7 +152,7 @@ pub fn snapshot_at(
     }
 }
 
-// Refusals 3, 2 and 8, or the fold of all below the target.
+// Refusals 3, 2, 16 and 8, or the fold of all below the target.
 pub fn create_at(
     index: IndexRecord,
     log: &[u64],
@@ -162,6 +174,10 @@ pub fn create_at(
     let upto = Upto::Index(idx);
     if past_decided(index, upto) {
         return Folded::Refused(Refusal::AboveDecided(decided));
+    }
+    let holed = state_cache::inner::hole(index);
+    if holed {
+        return Folded::Refused(Refusal::Hole);
     }
     let to = target(index, upto);
     let n = (to - start.0) as usize;

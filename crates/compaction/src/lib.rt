@@ -20,9 +20,15 @@ ghost use Rattle.state_cache.specs.Run.{outcome, run, settled};
 
 pub mod inner;
 
-// Drops the entries below an index, whatever stands in the snapshot.
-pub fn try_trim(index: IndexRecord, log: &mut [u64], snapshot: &[u64], idx: LogIndex) -> SettledAt
-    ensures { λ r. ⌜ outcome (settled (r .answer)) (raw (r .index) (now (log .exit)) (now (snapshot .entry)))
+// Drops the entries below an index, and the held snapshot, which lacks them: nothing can be folded onto the log until
+// a complete sync. One that does not pass compacted keeps both.
+pub fn try_trim(
+    index: IndexRecord,
+    log: &mut [u64],
+    snapshot: &mut [u64],
+    idx: LogIndex,
+) -> SettledAt
+    ensures { λ r. ⌜ outcome (settled (r .answer)) (raw (r .index) (now (log .exit)) (now (snapshot .exit)))
         ≡ run (trim (idx .0)) true (raw index (now (log .entry)) (now (snapshot .entry))) ⌝ }
 {
     if !state_cache::well_formed(index, log, snapshot) {
@@ -34,8 +40,8 @@ pub fn try_trim(index: IndexRecord, log: &mut [u64], snapshot: &[u64], idx: LogI
     inner::trim_at(index, log, snapshot, idx)
 }
 
-// Folds the entries below an index onto the held snapshot and drops them. Where the fold has too many keys nothing
-// changes.
+// Folds the entries below an index onto the held snapshot and drops them. Where the log has a hole, or the fold too
+// many keys, nothing changes.
 pub fn try_snapshot(
     index: IndexRecord,
     log: &mut [u64],

@@ -1,7 +1,9 @@
 -- What a diff gives, of a lent state: a fold onto the held snapshot, or of a part of the log.
-use Rattle.words.proofs.Prelude.{arith, _≡_, refl, sym, ap, _∙_, ℕ, _-_, _*_, _≤_, _<_, min, Bool, true, false, _||_}
-use Rattle.words.proofs.Prelude.{ltb, leb, lt-ltb, le-ltb, ltb-false, le-leb, lt-leb, if_then_else_, Option, none, some}
-use Rattle.words.proofs.Prelude.{List, [], length-drop, length, take, drop, replicate, take-all}
+use Rattle.words.proofs.Prelude.{arith, _≡_, refl, sym, ap, ap₂, _∙_, ℕ, _-_, _*_, _≤_, _<_, min, Bool, true, false}
+use Rattle.words.proofs.Prelude.{true≢false, and-true, _&&_, _||_, not, ltb, leb, lt-ltb, le-ltb, ltb-false, le-leb}
+use Rattle.words.proofs.Prelude.{lt-leb, if_then_else_, Option, none, some, List, [], length-drop, length, take, drop}
+use Rattle.words.proofs.Prelude.{replicate, take-all}
+use mathlib.Core.Bool.{and-false}
 use Rattle.words.specs.Coded.{entriesAt}
 use Rattle.words.proofs.{Tests.Reach, Tests.reached, Tests.short, Tests.reach, Tests.or-left, Tests.or-right}
 use Rattle.words.proofs.{Alls.all-take, Alls.all-drop, CodedLaws.entries-take, CodedLaws.entries-drop}
@@ -9,11 +11,11 @@ use Rattle.entry.specs.Limits.{width, snapshotWords}
 use Rattle.entry.specs.Change.{Change, changeCode, changeFormed, entriesFormed, entriesOf}
 use Rattle.snapshot.specs.{Folds.fold, Folds.merge, Inner.Shows, Inner.Aside, Inner.foldedOut}
 use Rattle.snapshot.proofs.{Calling.snapshot-holds, Calling.empty-formed, Algebra.merge-empty, Forming.formed-fold}
-use Rattle.model.specs.{Numbers.logDecided, Log.Run, Log.Log, Log.given, Log.orEmpty, Log.foldedTo, Read.between}
-use Rattle.model.specs.{Diff.Given, Diff.plain, Diff.complete, Diff.delta, Diff.diffOf}
+use Rattle.model.specs.{Numbers.logDecided, Log.Run, Log.Log, Log.given, Log.orEmpty, Log.foldedTo, Log.hole}
+use Rattle.model.specs.{Read.between, Diff.Given, Diff.plain, Diff.complete, Diff.delta, Diff.diffOf, Diff.diffFolds}
 use Rattle.model.proofs.Forms.{formed-of, snapshot-folded}
-use Rattle.state_cache.specs.{State.Raw, State.numbersIn, State.formed, State.logOf, Inner.Ready}
-use Rattle.state_cache.proofs.Stands.{Stands, stands-of, log-formed, ready-of}
+use Rattle.state_cache.specs.{State.Raw, State.numbersIn, State.formed, State.logOf, Inner.Ready, Inner.holeIn}
+use Rattle.state_cache.proofs.Stands.{Stands, stands-of, log-formed, ready-of, hole-is}
 use Rattle.internal_storage.proofs.Effects.{numbers}
 use Rattle.compaction.proofs.Folding.{decided-low, decided-high}
 
@@ -122,6 +124,35 @@ module _ (r : Raw) (ok : formed r ≡ true) (i last : ℕ) (l : last ≡ logDeci
       → diffOf i s ≡ complete (foldedTo last (s .run))
   diff-complete h e = diff-is
       ∙ to-complete last i (s .run) (omega (arith, st .run .start, h)) (rw (st .run .snapshot, st .run .start) e)
+
+  -- refusal 16, by the record: a complete diff that folds, of a log with a hole
+  folds-is : (diffFolds i s && hole (s .run))
+      ≡ ((leb i (r .index .compacted .0) && ltb (r .index .compacted .0) last) && holeIn (r .index))
+  unfolding diffFolds
+  folds-is =
+      ap₂ (λ (t u : Bool). t && u)
+      (ap₂ (λ (a b : ℕ). leb i a && ltb a b) (st .run .start) (sym (l ∙ ap logDecided (sym (numbers r ok)))))
+      (hole-is s r st)
+
+  pub diff-onto : i ≤ r .index .compacted .0 → (r .index .«snapshot_held» || ltb (r .index .compacted .0) last) ≡ true
+      → holeIn (r .index) ≡ true → (diffFolds i s && hole (s .run)) ≡ true
+  diff-onto h g e =
+      folds-is ∙ rw (le-leb i (r .index .compacted .0) h, e)
+      (and-true _ ∙ bare (r .index .«snapshot_held») (ltb 0 (r .index .compacted .0)) _ e g)
+    where
+      bare : (held up folds : Bool) → (up && not held) ≡ true → (held || folds) ≡ true → folds ≡ true
+      bare true up folds e g = absurd (true≢false (sym (sym (and-false up) ∙ e)))
+      bare false up folds e g = g
+
+  pub diff-rests : (r .index .«snapshot_held» || ltb (r .index .compacted .0) last) ≡ false
+      → (diffFolds i s && hole (s .run)) ≡ false
+  diff-rests g = folds-is ∙ rw (or-right (r .index .«snapshot_held») _ g, and-false (leb i (r .index .compacted .0)))
+
+  pub diff-whole : holeIn (r .index) ≡ false → (diffFolds i s && hole (s .run)) ≡ false
+  diff-whole e = folds-is ∙ rw (e, and-false (leb i (r .index .compacted .0) && ltb (r .index .compacted .0) last))
+
+  pub diff-past : r .index .compacted .0 < i → (diffFolds i s && hole (s .run)) ≡ false
+  diff-past h = folds-is ∙ rw (lt-leb i (r .index .compacted .0) h)
 
   pub complete-formed : entriesFormed (foldedTo last (s .run)) ≡ true
   complete-formed = snapshot-folded last s (formed-of s (log-formed r ok)) .fine

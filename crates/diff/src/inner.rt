@@ -1,6 +1,7 @@
 // What a diff does once the state is known to be well formed: not for a user, whose call is in lib.rt.
 use super::Diff;
 use entry::LogIndex;
+use entry::Refusal;
 use snapshot::Folded;
 use state_cache::IndexRecord;
 ghost use Prim.Native.Nat.{_*_, _≤_};
@@ -45,8 +46,8 @@ fn tell(delta: bool, r: Folded, log_decided: LogIndex) -> Diff
     }
 }
 
-// Refusal 8, or the diff written out. Where nothing is retained below log-decided, the fold onto the held snapshot is
-// a copy of it.
+// Refusals 16 and 8, or the diff written out. Where nothing is retained below log-decided, the fold onto the held
+// snapshot is a copy of it; a log with a hole holds none.
 pub fn diff_at(
     index: IndexRecord,
     log: &[u64],
@@ -72,6 +73,9 @@ pub fn diff_at(
     }
     if !(index.snapshot_held | (low < last)) {
         return Diff::Nothing { log_decided };
+    }
+    if state_cache::inner::hole(index) {
+        return Diff::Refused(Refusal::Hole);
     }
     let r = snapshot::inner::fold_aside(snapshot, index.keys, log, (last - low) as usize, out);
     tell(false, r, log_decided)

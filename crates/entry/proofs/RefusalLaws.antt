@@ -3,7 +3,7 @@ use Rattle.words.proofs.Prelude.{_≡_, refl, sym, ap₂, _∙_, ℕ, eqb, if_t
 use Rattle.entry.specs.declared.Refusal.{Refusal}
 use Rattle.entry.specs.declared.Refusal.the-variants.{NoRoom, AboveDecided, BelowCompacted, Stopped, BelowDecided}
 use Rattle.entry.specs.declared.Refusal.the-variants.{AboveAccepted, OutsideRun, TooManyKeys, PastLastIndex}
-use Rattle.entry.specs.declared.Refusal.the-variants.{BatchHeld, Malformed, IllFormed}
+use Rattle.entry.specs.declared.Refusal.the-variants.{BatchHeld, Malformed, IllFormed, Hole}
 use Rattle.entry.specs.Refusals.{numberOf, carriedOf}
 use Rattle.entry.specs.Guards.{refusedBy}
 
@@ -20,7 +20,8 @@ refusalOf n k =
     else if eqb n 9 then PastLastIndex (record { 0 = k })
     else if eqb n 10 then BatchHeld k
     else if eqb n 11 then Malformed
-    else IllFormed
+    else if eqb n 12 then IllFormed
+    else Hole
 
 refusal-of : (r : Refusal) → refusalOf (numberOf r) (carriedOf r) ≡ r
 unfolding refusalOf
@@ -36,6 +37,7 @@ refusal-of (PastLastIndex i) = refl
 refusal-of (BatchHeld n) = refl
 refusal-of Malformed = refl
 refusal-of IllFormed = refl
+refusal-of Hole = refl
 
 pub refusal-known : {A : Type 0} (r q : Refusal) → refusedBy {A = A} r ≡ refusedBy q → r ≡ q
 refusal-known r q e =

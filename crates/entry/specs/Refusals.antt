@@ -1,9 +1,9 @@
--- Document 01's table of refusals: the number of each, and the number that it carries.
+-- Document 01's table of refusals, and document 02's: the number of each, and the number that it carries.
 use Prim.Native.Nat.{ℕ}
 use Rattle.entry.specs.declared.Refusal.{Refusal}
 use Rattle.entry.specs.declared.Refusal.the-variants.{NoRoom, AboveDecided, BelowCompacted, Stopped, BelowDecided}
 use Rattle.entry.specs.declared.Refusal.the-variants.{AboveAccepted, OutsideRun, TooManyKeys, PastLastIndex}
-use Rattle.entry.specs.declared.Refusal.the-variants.{BatchHeld, Malformed, IllFormed}
+use Rattle.entry.specs.declared.Refusal.the-variants.{BatchHeld, Malformed, IllFormed, Hole}
 
 abbrev pub numberOf : Refusal → ℕ
 numberOf NoRoom = 1
@@ -18,6 +18,7 @@ numberOf (PastLastIndex i) = 9
 numberOf (BatchHeld n) = 10
 numberOf Malformed = 11
 numberOf IllFormed = 12
+numberOf Hole = 16
 
 abbrev pub carriedOf : Refusal → ℕ
 carriedOf NoRoom = 0
@@ -32,3 +33,4 @@ carriedOf (PastLastIndex i) = i .0
 carriedOf (BatchHeld n) = n
 carriedOf Malformed = 0
 carriedOf IllFormed = 0
+carriedOf Hole = 0

@@ -121,7 +121,7 @@ pub struct StopSign {
     pub metadata: [u8; METADATA],
 }
 
-// Document 01's refusals, in its order; each holds the number that it carries.
+// The refusals of document 01, in its order, and of document 02; each holds the number that it carries.
 pub enum Refusal {
     NoRoom,
     AboveDecided(LogIndex),
@@ -135,9 +135,10 @@ pub enum Refusal {
     BatchHeld(usize),
     Malformed,
     IllFormed,
+    Hole,
 }
 
-// A refusal's number in document 01.
+// A refusal's number.
 pub fn number(r: Refusal) -> u64
     ensures { λ n. ⌜ n ≡ numberOf r ⌝ }
 {
@@ -154,6 +155,7 @@ pub fn number(r: Refusal) -> u64
         Refusal::BatchHeld(_) => 10,
         Refusal::Malformed => 11,
         Refusal::IllFormed => 12,
+        Refusal::Hole => 16,
     }
 }
 
@@ -174,6 +176,7 @@ pub fn carried(r: Refusal) -> u64
         Refusal::BatchHeld(n) => n as u64,
         Refusal::Malformed => 0,
         Refusal::IllFormed => 0,
+        Refusal::Hole => 0,
     }
 }
 

@@ -370,11 +370,11 @@ pub extern "C" fn kotuseraw_inner_set_decided_idx(
 pub extern "C" fn kotuseraw_inner_try_trim(
     index: IndexRecord,
     log: &mut [u64],
-    snapshot: &[u64],
+    snapshot: &mut [u64],
     idx: LogIndex,
 ) -> Reply
     requires { ⌜ Ready (raw index (now log) (now snapshot)) ⌝ }
-    ensures { λ r. ⌜ left (r .said) (raw (r .index) (now (log .exit)) (now (snapshot .entry)))
+    ensures { λ r. ⌜ left (r .said) (raw (r .index) (now (log .exit)) (now (snapshot .exit)))
         ≡ plainly nothing (run (trim (idx .0)) true (raw index (now (log .entry)) (now (snapshot .entry)))) ⌝ }
 {
     answers::settled_reply(compaction::inner::trim_at(index, log, snapshot, idx))

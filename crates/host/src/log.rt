@@ -193,10 +193,10 @@ pub extern "C" fn kotuseraw_set_decided_idx(
 pub extern "C" fn kotuseraw_try_trim(
     index: IndexRecord,
     log: &mut [u64],
-    snapshot: &[u64],
+    snapshot: &mut [u64],
     idx: LogIndex,
 ) -> Reply
-    ensures { λ r. ⌜ left (r .said) (raw (r .index) (now (log .exit)) (now (snapshot .entry)))
+    ensures { λ r. ⌜ left (r .said) (raw (r .index) (now (log .exit)) (now (snapshot .exit)))
         ≡ plainly nothing (run (trim (idx .0)) true (raw index (now (log .entry)) (now (snapshot .entry)))) ⌝ }
 {
     answers::settled_reply(compaction::try_trim(index, log, snapshot, idx))

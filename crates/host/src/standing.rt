@@ -26,15 +26,15 @@ pub extern "C" fn kotuseraw_in_place_set_decided_idx(
     answers::settled_said(answer)
 }
 
-// Drops the entries below an index, which must not be above decided.
+// Drops the entries below an index, which must not be above decided, and the held snapshot.
 #[no_mangle]
 pub extern "C" fn kotuseraw_in_place_try_trim(
     held: &mut IndexRecord,
     log: &mut [u64],
-    snapshot: &[u64],
+    snapshot: &mut [u64],
     idx: LogIndex,
 ) -> Said
-    ensures { λ r. ⌜ left r (raw (now (held .exit)) (now (log .exit)) (now (snapshot .entry)))
+    ensures { λ r. ⌜ left r (raw (now (held .exit)) (now (log .exit)) (now (snapshot .exit)))
         ≡ plainly nothing
         (run (trim (idx .0)) true (raw (now (held .entry)) (now (log .entry)) (now (snapshot .entry)))) ⌝ }
 {

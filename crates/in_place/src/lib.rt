@@ -25,8 +25,13 @@ pub fn set_decided_idx(
 }
 
 // `compaction::try_trim` on the record where it stands.
-pub fn try_trim(held: &mut IndexRecord, log: &mut [u64], snapshot: &[u64], idx: LogIndex) -> Settled
-    ensures { λ r. ⌜ outcome (settled r) (raw (now (held .exit)) (now (log .exit)) (now (snapshot .entry)))
+pub fn try_trim(
+    held: &mut IndexRecord,
+    log: &mut [u64],
+    snapshot: &mut [u64],
+    idx: LogIndex,
+) -> Settled
+    ensures { λ r. ⌜ outcome (settled r) (raw (now (held .exit)) (now (log .exit)) (now (snapshot .exit)))
         ≡ run (trim (idx .0)) true (raw (now (held .entry)) (now (log .entry)) (now (snapshot .entry))) ⌝ }
 {
     let trimmed = compaction::try_trim(*held, log, snapshot, idx);

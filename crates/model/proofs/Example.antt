@@ -1,14 +1,15 @@
--- The history theorem's premise can be met: a trace with appends, a snapshot, a plain, a complete and a delta sync, and
--- refused calls of the kinds that it does not admit when they stand.
-use Rattle.words.proofs.Prelude.{arith, _≡_, refl, ℕ, true, none, some, List, [], _∷_, _++_}
+-- The history theorem's premise can be met: a trace with appends, a snapshot, a plain, a complete and a delta sync, a
+-- trim that makes a hole, what is refused for that, and the complete sync that mends it.
+use Rattle.words.proofs.Prelude.{arith, _≡_, refl, ℕ, true, Option, none, some, List, [], _∷_, _++_}
 use Rattle.words.specs.All.{allOf}
 use Rattle.entry.specs.{Change.Change, Sign.signFormed, Guards.passes, Guards.refuses, Guards.first}
 use Rattle.snapshot.specs.Folds.{insert, foldOnto, fold, merge, climbs, rising}
 use Rattle.model.specs.Numbers.{endOf, acceptedOf, stopDecided, logDecided, numbersFormed}
-use Rattle.model.specs.Log.{Run, foldedTo, keysFormed, wellFormed, noBallot, freshLog}
+use Rattle.model.specs.Log.{Run, Log, foldedTo, keysFormed, wellFormed, noBallot, freshLog}
 use Rattle.model.specs.Append.{appendGuards, fills, appended}
 use Rattle.model.specs.Backend.{opsFormed}
-use Rattle.model.specs.Compact.{target, passesStart, foldedUpto, trimGuards, snapshotGuards, movedTo, snapshotTo}
+use Rattle.model.specs.Compact.{target, passesStart, foldedUpto, trimGuards, snapshotGuards, movedTo, trimmedTo}
+use Rattle.model.specs.Compact.{snapshotTo}
 use Rattle.model.specs.Diff.{Given, plain, complete, delta}
 use Rattle.model.specs.Sync.{partFormed, deltaOnto, runThen, partNumberGuards, partGuards, partSynced}
 use Rattle.model.specs.Calls.{Call, append, decide, trim, snapshot, sync, write, malformed, decideGuards}
@@ -34,47 +35,69 @@ toDelta =
     ∷ syncs 5 5 (delta (put 6 600 ∷ put 7 700 ∷ [])) (put 5 500 ∷ []) (put 7 700 ∷ put 6 600 ∷ [])
     ∷ []
 
--- and on to a complete sync
-abbrev trace : List Event
-trace =
+-- on to a complete sync
+abbrev toComplete : List Event
+toComplete =
     toDelta
     ++ (says (write (record { entries = []; snapshot = none; sign = none }) [])
     ∷ syncs 6 6 (complete (put 1 10 ∷ del 4 ∷ [])) (put 4 400 ∷ [])
     (put 1 10 ∷ put 4 1 ∷ put 4 2 ∷ put 4 3 ∷ put 4 4 ∷ del 4 ∷ [])
     ∷ [])
 
+-- to a hole: a trim that passes compacted
+abbrev toHole : List Event
+toHole = toComplete ++ (says (append (put 2 20 ∷ put 3 30 ∷ [])) ∷ says (decide 8) ∷ says (trim 7) ∷ [])
+
+-- what would fold onto it is refused; a complete sync mends it, and a snapshot folds again
+abbrev trace : List Event
+trace =
+    toHole
+    ++ (says (snapshot none)
+    ∷ syncs 9 9 (delta []) [] []
+    ∷ syncs 9 9 (complete (put 2 20 ∷ put 3 30 ∷ [])) (del 2 ∷ [])
+    (put 2 1 ∷ put 2 2 ∷ put 2 3 ∷ put 2 4 ∷ put 2 5 ∷ put 2 6 ∷ put 2 7 ∷ put 2 20 ∷ put 3 30 ∷ [])
+    ∷ says (decide 10)
+    ∷ says (snapshot none)
+    ∷ [])
+
 pub premise-met : AllTruthful trace (fresh 0)
 unfolding AllTruthful Stands allOf signFormed first insert foldOnto fold merge climbs rising endOf acceptedOf
     stopDecided logDecided numbersFormed foldedTo keysFormed wellFormed freshLog appendGuards fills appended target
-    passesStart foldedUpto trimGuards snapshotGuards movedTo snapshotTo opsFormed partFormed deltaOnto runThen
-    partNumberGuards partGuards partSynced malformed decideGuards syncGuards further guards synced effect stateAfter
-    syncedHistory grown next told fresh
+    passesStart foldedUpto trimGuards snapshotGuards movedTo trimmedTo snapshotTo opsFormed partFormed deltaOnto
+    runThen partNumberGuards partGuards partSynced malformed decideGuards syncGuards further guards synced effect
+    stateAfter syncedHistory grown next told fresh
 premise-met =
-    (λ q. plainly, (λ q. plainly, (λ q. plainly, (λ q. plainly, (λ q. absurd (never 2 3 q), (λ q. (refl, (refl, refl)), (λ q. absurd (never 11 0 q), (λ q. (refl, (refl, refl)), tt))))))))
+    also (λ q. plainly) (also (λ q. plainly) (also (λ q. plainly) (also (λ q. plainly)
+    (also (λ q. absurd (never 2 3 q)) (also (λ q. (refl, (refl, refl))) (also (λ q. absurd (never 11 0 q))
+    (also (λ q. (refl, (refl, refl))) (also (λ q. plainly) (also (λ q. plainly) (also (λ q. plainly)
+    (also (λ q. absurd (never 16 0 q)) (also (λ q. absurd (never 16 0 q)) (also (λ q. (refl, (refl, refl)))
+    (also (λ q. plainly) (also (λ q. plainly) tt)))))))))))))))
   where
+    also : {A B : Type 0} → A → B → A × B
+    also a b = (a, b)
+
     plainly : (true ≡ true) × Unit {0}
     plainly = (refl, tt)
 
     never : (n k : ℕ) → refuses n k ≡ passes → ⊥
     never n k z = let y : _≡_ {A = ℕ} 0 1 = cc in omega arith
 
--- what is held after each: compacted, the retained entries, and the snapshot
-abbrev runAt : ℕ → List Change → List Change → Run
-runAt c r h = record { compacted = c; retained = r; held = some h }
+-- what is held on the way: compacted, the retained entries, and the snapshot; and what is refused at the hole
+abbrev runAt : ℕ → List Change → Option (List Change) → Run
+runAt c r h = record { compacted = c; retained = r; held = h }
 
-pub delta-held : told toDelta (fresh 0) .log .run
-    ≡ runAt 5 (put 5 500 ∷ []) (put 4 200 ∷ put 6 600 ∷ put 7 700 ∷ del 9 ∷ [])
+abbrev after : List Event → Log
+after es = told es (fresh 0) .log
+
+pub on-the-way : (after toDelta .run
+    ≡ runAt 5 (put 5 500 ∷ []) (some (put 4 200 ∷ put 6 600 ∷ put 7 700 ∷ del 9 ∷ [])))
+    × (after toComplete .run ≡ runAt 6 (put 4 400 ∷ []) (some (put 1 10 ∷ del 4 ∷ [])))
+    × (after toHole .run ≡ runAt 7 (put 2 20 ∷ put 3 30 ∷ []) none)
+    × (first (guards (snapshot none) (after toHole)) ≡ refuses 16 0)
+    × (after trace .run ≡ runAt 10 [] (some (del 2 ∷ put 3 30 ∷ [])))
 unfolding allOf signFormed first insert foldOnto fold merge climbs rising endOf acceptedOf stopDecided
     logDecided numbersFormed foldedTo keysFormed wellFormed freshLog appendGuards fills appended target passesStart
-    foldedUpto trimGuards snapshotGuards movedTo snapshotTo opsFormed partFormed deltaOnto runThen partNumberGuards
-    partGuards partSynced malformed decideGuards syncGuards further guards synced effect stateAfter syncedHistory
-    grown next told fresh
-delta-held = refl
-
-pub complete-held : told trace (fresh 0) .log .run ≡ runAt 6 (put 4 400 ∷ []) (put 1 10 ∷ del 4 ∷ [])
-unfolding allOf signFormed first insert foldOnto fold merge climbs rising endOf acceptedOf stopDecided
-    logDecided numbersFormed foldedTo keysFormed wellFormed freshLog appendGuards fills appended target passesStart
-    foldedUpto trimGuards snapshotGuards movedTo snapshotTo opsFormed partFormed deltaOnto runThen partNumberGuards
-    partGuards partSynced malformed decideGuards syncGuards further guards synced effect stateAfter syncedHistory
-    grown next told fresh
-complete-held = refl
+    foldedUpto trimGuards snapshotGuards movedTo trimmedTo snapshotTo opsFormed partFormed deltaOnto runThen
+    partNumberGuards partGuards partSynced malformed decideGuards syncGuards further guards synced effect stateAfter
+    syncedHistory grown next told fresh
+on-the-way = (refl, refl, refl, refl, refl)

@@ -237,7 +237,7 @@ module _ (s : Log) (f : Formed s) where
 
   trim-keeps : (upto : Option ℕ) → Formed (trimmedTo upto s)
   unfolding trimmedTo
-  trim-keeps upto = moved-keeps upto (s .run .held) (λ e. f .snapshot)
+  trim-keeps upto = moved-keeps upto none (λ e. refl)
 
   snapshot-keeps : (upto : Option ℕ) → Clear (snapshotGuards upto s) → Formed (snapshotTo upto s)
   unfolding snapshotTo snapshotGuards foldedUpto

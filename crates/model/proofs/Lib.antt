@@ -7,3 +7,4 @@ pub mod Orders
 pub mod Shows
 pub mod Cases
 pub mod Example
+pub mod Holes

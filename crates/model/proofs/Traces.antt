@@ -1,6 +1,6 @@
--- Demand 3's last sentence: what a log holds is the fold of its history.
-use Rattle.words.proofs.Prelude.{arith, _≡_, refl, sym, _∙_, ℕ, _+_, _-_, _≤_, Bool, true, false, true≢false, ltb}
-use Rattle.words.proofs.Prelude.{ltb-true, ltb-false, if_then_else_, Option, none, some, List, [], _∷_, _++_}
+-- Demand 3's last sentence: what a log without a hole holds is the fold of its history.
+use Rattle.words.proofs.Prelude.{arith, _≡_, refl, sym, _∙_, ℕ, _+_, _-_, _≤_, _<_, Bool, true, false, true≢false}
+use Rattle.words.proofs.Prelude.{_&&_, ltb, ltb-true, ltb-false, if_then_else_, Option, none, some, List, [], _∷_, _++_}
 use Rattle.words.proofs.Prelude.{length-drop, length-take, length-append, length, take, drop}
 use lib.Seq.{take-append-le, drop-append-le, take-at, drop-at, take-take, drop-drop, take-add}
 use Rattle.words.proofs.{Tests.or-left, Tests.or-right, Tests.either, Laws.drop-take}
@@ -10,9 +10,10 @@ use Rattle.entry.proofs.GuardLaws.{Passed, passed, Clear}
 use Rattle.snapshot.specs.Folds.{fold, merge, foldOnto}
 use Rattle.snapshot.proofs.Folds.{fold-append, merge-fold}
 use Rattle.model.specs.Numbers.{Numbers, endOf, logDecided}
-use Rattle.model.specs.Log.{Run, Log, numbersOf, orEmpty, foldedTo, wellFormed, waiting, withTail, freshLog}
+use Rattle.model.specs.Log.{Run, Log, numbersOf, orEmpty, foldedTo, hole, wellFormed, waiting, withTail}
+use Rattle.model.specs.Log.{freshLog}
 use Rattle.model.specs.Append.{joined, batchWith, fills, appended, appendedNow, flushed, stopAppended, stopSet}
-use Rattle.model.specs.Compact.{target, passesStart, foldedUpto, movedTo, snapshotTo}
+use Rattle.model.specs.Compact.{target, passesStart, foldedUpto, snapshotGuards, movedTo, trimmedTo, snapshotTo}
 use Rattle.model.specs.Diff.{Given, plain, complete, delta}
 use Rattle.model.specs.Sync.{deltaOnto, runThen, partNumberGuards, partGuards, partSynced}
 use Rattle.model.specs.Calls.{Call, query, append, appendNow, flush, flushEntries, appendStop, setStop}
@@ -23,11 +24,11 @@ use Rattle.model.specs.History.{AllTruthful, fresh}
 use Rattle.model.proofs.Forms.{Ranges, ranges, formed-of}
 use Rattle.model.proofs.Keeps.{part, unstopped, target-range, cleared, call-keeps, fresh-formed}
 
--- what a held run and a history have in common
+-- what a held run and a history have in common: the retained entries always, the snapshot where there is no hole
 pub record Agrees (r : Run) (h : List Change) : Type 0 where
   pub ends : length h ≡ r .compacted + length (r .retained)
   pub kept : r .retained ≡ drop (r .compacted) h
-  pub snapshot : orEmpty (r .held) ≡ fold (take (r .compacted) h)
+  pub snapshot : hole r ≡ false → orEmpty (r .held) ≡ fold (take (r .compacted) h)
 
 -- a fold goes on from a fold
 fold-on : (r q : List Change) → fold (r ++ q) ≡ merge (fold r) q
@@ -35,11 +36,11 @@ fold-on r q = fold-append r q ∙ merge-fold (fold r) q
 
 module _ (r : Run) (h : List Change) (a : Agrees r h) where
   -- the held snapshot with the retained entries below i is the fold of the first i of the history
-  pub folded-is : (i : ℕ) → r .compacted ≤ i → foldedTo i r ≡ fold (take i h)
+  pub folded-is : hole r ≡ false → (i : ℕ) → r .compacted ≤ i → foldedTo i r ≡ fold (take i h)
   unfolding foldedTo
-  folded-is i le =
+  folded-is whole i le =
       let e : r .compacted + (i - r .compacted) ≡ i = omega arith in
-      rw (a .snapshot, a .kept, ← fold-on (take (r .compacted) h) (take (i - r .compacted) (drop (r .compacted) h)), ← take-add (r .compacted) (i - r .compacted) h)
+      rw (a .snapshot whole, a .kept, ← fold-on (take (r .compacted) h) (take (i - r .compacted) (drop (r .compacted) h)), ← take-add (r .compacted) (i - r .compacted) h)
       (rw e)
 
   -- entries joined at the end
@@ -50,19 +51,19 @@ module _ (r : Run) (h : List Change) (a : Agrees r h) where
       record {
         ends = simp length-append (omega (arith, a .ends));
         kept = rw (drop-append-le (r .compacted) h es le, a .kept);
-        snapshot = rw (take-append-le (r .compacted) h es le) (a .snapshot);
+        snapshot = λ whole. rw (take-append-le (r .compacted) h es le) (a .snapshot whole);
       }
 
-  -- the start moved up, with what lies below it folded
-  moved-agrees : (i : ℕ) → r .compacted ≤ i → i ≤ r .compacted + length (r .retained)
-      → Agrees (record { compacted = i; retained = drop (i - r .compacted) (r .retained); held = some (foldedTo i r) })
-      h
-  moved-agrees i le hi =
+  -- the start moved up, with what is then held
+  moved-agrees : (i : ℕ) (held : Option (List Change)) → r .compacted < i → i ≤ r .compacted + length (r .retained)
+      → (hole (record { compacted = i; retained = []; held = held }) ≡ false → orEmpty held ≡ fold (take i h))
+      → Agrees (record { compacted = i; retained = drop (i - r .compacted) (r .retained); held = held }) h
+  moved-agrees i held lt hi below =
       let e : r .compacted + (i - r .compacted) ≡ i = omega arith in
       record {
         ends = simp length-drop (omega (arith, a .ends));
         kept = rw (a .kept, drop-drop (i - r .compacted) (r .compacted) h, e);
-        snapshot = folded-is i le;
+        snapshot = below;
       }
 
   -- a plain sync
@@ -75,14 +76,20 @@ module _ (r : Run) (h : List Change) (a : Agrees r h) where
       record {
         ends = simp (length-append, length-take) (omega (arith, a .ends));
         kept = rw (drop-append-le (r .compacted) (take i h) es c, drop-take (r .compacted) i h, a .kept);
-        snapshot = rw (take-append-le (r .compacted) (take i h) es c, take-take (r .compacted) i h le) (a .snapshot);
+        snapshot =
+            λ whole.
+            rw (take-append-le (r .compacted) (take i h) es c, take-take (r .compacted) i h le) (a .snapshot whole);
       }
 
 -- a snapshot that stands for a whole list
 replaced-agrees : (x es c : List Change) (i : ℕ) → length x ≡ i → c ≡ fold x
     → Agrees (record { compacted = i; retained = es; held = some c }) (x ++ es)
 replaced-agrees x es c i n e =
-    record { ends = simp length-append (omega arith); kept = rw (drop-at x es i n); snapshot = rw (take-at x es i n) e }
+    record {
+      ends = simp length-append (omega arith);
+      kept = rw (drop-at x es i n);
+      snapshot = λ whole. rw (take-at x es i n) e;
+    }
 
 -- a sync with a log part, by its snapshot
 part-agrees : (d i : ℕ) (g : Given) (es : List Change) (z : Option StopSign) (x : List Change)
@@ -100,17 +107,43 @@ part-agrees d i (delta c) es z x s h w clr t a =
     replaced-agrees (take (logDecided n) h ++ x) es (deltaOnto c s) i
     (simp (length-append, length-take)
     (omega (arith, a .ends, t .0, w .high, unstopped n (clr 4), ltb-false i (s .marks .decided) (clr 5))))
-    (unfold deltaOnto in rw (folded-is (s .run) h a (logDecided n) (w .low), fold-on, t .1, merge-fold))
+    (unfold deltaOnto in rw (folded-is (s .run) h a (clr 16) (logDecided n) (w .low), fold-on, t .1, merge-fold))
 
-snapshot-agrees : (upto : Option ℕ) (s : Log) (h : List Change) → Ranges (numbersOf s) → Agrees (s .run) h
-    → Agrees (snapshotTo upto s .run) h
-unfolding snapshotTo foldedUpto movedTo passesStart endOf
-snapshot-agrees upto s h w a =
+-- a trim or a snapshot, by what is held where it passes compacted
+compact-agrees : (upto : Option ℕ) (held : Option (List Change)) (s : Log) (h : List Change) → Ranges (numbersOf s)
+    → Agrees (s .run) h
+    → (passesStart upto s ≡ true
+    → hole (record { compacted = target upto (numbersOf s); retained = []; held = held }) ≡ false
+    → orEmpty held ≡ fold (take (target upto (numbersOf s)) h))
+    → Agrees (movedTo upto held s .run) h
+unfolding movedTo passesStart endOf
+compact-agrees upto held s h w a below =
     let to : ℕ = target upto (numbersOf s) in
     either (λ (t : Log). Agrees (t .run) h) (ltb (s .run .compacted) to) _ _
-    (λ e. moved-agrees (s .run) h a to (omega (arith, ltb-true (s .run .compacted) to e))
-    (omega (arith, target-range upto (numbersOf s), w .high)))
+    (λ e. moved-agrees (s .run) h a to held (ltb-true (s .run .compacted) to e)
+    (omega (arith, target-range upto (numbersOf s), w .high)) (below e))
     (λ e. a)
+
+-- a trim that passes leaves a hole
+trim-agrees : (upto : Option ℕ) (s : Log) (h : List Change) → Ranges (numbersOf s) → Agrees (s .run) h
+    → Agrees (trimmedTo upto s .run) h
+unfolding trimmedTo passesStart
+trim-agrees upto s h w a =
+    let to : ℕ = target upto (numbersOf s) in
+    compact-agrees upto none s h w a
+    (λ e whole. absurd (omega (arith, ltb-true (s .run .compacted) to e, ltb-false 0 to (sole (ltb 0 to) whole))))
+  where
+    sole : (t : Bool) → (t && true) ≡ false → t ≡ false
+    sole true e = e
+    sole false e = refl
+
+snapshot-agrees : (upto : Option ℕ) (s : Log) (h : List Change) → Ranges (numbersOf s)
+    → Clear (snapshotGuards upto s) → Agrees (s .run) h → Agrees (snapshotTo upto s .run) h
+unfolding snapshotTo snapshotGuards foldedUpto passesStart
+snapshot-agrees upto s h w clr a =
+    let to : ℕ = target upto (numbersOf s) in
+    compact-agrees upto (some (foldedTo to (s .run))) s h w a
+    (λ e whole. folded-is (s .run) h a (rw e at (clr 16)) to (omega (arith, ltb-true (s .run .compacted) to e)))
 
 append-agrees : (es : List Change) (s : Log) (h : List Change) → Agrees (s .run) h
     → Agrees (appended es s .run) (if fills es s then h ++ batchWith es s else h)
@@ -136,8 +169,10 @@ stands (appendStop g) x s h w p t a = unfold stopAppended flushed in joined-agre
 stands (setStop g) x s h w p t a = unfold stopSet in a
 stands (setPromise b) x s h w p t a = a
 stands (decide i) x s h w p t a = a
-stands (trim i) x s h w p t a = absurd (true≢false (sym (t .0)))
-stands (snapshot i) x s h w p t a = snapshot-agrees i s h (ranges (numbersOf s) (formed-of s w .numbers)) a
+stands (trim i) x s h w p t a = trim-agrees (some i) s h (ranges (numbersOf s) (formed-of s w .numbers)) a
+stands (snapshot i) x s h w p t a =
+    snapshot-agrees i s h (ranges (numbersOf s) (formed-of s w .numbers))
+    (unfold further in cleared (snapshot i) s p) a
 stands (sync b d none) x s h w p t a = unfold synced in a
 stands (sync b d (some q)) x s h w p t a =
     unfold synced partSynced in
@@ -179,16 +214,22 @@ pub fresh-faithful : (n : ℕ) → n ≤ largestBatch → Faithful (fresh n)
 fresh-faithful n h = record { formed = (unfold fresh in fresh-formed n h); agrees = empty n }
   where
     empty : (n : ℕ) → Agrees (fresh n .log .run) (fresh n .history)
-    empty n = unfold fresh freshLog fold foldOnto in record { ends = refl; kept = refl; snapshot = refl }
+    empty n = unfold fresh freshLog fold foldOnto in record { ends = refl; kept = refl; snapshot = λ whole. refl }
 
 -- Demand 3, last sentence: for every i from compacted to end, the held snapshot (empty if none) merged with the
--- retained entries below i is the fold of the history's first i entries, both without room limit.
+-- retained entries below i is the fold of the history's first i entries, both without room limit; in every state
+-- without a hole. And in every state the retained entries are the history from compacted on.
 module _ (n : ℕ) (sized : n ≤ largestBatch) (es : List Event) (honest : AllTruthful es (fresh n)) where
   pub faithful : Faithful (told es (fresh n))
   faithful = told-faithful es (fresh n) honest (fresh-faithful n sized)
 
-  pub history-kept : (i : ℕ) → told es (fresh n) .log .run .compacted ≤ i
+  pub history-kept : hole (told es (fresh n) .log .run) ≡ false → (i : ℕ)
+      → told es (fresh n) .log .run .compacted ≤ i
       → i ≤ endOf (numbersOf (told es (fresh n) .log))
       → foldedTo i (told es (fresh n) .log .run) ≡ fold (take i (told es (fresh n) .history))
-  history-kept i low high =
-      folded-is (told es (fresh n) .log .run) (told es (fresh n) .history) (faithful .agrees) i low
+  history-kept whole i low high =
+      folded-is (told es (fresh n) .log .run) (told es (fresh n) .history) (faithful .agrees) whole i low
+
+  pub retained-kept : told es (fresh n) .log .run .retained
+      ≡ drop (told es (fresh n) .log .run .compacted) (told es (fresh n) .history)
+  retained-kept = faithful .agrees .kept

@@ -56,7 +56,7 @@ Stands p x s =
       | delta d ↦ (length x ≡ p .idx - logDecided (numbersOf s)) × (d ≡ fold x)
     ]
 
--- "none a trim, an operation list or a reload"
+-- "none … an operation list or a reload"; document 02: "Demand 3 then admits trims"
 abbrev pub admitted : Call → Bool
 admitted (query q) = true
 admitted (append es) = true
@@ -67,7 +67,7 @@ admitted (appendStop g) = true
 admitted (setStop g) = true
 admitted (setPromise b) = true
 admitted (decide i) = true
-admitted (trim i) = false
+admitted (trim i) = true
 admitted (snapshot i) = true
 admitted (sync b d p) = true
 admitted reload = false

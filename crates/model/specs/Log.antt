@@ -1,10 +1,10 @@
 -- The state of a log as document 01 has it, with no word of slices. Ballots and stop-signs are the code's own
 -- structs: no call looks into them but by `signFormed`.
 use Prim.Native.Nat.{ℕ, _-_}
-use mathlib.Core.Bool.{Bool, true, false, _&&_}
+use mathlib.Core.Bool.{Bool, true, false, _&&_, not}
 use mathlib.Core.List.{List, []}
 use mathlib.Core.Option.{Option, none, some}
-use lib.Dec.{leb}
+use lib.Dec.{leb, ltb}
 use lib.ListN.{length, take}
 use Rattle.entry.specs.Limits.{keyRoom}
 use Rattle.entry.specs.Change.{Change, entriesFormed}
@@ -57,6 +57,10 @@ orEmpty (some s) = s
 
 unfoldable pub foldedTo : ℕ → Run → List Change
 foldedTo i r = merge (orEmpty (r .held)) (take (i - r .compacted) (r .retained))
+
+-- "A log with compacted above 0 and no snapshot has a hole"
+abbrev pub hole : Run → Bool
+hole r = ltb 0 (r .compacted) && not (given (r .held))
 
 -- forms: of a snapshot, of what may be given, and of a whole state
 unfoldable pub keysFormed : List Change → Bool

@@ -16,8 +16,8 @@ abbrev pub queryOrder : Query → List ℕ
 queryOrder (read a b) = []
 queryOrder (readDecided i) = []
 queryOrder (getSuffix i) = []
-queryOrder (create i) = 3 ∷ 2 ∷ 8 ∷ []
-queryOrder (diff i) = 8 ∷ []
+queryOrder (create i) = 3 ∷ 2 ∷ 16 ∷ 8 ∷ []
+queryOrder (diff i) = 16 ∷ 8 ∷ []
 queryOrder (lookup k) = []
 queryOrder (getEntries i j) = []
 
@@ -48,9 +48,9 @@ orderOf (setStop g) = 4 ∷ 10 ∷ 9 ∷ []
 orderOf (setPromise b) = []
 orderOf (decide i) = 5 ∷ 6 ∷ []
 orderOf (trim i) = 2 ∷ []
-orderOf (snapshot i) = 2 ∷ 8 ∷ []
+orderOf (snapshot i) = 2 ∷ 16 ∷ 8 ∷ []
 orderOf (sync b d none) = 6 ∷ []
-orderOf (sync b d (some p)) = 4 ∷ 5 ∷ 7 ∷ 10 ∷ 9 ∷ 1 ∷ 6 ∷ 2 ∷ 8 ∷ []
+orderOf (sync b d (some p)) = 4 ∷ 5 ∷ 7 ∷ 10 ∷ 9 ∷ 1 ∷ 6 ∷ 2 ∷ 16 ∷ 8 ∷ []
 orderOf reload = []
 orderOf (write l ops) = opsOrder ops
 

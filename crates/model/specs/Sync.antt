@@ -13,10 +13,10 @@ use Rattle.entry.specs.Guards.{Guard, guard}
 use Rattle.entry.specs.declared.Ballot.{Ballot}
 use Rattle.entry.specs.declared.StopSign.{StopSign}
 use Rattle.snapshot.specs.Folds.{merge}
-use Rattle.snapshot.specs.Calls.{foldGuards}
 use Rattle.model.specs.Numbers.{Numbers, endOf, acceptedOf, stopDecided, logDecided}
 use Rattle.model.specs.Log.{Run, Log, given, ifGiven, numbersOf, foldedTo, keysFormed, signed, deciding, rounding}
 use Rattle.model.specs.Log.{withMarks}
+use Rattle.model.specs.Compact.{ontoGuards}
 use Rattle.model.specs.Diff.{Given, plain, complete, delta, snapshotIn}
 
 -- a sync's log part
@@ -34,6 +34,11 @@ abbrev pub plain? : Given → Bool
 plain? plain = true
 plain? (complete c) = false
 plain? (delta d) = false
+
+abbrev pub delta? : Given → Bool
+delta? plain = false
+delta? (complete c) = false
+delta? (delta d) = true
 
 -- what its refusals look at, all but the fold's
 pub record PartNumbers : Type 0 where
@@ -77,7 +82,7 @@ acceptedThen a = a .idx + a .count + (if a .stop then 1 else 0)
 abbrev pub keptThen : PartNumbers → Numbers → ℕ
 keptThen a n = if a .plain then a .idx - n .compacted else 0
 
--- "Sync with log part: 4, 5, 7, 10, 9, 1, 6, 2, 8": those that look at numbers, and then the fold's
+-- "Sync with log part: 4, 5, 7, 10, 9, 1, 6, 2, 8": those that look at numbers, then 16, and the fold's
 unfoldable pub partNumberGuards : ℕ → PartNumbers → Numbers → List Guard
 partNumberGuards d a n =
     guard 4 (acceptedOf n) (stopDecided n)
@@ -90,14 +95,16 @@ partNumberGuards d a n =
     ∷ guard 2 (decidedThen d n) (not (a .plain) && ltb (decidedThen d n) (a .idx))
     ∷ []
 
--- refusal 8's fold: only a delta makes one
+-- refusal 8's fold: only a delta makes one; and 16 is "for every … delta sync"
 abbrev pub foldThen : Given → Log → List Change
 foldThen plain s = []
 foldThen (complete c) s = []
 foldThen (delta d) s = deltaOnto d s
 
 unfoldable pub partGuards : ℕ → Part → Log → List Guard
-partGuards d p s = partNumberGuards d (partNumbers p) (numbersOf s) ++ foldGuards (foldThen (p .snapshot) s)
+partGuards d p s =
+    partNumberGuards d (partNumbers p) (numbersOf s)
+    ++ ontoGuards (delta? (p .snapshot)) s (foldThen (p .snapshot) s)
 
 -- "without: 6"
 unfoldable pub roundGuards : ℕ → Numbers → List Guard

@@ -219,8 +219,8 @@ fn stop(index: IndexRecord, log: &[u64], snapshot: &[u64], c: u32) -> Answered
     }
 }
 
-fn trim(index: IndexRecord, log: &mut [u64], snapshot: &[u64], i: u64) -> Answered
-    ensures { λ r. ⌜ telling (r .reply) (raw (r .index) (now (log .exit)) (now (snapshot .entry)))
+fn trim(index: IndexRecord, log: &mut [u64], snapshot: &mut [u64], i: u64) -> Answered
+    ensures { λ r. ⌜ telling (r .reply) (raw (r .index) (now (log .exit)) (now (snapshot .exit)))
         ≡ answering (Trim i) (raw index (now (log .entry)) (now (snapshot .entry))) ⌝ }
 {
     let to = compaction::try_trim(index, log, snapshot, LogIndex(i));

@@ -1,11 +1,11 @@
 -- A chain of calls on lent words is a chain of the model's calls: each leaves a well-formed state that stands for the
 -- log after the model's call. And with that demand 3's last sentence, for the calls on lent words from a fresh state.
-use Rattle.words.proofs.Prelude.{_≡_, refl, sym, ap, _∙_, ℕ, _≤_, Bool, true, false, List, [], _∷_, take}
+use Rattle.words.proofs.Prelude.{_≡_, refl, sym, ap, _∙_, ℕ, _≤_, Bool, true, false, List, [], _∷_, take, drop}
 use Rattle.entry.specs.{Limits.largestBatch, Change.Change}
 use Rattle.snapshot.specs.Folds.{fold}
-use Rattle.model.specs.{Numbers.endOf, Log.Log, Log.numbersOf, Log.foldedTo, Log.freshLog, Calls.Call, Calls.Reply}
-use Rattle.model.specs.{History.next, History.told, History.fresh, History.AllTruthful}
-use Rattle.model.proofs.{Keeps.fresh-formed, Traces.history-kept}
+use Rattle.model.specs.{Numbers.endOf, Log.Log, Log.numbersOf, Log.foldedTo, Log.hole, Log.freshLog, Calls.Call}
+use Rattle.model.specs.{Calls.Reply, History.next, History.told, History.fresh, History.AllTruthful}
+use Rattle.model.proofs.{Keeps.fresh-formed, Traces.history-kept, Traces.retained-kept}
 use Rattle.state_cache.specs.{State.Raw, State.formed, State.logOf, State.rawOf, Run.Outcome, Run.run}
 use Rattle.state_cache.specs.{Chain.Asked, Chain.runs, Chain.eventsOf, Chain.events}
 use Rattle.state_cache.proofs.Stands.{raw-formed, log-of-raw}
@@ -58,12 +58,19 @@ runs-fresh n h qs =
 pub runs-formed : (n : ℕ) → n ≤ largestBatch → (qs : List Asked) → formed (runs qs (rawOf (freshLog n))) ≡ true
 runs-formed n h qs = runs-keep qs (rawOf (freshLog n)) (raw-formed (freshLog n) (fresh-formed n h))
 
--- demand 3's last sentence: the held snapshot merged with the retained entries below i is the fold of the history's
--- first i entries
-pub history-real : (n : ℕ) → n ≤ largestBatch → (qs : List Asked) → AllTruthful (events qs) (fresh n) → (i : ℕ)
+-- demand 3's last sentence, in every state without a hole: the held snapshot merged with the retained entries below i
+-- is the fold of the history's first i entries
+pub history-real : (n : ℕ) → n ≤ largestBatch → (qs : List Asked) → AllTruthful (events qs) (fresh n)
+    → hole (logOf (runs qs (rawOf (freshLog n))) .run) ≡ false → (i : ℕ)
     → logOf (runs qs (rawOf (freshLog n))) .run .compacted ≤ i
     → i ≤ endOf (numbersOf (logOf (runs qs (rawOf (freshLog n)))))
     → foldedTo i (logOf (runs qs (rawOf (freshLog n))) .run) ≡ fold (take i (told (events qs) (fresh n) .history))
-history-real n h qs honest i low high =
-    rw (runs-fresh n h qs) (history-kept n h (events qs) honest i (rw (runs-fresh n h qs) at low)
-    (rw (runs-fresh n h qs) at high))
+history-real n h qs honest whole i low high =
+    rw (runs-fresh n h qs) (history-kept n h (events qs) honest (rw (runs-fresh n h qs) at whole) i
+    (rw (runs-fresh n h qs) at low) (rw (runs-fresh n h qs) at high))
+
+-- and in every state the retained entries are the history from compacted on
+pub retained-real : (n : ℕ) → n ≤ largestBatch → (qs : List Asked) → AllTruthful (events qs) (fresh n)
+    → logOf (runs qs (rawOf (freshLog n))) .run .retained
+    ≡ drop (logOf (runs qs (rawOf (freshLog n))) .run .compacted) (told (events qs) (fresh n) .history)
+retained-real n h qs honest = rw (runs-fresh n h qs) (retained-kept n h (events qs) honest)

@@ -2,10 +2,9 @@
 use Rattle.words.proofs.Prelude.{arith, _≡_, refl, sym, ap, ap₂, _∙_, ℕ, _+_, _-_, _*_, _≤_, Bool, true, false, _&&_}
 use Rattle.words.proofs.Prelude.{eqb, leb, eq-eqb, eqb-true, le-leb, List, [], append-nil, _++_, length-append, length}
 use Rattle.words.proofs.Prelude.{take, replicate}
-use native.Mathlib.Nat.{sub-zero}
-use lib.{ListN.length-replicate, Seq.paste}
+use lib.Seq.{paste}
 use Rattle.words.specs.{Words.laid, Words.spliced, Coded.wordsOf}
-use Rattle.words.proofs.{Tests.and-left, Tests.and-right, Alls.all-join, Laws.paste-all, CodedLaws.spliced-laid}
+use Rattle.words.proofs.{Tests.and-left, Tests.and-right, Alls.all-join, Laws.cleared, CodedLaws.spliced-laid}
 use Rattle.words.proofs.{CodedLaws.spliced-reload}
 use Rattle.entry.specs.Limits.{width, largestBatch, logWords, snapshotWords}
 use Rattle.entry.specs.Change.{Change, changeCode, changeFormed, entriesFormed, entriesOf, stored}
@@ -105,20 +104,13 @@ module _ (n : ℕ) (log snapshot : List ℕ) where
   unfolding freshCall
   fresh-stands e log′ snapshot′ p q =
       let e₂ = and-right (leb n largestBatch) _ e in
-      let l : log′ ≡ replicate logWords 0 = p ∙ cleared log
+      let l : log′ ≡ replicate logWords 0 = p ∙ cleared (length log) log refl
       ∙ ap (λ (k : ℕ). replicate k 0) (eqb-true (length log) logWords (and-left _ _ e₂)) in
-      let m : snapshot′ ≡ replicate snapshotWords 0 = q ∙ cleared snapshot
+      let m : snapshot′ ≡ replicate snapshotWords 0 = q ∙ cleared (length snapshot) snapshot refl
       ∙ ap (λ (k : ℕ). replicate k 0)
       (eqb-true (length snapshot) snapshotWords (and-right (eqb (length log) logWords) _ e₂)) in
       rw e (ap₂ (λ (a b : List ℕ). outcome (replied tt) (raw (indexOf (freshLog n)) a b)) l m
       ∙ ap (outcome (replied tt)) (sym (zeros-fresh n)))
-    where
-      cleared : (ws : List ℕ) → paste ws 0 (replicate (length ws - 0) 0) (length ws - 0) ≡ replicate (length ws) 0
-      cleared ws =
-          let k : length (replicate {A = ℕ} (length ws) 0) ≡ length ws = length-replicate (length ws) 0 in
-          ap (λ (j : ℕ). paste ws 0 (replicate j 0) j) (sub-zero (length ws))
-          ∙ ap (λ (j : ℕ). paste ws 0 (replicate (length ws) 0) j) (sym k)
-          ∙ paste-all ws (replicate (length ws) 0) k
 
 pub fresh-starts : (n : ℕ) (log snapshot : List ℕ) → n ≤ largestBatch → length log ≡ logWords
     → length snapshot ≡ snapshotWords → freshCall n log snapshot .after ≡ rawOf (freshLog n)

@@ -1,7 +1,7 @@
 -- When a lent state stands for a log: number by number and word by word. It is then the one that `rawOf` gives.
-use Rattle.words.proofs.Prelude.{arith, _≡_, refl, sym, ap, _∙_, ℕ, _+_, _*_, _≤_, Bool, true, false, and-true, _&&_}
-use Rattle.words.proofs.Prelude.{_||_, not, eqb, leb, not-true, eqb-true, le-leb, leb-true, if_then_else_, Option, none}
-use Rattle.words.proofs.Prelude.{some, List, _++_, length-append, length, drop, replicate}
+use Rattle.words.proofs.Prelude.{arith, _≡_, refl, sym, ap, ap₂, _∙_, ℕ, _+_, _*_, _≤_, Bool, true, false, and-true}
+use Rattle.words.proofs.Prelude.{_&&_, _||_, not, eqb, ltb, leb, not-true, eqb-true, le-leb, leb-true, if_then_else_}
+use Rattle.words.proofs.Prelude.{Option, none, some, List, _++_, length-append, length, drop, replicate}
 use Rattle.words.specs.{All.allOf, Words.allZero, Coded.entriesAt}
 use Rattle.words.proofs.Tests.{and-left, and-right, both-true}
 use Rattle.words.proofs.Alls.{all-join, all-left, all-right, zeros-are}
@@ -16,10 +16,10 @@ use Rattle.entry.proofs.SliceLaws.{laid-of, laid-stored, stored-laid, stored-en
 use Rattle.snapshot.specs.{Folds.rising, Calls.snapshotFormed}
 use Rattle.snapshot.proofs.Calling.{snapshot-holds, snapshot-stored}
 use Rattle.model.specs.Numbers.{Numbers, numbersFormed}
-use Rattle.model.specs.Log.{Run, Tail, Marks, Log, given, ifGiven, numbersOf, orEmpty, keysFormed, wellFormed}
+use Rattle.model.specs.Log.{Run, Tail, Marks, Log, given, ifGiven, numbersOf, orEmpty, hole, keysFormed, wellFormed}
 use Rattle.model.proofs.Forms.{sound-of, Formed, formed-of, of-formed}
 use Rattle.state_cache.specs.State.{Raw, numbersIn, signHeld, snapshotHeld, formed, logOf, signOr, indexOf, rawOf}
-use Rattle.state_cache.specs.Inner.{Ready}
+use Rattle.state_cache.specs.Inner.{Ready, holeIn}
 use Rattle.state_cache.specs.declared.IndexRecord.{IndexRecord}
 
 -- ---- a record's numbers and words against a log's parts
@@ -234,6 +234,9 @@ numbers-are t x s =
         → _≡_ {A = Numbers} (record { compacted = a; decided = b; retained = c; batched = d; size = e; stop = f })
         (numbersIn (x .index))
     fields a b c d e f p q u v w z = rw (p, q, u, v, w, z)
+
+pub hole-is : (t : Log) (x : Raw) → Stands t x → hole (t .run) ≡ holeIn (x .index)
+hole-is t x s = ap₂ (λ (i : ℕ) (held : Bool). ltb 0 i && not held) (s .run .start) (s .run .snapshot)
 
 -- ---- the log of a well-formed state is well formed
 

@@ -1,8 +1,8 @@
 -- What the inner functions of this crate and of those above say and require.
 use Prim.Native.Nat.{ℕ, _+_, _≤_}
 use mathlib.Core.Path.{_≡_}
-use mathlib.Core.Bool.{Bool, true, _&&_}
-use lib.Dec.{leb}
+use mathlib.Core.Bool.{Bool, true, _&&_, not}
+use lib.Dec.{leb, ltb}
 use Rattle.entry.specs.Limits.{entryRoom, logWords, snapshotWords, lastIndex}
 use Rattle.entry.specs.Change.{Laid}
 use Rattle.entry.specs.declared.Ballot.{Ballot}
@@ -22,6 +22,10 @@ pub record Small (n : Numbers) : Type 0 where
   pub few : n .retained ≤ entryRoom
   pub waiting : n .batched ≤ entryRoom
   pub low : n .compacted ≤ lastIndex
+
+-- whether the log has a hole, by its record
+abbrev pub holeIn : IndexRecord → Bool
+holeIn x = ltb 0 (x .compacted .0) && not (x .«snapshot_held»)
 
 -- what is known of a well-formed state, each fact with its name
 

@@ -14,7 +14,7 @@ ghost use Rattle.model.specs.Log.{freshLog};
 ghost use Rattle.model.specs.Calls.{reload};
 ghost use Rattle.model.specs.Numbers.{endOf, acceptedOf, stopDecided, logDecided, numbersFormed};
 ghost use Rattle.state_cache.specs.State.{raw, numbersIn, oneIf, signHeld, snapshotHeld, indexOf};
-ghost use Rattle.state_cache.specs.Inner.{Small, sizesFormed, Ready};
+ghost use Rattle.state_cache.specs.Inner.{Small, sizesFormed, Ready, holeIn};
 ghost use Rattle.state_cache.specs.Run.{outcome, run, indexSaid};
 
 pub fn one_if(b: bool) -> u64
@@ -67,6 +67,13 @@ pub fn accepted(index: IndexRecord) -> u64
     ensures { λ x. ⌜ x ≡ acceptedOf (numbersIn index) ⌝ }
 {
     end(index) + one_if(index.stop_held)
+}
+
+// Whether the log has a hole: entries were dropped, and no snapshot is held that has them.
+pub fn hole(index: IndexRecord) -> bool
+    ensures { λ x. ⌜ x ≡ holeIn index ⌝ }
+{
+    (0 < index.compacted.0) & !index.snapshot_held
 }
 
 // Whether the stop-sign is held and decided.

@@ -1,6 +1,6 @@
 -- A sync with a log part on a lent state: its refusals, and the state after it.
 use Rattle.words.proofs.Prelude.{arith, _≡_, refl, sym, ap, ap₂, _∙_, ℕ, _+_, _-_, _*_, _/_, _≤_, max, Bool, true}
-use Rattle.words.proofs.Prelude.{false, _||_, not, ltb, eqb-true, le-ltb, ltb-false, if_then_else_, some, List}
+use Rattle.words.proofs.Prelude.{false, _&&_, _||_, not, ltb, eqb-true, le-ltb, ltb-false, if_then_else_, some, List}
 use Rattle.words.proofs.Prelude.{append-assoc, _++_, length-append, length, take, length-take-le, take-all}
 use Prim.Native.Nat.{_%_}
 use Rattle.words.specs.Coded.{wordsOf}
@@ -11,24 +11,26 @@ use Rattle.entry.specs.{Change.stored, Guards.Guard, Guards.passes, Guards.refu
 use Rattle.entry.specs.{Guards.replied, Guards.refusedBy, Refusals.numberOf, Refusals.carriedOf, declared.Ballot.Ballot}
 use Rattle.entry.specs.{declared.Refusal.Refusal}
 use Rattle.entry.proofs.ChangeLaws.{changeOk}
-use Rattle.entry.proofs.GuardLaws.{first-left, first-right, Clear, clear, passed}
+use Rattle.entry.proofs.GuardLaws.{first-left, first-right, first-refuses, first-goes-on, Clear, clear, passed}
 use Rattle.snapshot.specs.{Folds.foldOnto, Folds.merge, Calls.outcome as snapshotOutcome, Calls.folded}
 use Rattle.snapshot.specs.{Calls.foldGuards, Inner.Holds, Inner.foldWritten, declared.Folded.Folded}
 use Rattle.snapshot.specs.{declared.Folded.the-variants.Keys, declared.Folded.the-variants.Refused}
 use Rattle.snapshot.proofs.Calling.{wrote-nothing, wrote-keys}
 use Rattle.model.specs.Numbers.{Numbers, acceptedOf, logDecided}
-use Rattle.model.specs.Log.{Log, given, orEmpty, foldedTo}
+use Rattle.model.specs.Log.{Log, given, orEmpty, foldedTo, hole}
+use Rattle.model.specs.{Compact.ontoGuards, Diff.Given}
 use Rattle.model.specs.Sync.{Part, PartNumbers, partNumbers, plain?, partNumberGuards, partGuards, foldThen, deltaOnto}
-use Rattle.model.specs.Sync.{runThen, partSynced}
+use Rattle.model.specs.Sync.{delta?, runThen, partSynced}
 use Rattle.model.specs.Calls.{Call, sync, malformed, further, syncGuards, synced, effect, replyOf}
 use Rattle.state_cache.specs.{State.Raw, State.raw, State.numbersIn, State.formed, State.logOf, Inner.Small}
-use Rattle.state_cache.specs.{Run.outcome, Run.run, declared.IndexRecord.IndexRecord}
+use Rattle.state_cache.specs.{Inner.holeIn, Run.outcome, Run.run, declared.IndexRecord.IndexRecord}
 use Rattle.state_cache.proofs.{Stands.Stands, Stands.stands-of, Stands.numbers-are, Stands.log-formed, Stands.given-by}
+use Rattle.state_cache.proofs.Stands.{hole-is}
 use Rattle.state_cache.proofs.{Stands.sign-by, Runs.call-refused, Runs.call-stands, Changes.log-spliced}
 use Rattle.internal_storage.specs.Replies.{asked}
 use Rattle.internal_storage.proofs.Effects.{numbers}
 use Rattle.compaction.proofs.Folding.{decided-high, snapshot-is, fold-is}
-use Rattle.sync.specs.Requests.{givenBy, plainBy, partBy, numbersBy}
+use Rattle.sync.specs.Requests.{givenBy, plainBy, deltaBy, partBy, numbersBy}
 use Rattle.sync.specs.Inner.{snapshotThen, marked, keptBy, syncedIndex, Fits, Taken, Syncs}
 use Rattle.sync.specs.declared.LogSync.{LogSync}
 use Rattle.sync.specs.declared.SnapshotType.{SnapshotType}
@@ -39,6 +41,11 @@ plain-by : (k : SnapshotType) (t : List Change) → plain? (givenBy k t) ≡ pla
 plain-by Plain t = refl
 plain-by Complete t = refl
 plain-by Delta t = refl
+
+delta-by : (k : SnapshotType) (t : List Change) → delta? (givenBy k t) ≡ deltaBy k
+delta-by Plain t = refl
+delta-by Complete t = refl
+delta-by Delta t = refl
 
 or-not : (h : Bool) → (h || false) ≡ h
 or-not true = refl
@@ -80,19 +87,23 @@ module _ (r : Raw) (x : LogSync) (incoming suffix : List ℕ) (w : Syncs r x inc
           → _≡_ {A = PartNumbers} (record { idx = x .«sync_idx» .0; plain = t; count = k; stop = g }) (numbersBy x n)
       fields t k g e q u = rw (e, q, u)
 
-  abbrev last-guard : List Guard
-  last-guard = foldGuards (foldThen (givenBy kind (entriesOf (x .keys) incoming)) s)
+  -- those of a delta alone: 16 and 8
+  abbrev last-guards : List Guard
+  last-guards =
+      let g : Given = givenBy kind (entriesOf (x .keys) incoming) in
+      ontoGuards (delta? g) s (foldThen g s)
 
-  guards-are : first (further c s) ≡ first (gs ++ last-guard)
+  guards-are : first (further c s) ≡ first (gs ++ last-guards)
   unfolding further syncGuards partGuards
-  guards-are = ap₂ (λ (a : PartNumbers) (m : Numbers). first (partNumberGuards d a m ++ last-guard)) asks (numbers r ok)
+  guards-are = ap₂ (λ (a : PartNumbers) (m : Numbers). first (partNumberGuards d a m ++ last-guards))
+      asks (numbers r ok)
 
   fine : malformed c ≡ false
   unfolding malformed
   fine = rw (w .fine)
 
   pub sync-refused : (m k : ℕ) → refuses m k ≡ first gs → outcome (refused m k) r ≡ run c true r
-  sync-refused m k e = call-refused c r ok fine m k (first-left gs last-guard m k e ∙ sym guards-are)
+  sync-refused m k e = call-refused c r ok fine m k (first-left gs last-guards m k e ∙ sym guards-are)
 
   module _ (pass : passes ≡ first gs) where
     clr : Clear gs
@@ -132,6 +143,15 @@ module _ (r : Raw) (x : LogSync) (incoming suffix : List ℕ) (w : Syncs r x inc
         low true = omega (arith, fits .up, high)
         low false = high
 
+    holed-is : (delta? (givenBy kind (entriesOf (x .keys) incoming)) && hole (s .run))
+        ≡ (deltaBy kind && holeIn (r .index))
+    holed-is = ap₂ (λ (t u : Bool). t && u) (delta-by kind (entriesOf (x .keys) incoming)) (hole-is s r st)
+
+    pub sync-holed : (deltaBy kind && holeIn (r .index)) ≡ true → outcome (refused 16 0) r ≡ run c true r
+    sync-holed e =
+        call-refused c r ok fine 16 0
+        (sym (guards-are ∙ first-right gs last-guards pass ∙ first-refuses 16 0 _ _ (holed-is ∙ e)))
+
     -- ---- the snapshot then held
 
     abbrev held : List Change
@@ -163,13 +183,14 @@ module _ (r : Raw) (x : LogSync) (incoming suffix : List ℕ) (w : Syncs r x inc
     tested Complete h = rw (few-keys (x .keys) incoming (h refl))
     tested Delta h = ap (λ (u : List Change). first (foldGuards u)) (sym delta-is)
 
-    module _ (a : Folded) (exit : List ℕ)
+    module _ (whole : (deltaBy kind && holeIn (r .index)) ≡ false) (a : Folded) (exit : List ℕ)
         (f : snapshotOutcome (folded a) exit ≡ foldWritten (snapshotThen kind held decided lent) (r .snapshot)) where
       abbrev snapshot : List Change
       snapshot = snapshotThen kind held decided lent
 
       verdict : first (foldGuards snapshot) ≡ first (further c s)
-      verdict = tested kind (w .lent) ∙ sym (first-right gs last-guard pass) ∙ sym guards-are
+      verdict = tested kind (w .lent) ∙ sym (first-goes-on 16 0 _ _ (holed-is ∙ whole))
+          ∙ sym (first-right gs last-guards pass) ∙ sym guards-are
 
       pub sync-over : (y : Refusal) → a ≡ Refused y
           → outcome (refusedBy y) (raw (r .index) (r .log) exit) ≡ run c true r

@@ -27,6 +27,11 @@ plainBy Plain = true
 plainBy Complete = false
 plainBy Delta = false
 
+abbrev pub deltaBy : SnapshotType → Bool
+deltaBy Plain = false
+deltaBy Complete = false
+deltaBy Delta = true
+
 -- the log part, and none where the flag beside it says so
 abbrev pub partBy : LogSync → List ℕ → List ℕ → Part
 partBy x incoming suffix = record {

@@ -27,7 +27,7 @@ ghost use Rattle.state_cache.specs.State.{raw, numbersIn};
 ghost use Rattle.state_cache.specs.Inner.{Ready};
 ghost use Rattle.state_cache.specs.Run.{outcome, run, indexSaid};
 ghost use Rattle.internal_storage.specs.Inner.{verdictOf, indexed, byNumbers};
-ghost use Rattle.sync.specs.Requests.{plainBy, partBy, numbersBy, requestFormed};
+ghost use Rattle.sync.specs.Requests.{plainBy, deltaBy, partBy, numbersBy, requestFormed};
 ghost use Rattle.sync.specs.Inner.{snapshotThen, marked, Fits, Taken, Syncs};
 
 fn is_plain(kind: SnapshotType) -> bool
@@ -37,6 +37,16 @@ fn is_plain(kind: SnapshotType) -> bool
         SnapshotType::Plain => true,
         SnapshotType::Complete => false,
         SnapshotType::Delta => false,
+    }
+}
+
+fn is_delta(kind: SnapshotType) -> bool
+    ensures { λ r. ⌜ r ≡ deltaBy kind ⌝ }
+{
+    match kind {
+        SnapshotType::Plain => false,
+        SnapshotType::Complete => false,
+        SnapshotType::Delta => true,
     }
 }
 
@@ -249,8 +259,15 @@ pub fn sync_at(
             index,
         };
     }
-    let marked = mark(index, accepted_round, decided_idx);
     let kind = log_sync.decided_snapshot;
+    // A delta goes onto all that was decided before the call, which a log with a hole does not hold.
+    if is_delta(kind) & state_cache::inner::hole(index) {
+        return IndexAnswerAt {
+            answer: IndexAnswer::Refused(Refusal::Hole),
+            index,
+        };
+    }
+    let marked = mark(index, accepted_round, decided_idx);
     let r = hold(index, log, snapshot, kind, incoming, log_sync.keys);
     match r {
         Folded::Refused(refusal) => IndexAnswerAt {

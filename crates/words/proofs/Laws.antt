@@ -242,3 +242,11 @@ paste-all d s e =
     ap (λ (l : List ℕ). l ++ drop (0 + length s) d) (take-length s)
     ∙ ap (λ (l : List ℕ). s ++ l) (drop-of-length-le d h)
     ∙ append-nil s
+
+-- a slice cleared whole
+pub cleared : (n : ℕ) (ws : List ℕ) → length ws ≡ n → paste ws 0 (replicate (n - 0) 0) (n - 0) ≡ replicate n 0
+cleared n ws e =
+    let k : length (replicate {A = ℕ} n 0) ≡ n = length-replicate n 0 in
+    ap (λ (j : ℕ). paste ws 0 (replicate j 0) j) (sub-zero n)
+    ∙ ap (λ (j : ℕ). paste ws 0 (replicate n 0) j) (sym k)
+    ∙ paste-all ws (replicate n 0) (k ∙ sym e)

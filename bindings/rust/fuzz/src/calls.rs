@@ -187,13 +187,13 @@ fn decide_in_place(turn: &mut Turn, _: &Case, dice: &mut Dice) -> Result<Answer,
 
 fn trim(turn: &mut Turn, _: &Case, dice: &mut Dice) -> Result<Answer, String> {
     let idx = dice.index(&turn.record);
-    let made = plain::try_trim(turn.record, turn.log.words_mut(), turn.snapshot.words(), idx);
+    let made = plain::try_trim(turn.record, turn.log.words_mut(), turn.snapshot.words_mut(), idx);
     reply(turn, made)
 }
 
 fn trim_in_place(turn: &mut Turn, _: &Case, dice: &mut Dice) -> Result<Answer, String> {
     let idx = dice.index(&turn.record);
-    said(plain::in_place_try_trim(&mut turn.record, turn.log.words_mut(), turn.snapshot.words(), idx))
+    said(plain::in_place_try_trim(&mut turn.record, turn.log.words_mut(), turn.snapshot.words_mut(), idx))
 }
 
 fn snapshot(turn: &mut Turn, _: &Case, dice: &mut Dice) -> Result<Answer, String> {
@@ -277,8 +277,8 @@ pub const ALL: &[Call] = &[
         wrote(made, made.first)
     }),
     Call::of("find", 1, &[0, 11], Changes::Nothing, |t, c, d| said(plain::find(t.second.words(), c.keys, d.key()))),
-    Call::of("create_snapshot", 3, &[0, 12, 11, 3, 2, 8], Changes::Output, create),
-    Call::of("create_diff_snapshot", 3, &[0, 12, 11, 8], Changes::Output, diff),
+    Call::of("create_snapshot", 3, &[0, 12, 11, 3, 2, 16, 8], Changes::Output, create),
+    Call::of("create_diff_snapshot", 3, &[0, 12, 11, 16, 8], Changes::Output, diff),
     Call::of("well_formed", 2, &[0], Changes::Nothing, |t, c, _| {
         tested(plain::well_formed(t.record, t.log.words(), t.snapshot.words()), form::well_formed(&c.state))
     }),
@@ -328,16 +328,16 @@ pub const ALL: &[Call] = &[
     }),
     Call::of("set_decided_idx", 10, &[0, 12, 5, 6], Changes::Record, decide),
     Call::of("in_place_set_decided_idx", 5, &[0, 12, 5, 6], Changes::Record, decide_in_place),
-    Call::of("try_trim", 2, &[0, 12, 2], Changes::Log, trim),
-    Call::of("in_place_try_trim", 2, &[0, 12, 2], Changes::Log, trim_in_place),
-    Call::of("try_snapshot", 4, &[0, 12, 2, 8], Changes::Words, snapshot),
+    Call::of("try_trim", 2, &[0, 12, 2], Changes::Words, trim),
+    Call::of("in_place_try_trim", 2, &[0, 12, 2], Changes::Words, trim_in_place),
+    Call::of("try_snapshot", 4, &[0, 12, 2, 16, 8], Changes::Words, snapshot),
     Call::of("sync_log without a log part", 1, &[0, 12, 11, 6], Changes::Words, |t, c, d| {
         let kind = d.word();
         sync(t, c, d, false, kind)
     }),
     Call::of("sync_log, plain", 2, &[0, 12, 11, 4, 5, 7, 10, 9, 1, 6], Changes::Words, |t, c, d| sync(t, c, d, true, 0)),
     Call::of("sync_log, complete", 2, &[0, 12, 11, 4, 5, 10, 9, 1, 6, 2], Changes::Words, |t, c, d| sync(t, c, d, true, 1)),
-    Call::of("sync_log, delta", 2, &[0, 12, 11, 4, 5, 10, 9, 1, 6, 2, 8], Changes::Words, |t, c, d| sync(t, c, d, true, 2)),
+    Call::of("sync_log, delta", 2, &[0, 12, 11, 4, 5, 10, 9, 1, 6, 2, 16, 8], Changes::Words, |t, c, d| sync(t, c, d, true, 2)),
     Call::of("sync_log, of no known kind", 1, &[12, 11], Changes::Words, |t, c, d| {
         let kind = d.unknown();
         sync(t, c, d, true, kind)

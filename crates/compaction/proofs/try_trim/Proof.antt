@@ -8,14 +8,15 @@ use Rattle.compaction.proofs.try_trim.Tie as tie
 
 returns : tie.Need-returns
 returns c =
-    let st = c .before .before .before .before .before in
-    ill-formed (trim (st .args .idx .0)) true (raw (st .args .index) (now (st .args .log)) (now (st .args .snapshot)))
+    let st = c .before .before .before .before .before .before in
+    ill-formed (trim (st .args .idx .0)) true
+    (raw (st .args .index) (now (st .args .log)) (now (st .args .snapshot)))
     (sym (c .before .well-formed .ensures) ∙ not-true _ (c .if1 .taken))
 
 trim-at-requires : tie.Need-trim-at-requires
 trim-at-requires c κs =
-    let e = c .before in
-    let st = e .before .before .before .before .before in
+    let e = c .before .before in
+    let st = e .before .before .before .before .before .before in
     ready-of (raw (st .args .index) (now (st .args .log)) (now (st .args .snapshot)))
     (sym (e .before .well-formed .ensures) ∙ not-false _ (e .if1 .left))
 
@@ -28,7 +29,9 @@ try-trim-spec =
     (tie.spec
     (λ c κs. search needs)
     (λ c. search needs)
+    (λ c. search needs)
     returns
     trim-at-requires
+    (λ c. search needs)
     (λ c. search needs)
     returns-2)

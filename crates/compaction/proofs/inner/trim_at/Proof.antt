@@ -1,5 +1,7 @@
 -- `compaction::inner::trim_at` meets its contract: by what becomes of the run's start.
-use Rattle.words.proofs.Prelude.{needs, now, some}
+use Rattle.words.proofs.Prelude.{needs, arith, now, _∙_, some}
+use Rattle.words.proofs.Laws.{cleared}
+use Rattle.entry.specs.Limits.{snapshotWords}
 use Rattle.state_cache.specs.State.{Raw, raw}
 use Rattle.state_cache.proofs.Small.{sound-small}
 use Rattle.compaction.specs.Inner.{Up}
@@ -20,9 +22,12 @@ up k = rw (k .before .way2 .given .1) at (k .before .before .before .reach-of .e
 reach-of-requires : tie.Need-reach-of-requires
 reach-of-requires c κs = sound-small _ (c .before .before .pre .numbers)
 
+clear-requires : tie.Need-clear-requires
+clear-requires c κs = omega (arith, startOf (c .before) .pre .snapshot .laid .long)
+
 move-to-requires : tie.Need-move-to-requires
 move-to-requires c κs =
-    let k = c .before in
+    let k = c .before .before .before .before .before in
     let st = startOf k in
     movable (stateAt st) (st .pre .okay) (some (st .args .idx .0)) _ (up k)
 
@@ -36,13 +41,15 @@ returns c =
 returns-2 : tie.Need-returns-2
 returns-2 c =
     let m = c .before .before in
-    let k = m .before .before in
+    let w = m .before .before .before .before in
+    let k = w .before .before in
     let st = startOf k in
     trim-moves (stateAt st) (st .pre .okay) (st .args .idx .0) _ (up k) (m .move-to .result) (m .move-to .last .1 .0)
-    (m .move-to .ensures)
+    (w .clear .last .0) (m .move-to .ensures)
+    (w .clear .ensures ∙ cleared snapshotWords (now (st .args .snapshot)) (st .pre .snapshot .laid .long))
 
 pub trim-at-spec : {M : Type 1} → statement M
 trim-at-spec =
     tie.close
-    (tie.spec reach-of-requires (λ c. search needs)
-    (λ c. search needs) move-to-requires returns (λ c. search needs) returns-2)
+    (tie.spec reach-of-requires (λ c. search needs) (λ c. search needs) clear-requires move-to-requires returns
+    (λ c. search needs) (λ c. search needs) returns-2)

@@ -1,9 +1,10 @@
 -- `diff::inner::diff_at` meets its contract: a delta past compacted, else nothing or the fold onto the held snapshot.
-use Rattle.words.proofs.Prelude.{needs, arith, now, not-true, not-false}
+use Rattle.words.proofs.Prelude.{needs, arith, now, sym, _∙_, not-true, not-false}
 use Rattle.state_cache.specs.State.{Raw, raw, numbersIn}
 use Rattle.state_cache.proofs.Small.{sound-small}
 use Rattle.compaction.proofs.Folding.{decided-low, decided-high, fold-needs}
 use Rattle.diff.proofs.{Giving.start-low, Giving.part-inside, Giving.part-shows, Telling.diff-nothing}
+use Rattle.diff.proofs.Telling.{diff-holed}
 use Rattle.diff.proofs.{Telling.complete-wrote, Telling.delta-wrote, inner.diff_at.Statement.statement}
 use Rattle.diff.proofs.inner.diff_at.Tie as tie
 
@@ -18,6 +19,9 @@ knownOf m = m .before .before .before
 
 abbrev leftOf : tie.Else2 → tie.After-log-decided
 leftOf g = g .before .before .before .before
+
+abbrev wholeOf : tie.Else3 → tie.Else2
+wholeOf e = e .before .before
 
 log-decided-requires : tie.Need-log-decided-requires
 log-decided-requires c κs = sound-small _ (c .before .before .before .pre .0 .numbers)
@@ -66,9 +70,18 @@ returns-2 c =
     diff-nothing (stateAt k) (st .args .from .0) (now (st .args .out)) (st .pre .0 .okay) (k .log-decided .result)
     (k .log-decided .ensures) (e .if1 .left) (not-true _ (c .if2 .taken))
 
+returns-3 : tie.Need-returns-3
+returns-3 c =
+    let g = c .before .before in
+    let k = leftOf g in
+    let st = startOf k in
+    diff-holed (stateAt k) (st .args .from .0) (now (st .args .out)) (st .pre .0 .okay) (k .log-decided .result)
+    (k .log-decided .ensures) (g .before .before .if1 .left) (not-false _ (g .if2 .left))
+    (sym (c .before .hole .ensures) ∙ c .if3 .taken)
+
 sub-fold-aside : tie.Need-sub-fold-aside
 sub-fold-aside c =
-    let k = leftOf c in
+    let k = leftOf (wholeOf c) in
     let st = startOf k in
     omega (
       arith,
@@ -78,21 +91,23 @@ sub-fold-aside c =
 
 fold-aside-requires : tie.Need-fold-aside-requires
 fold-aside-requires c κs =
-    let k = leftOf (c .before) in
+    let k = leftOf (wholeOf (c .before)) in
     let st = startOf k in
     fold-needs (stateAt k) (st .pre .0 .okay) (k .log-decided .result)
     (decided-high (numbersIn (st .args .index)) (st .pre .0 .numbers) (k .log-decided .result)
     (k .log-decided .ensures)) (now (st .args .out)) (st .pre .1)
 
-returns-3 : tie.Need-returns-3
-returns-3 c =
+returns-4 : tie.Need-returns-4
+returns-4 c =
     let f = c .before .before .before in
-    let g = f .before .before in
+    let e = f .before .before in
+    let g = wholeOf e in
     let k = leftOf g in
     let st = startOf k in
     rw (c .tell2 .ensures)
     (complete-wrote (stateAt k) (st .args .from .0) (now (st .args .out)) (st .pre .0 .okay) (k .log-decided .result)
-    (k .log-decided .ensures) (g .before .before .if1 .left) (not-false _ (g .if2 .left)) (f .fold-aside .result)
+    (k .log-decided .ensures) (g .before .before .if1 .left) (not-false _ (g .if2 .left))
+    (sym (e .before .hole .ensures) ∙ e .if3 .left) (f .fold-aside .result)
     (f .fold-aside .last .1 .1 .1 .1 .0) (f .fold-aside .ensures))
 
 pub diff-at-spec : {M : Type 1} → statement M
@@ -108,8 +123,10 @@ diff-at-spec =
     (λ c. search needs)
     returns
     returns-2
+    (λ c κs. search needs)
+    returns-3
     sub-fold-aside
     fold-aside-requires
     (λ c κs. search needs)
     (λ c. search needs)
-    returns-3)
+    returns-4)

@@ -62,10 +62,10 @@ returns-8 c =
 
 returns-9 : tie.Need-returns-9
 returns-9 c =
-    let a = c .before .before .before .before .before .before .before .before .before .before .args in
-    c .before .before .trim .ensures
+    let a = c .before .before .before .before .before .before .before .before .before .before .before .before .args in
+    c .before .before .before .before .trim .ensures
     ∙ sym (ap (λ (x : Command). answering x (raw (a .index) (now (a .log)) (now (a .snapshot))))
-    (c .before .before .before .before .before .before .command8 .given .1))
+    (c .before .before .before .before .before .before .before .before .command8 .given .1))
 
 returns-10 : tie.Need-returns-10
 unfolding answering

@@ -1,9 +1,10 @@
-/* Puts two keys, decides them, folds them into the snapshot, and looks one up. */
+/* Puts two keys, decides them, folds them into the snapshot, and looks one up; then writes the log's image, and reads it back. */
 #include "kotuseraw.h"
 #include <stdio.h>
 
 int main(void) {
     static uint64_t log[KOTUSERAW_LOG_WORDS], snapshot[KOTUSERAW_SNAPSHOT_WORDS];
+    static uint8_t image[KOTUSERAW_IMAGE_ROOM];
     const uint64_t entries[] = {7, 70, 8, 80};
     kotuseraw_index none = {0}, two = {2};
 
@@ -15,5 +16,9 @@ int main(void) {
     printf("refused %d, found %d, place %d\n", (int)found.number, (int)found.told, (int)found.first);
     r = kotuseraw_set_decided_idx(r.index, log, KOTUSERAW_LOG_WORDS, snapshot, KOTUSERAW_SNAPSHOT_WORDS, none);
     printf("refused %d, carrying %d\n", (int)r.said.number, (int)r.said.carried);
+    kotuseraw_said wrote =
+        kotuseraw_write_image(r.index, log, KOTUSERAW_LOG_WORDS, snapshot, KOTUSERAW_SNAPSHOT_WORDS, image, KOTUSERAW_IMAGE_ROOM);
+    r = kotuseraw_read_image(0, image, wrote.first, log, KOTUSERAW_LOG_WORDS, snapshot, KOTUSERAW_SNAPSHOT_WORDS);
+    printf("an image of %d bytes, accepted %d\n", (int)wrote.first, (int)r.said.first);
     return 0;
 }

@@ -1,5 +1,6 @@
 /* Every call of the proved library, for C and whatever calls as C does: link libhost.a, which `rt staticlib host` makes in
- * target/staticlib. Records and requests go by value; a slice is a pointer and a length in words. docs/HOST.md is the reference.
+ * target/staticlib. Records and requests go by value; a slice is a pointer and a length, in words or in bytes as its pointer says.
+ * docs/HOST.md is the reference.
  *
  * What a caller owes: a pointer is valid for its length, aligned and not null, also where the length is 0; a slice that is written
  * overlaps no other that is lent to the same call; a bool is 0 or 1. Any other value of any word is answered. */
@@ -16,6 +17,8 @@ extern "C" {
 
 #define KOTUSERAW_LOG_WORDS 2048
 #define KOTUSERAW_SNAPSHOT_WORDS 1024
+/* Bytes of the largest image. */
+#define KOTUSERAW_IMAGE_ROOM 30881
 /* The second word of an entry whose key is removed. */
 #define KOTUSERAW_REMOVED UINT64_MAX
 
@@ -179,6 +182,24 @@ kotuseraw_said kotuseraw_stopsign_is_decided(
     kotuseraw_record index,
     const uint64_t *log, size_t log_len,
     const uint64_t *snapshot, size_t snapshot_len);
+
+/* The stored image of a log. */
+/* Writes it, the batch left out, to the front of `out`; bytes after it stay. Told 1: first how many bytes it has. Refused with 12, and
+ * with 13 where `out` is too short: KOTUSERAW_IMAGE_ROOM bytes are always enough. */
+kotuseraw_said kotuseraw_write_image(
+    kotuseraw_record index,
+    const uint64_t *log, size_t log_len,
+    const uint64_t *snapshot, size_t snapshot_len,
+    uint8_t *out, size_t out_len);
+/* Reads one into a log of this batch size, over whatever its words held. Told 1: first the accepted index. Refused with 11; with 14 where the
+ * format is unknown; with 15, carrying the offset of the first record that is bad or of the first byte left over. Where it is refused
+ * no word has changed, and the record is that of a fresh log of batch size 0: keep your own. Of a file the first KOTUSERAW_IMAGE_ROOM + 1
+ * bytes say as much as all of it. */
+kotuseraw_reply kotuseraw_read_image(
+    uint64_t batch_size,
+    const uint8_t *bytes, size_t bytes_len,
+    uint64_t *log, size_t log_len,
+    uint64_t *snapshot, size_t snapshot_len);
 
 /* The calls that change a log. */
 /* Where `removed` is set the place is not looked at. */

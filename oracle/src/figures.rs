@@ -3,7 +3,7 @@
 use crate::backend::{Backend, Change, Keys, Shared, Sight};
 use crate::ballot_leader_election::Ballot as RustBallot;
 use crate::limits::{ENTRIES, KEYS};
-use crate::shown::{self, ADDED, STATES};
+use crate::shown::{self, ADDED, FRESH, LARGEST, STATES};
 use crate::storage::internal_storage::{InternalStorage, InternalStorageConfig};
 use crate::storage::{
     Snapshot as _, SnapshotType as RustType, StopSign as RustStop, Storage, StorageOp,
@@ -11,6 +11,8 @@ use crate::storage::{
 use crate::store::change as changed;
 use crate::util::LogSync as RustSync;
 use crate::ClusterConfig;
+use kotuseraw::image::ROOM;
+use kotuseraw::plain::{METADATA, NODES};
 use kotuseraw::{
     plain, Ballot, BlockPlace, Entry, Index, Lent, LogIndex, LogSync, Op, Snapshot, SnapshotType,
     StopSign, View,
@@ -447,6 +449,48 @@ fn lookups(meter: &mut Meter) {
     }
 }
 
+/// The smallest image and the largest, beside a copy of as many bytes.
+fn images(meter: &mut Meter) {
+    let sign = StopSign::new(1, &[1; NODES], Some(&[1; METADATA])).unwrap();
+    let mut full = Both::with(KEYS, ENTRIES).index;
+    full.append_stopsign(sign).unwrap();
+    for (column, index) in [(FRESH, Index::fresh(0).unwrap()), (LARGEST, full)] {
+        let mut of = |row: &str, call: &mut dyn FnMut() -> bool| {
+            assert!(meter.of("image", row, column, call))
+        };
+        let image = index.to_image();
+        let (mut out, mut wrote, mut read) = (vec![0; ROOM], vec![], None);
+        let (record, log, snapshot) = (*index.record(), index.log(), index.snapshot_words());
+        let (mut words, mut keys) = (log.to_vec(), snapshot.to_vec());
+        of("write_image", &mut || {
+            plain::write_image(record, log, snapshot, &mut out).number == 0
+        });
+        of("read_image", &mut || {
+            plain::read_image(0, &image, &mut words, &mut keys)
+                .said
+                .number
+                == 0
+        });
+        of("Index::to_image", &mut || {
+            wrote = index.to_image();
+            true
+        });
+        of("Index::from_image", &mut || {
+            read = Index::from_image(&image, 0).ok();
+            true
+        });
+        of("a copy of as many bytes", &mut || {
+            black_box(&mut out)[..image.len()].copy_from_slice(black_box(&image));
+            true
+        });
+        assert_eq!((&out[..image.len()], &wrote), (&image[..], &image));
+        assert_eq!(
+            (&words[..], &keys[..], read),
+            (log, snapshot, Some(index.clone()))
+        );
+    }
+}
+
 /// How cost grows.
 fn growth(meter: &mut Meter) {
     for (keys, entries) in [
@@ -498,6 +542,7 @@ fn measure(meter: &mut Meter) {
     starts(meter);
     snapshots(meter);
     lookups(meter);
+    images(meter);
     growth(meter);
 }
 

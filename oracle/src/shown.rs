@@ -1,6 +1,8 @@
 //! The figures as docs/FIGURES.md shows them, from what `oracle figures count` and `time` printed.
 use crate::entry::{LOG_WORDS, SNAPSHOT_WORDS};
 use crate::limits::{ENTRIES, KEYS};
+use kotuseraw::image::{HEAD, ROOM};
+use kotuseraw::plain::{METADATA, NODES};
 use std::fs;
 
 /// The states of the tables: a name, the snapshot's keys, the entries.
@@ -12,6 +14,13 @@ pub const STATES: [(&str, u64, u64); 3] = [
 
 /// Entries that a call adds where it adds many.
 pub const ADDED: u64 = 16;
+
+/// The images of the tables.
+pub const FRESH: &str = "a fresh log's";
+pub const LARGEST: &str = "the largest";
+
+/// In the time, or the instructions, of so many lent calls the largest image is to be written, and to be read: "a few hundred".
+const FEW_HUNDRED: u64 = 200;
 
 /// Words that a call on lent words judges.
 const WORDS: u64 = (LOG_WORDS + SNAPSHOT_WORDS) as u64;
@@ -111,6 +120,30 @@ fn print_calls(order: &[Figure], figures: &[Figure]) {
     );
 }
 
+/// The times of images, and how many bytes of the largest go in a second.
+fn print_images(order: &[Figure], times: &[Figure]) {
+    let columns = [
+        FRESH.to_string(),
+        LARGEST.to_string(),
+        format!("{LARGEST}, megabytes a second"),
+    ];
+    print_row("what is done", columns.into_iter());
+    print_row("---", vec!["---".to_string(); 3].into_iter());
+    let of_table = order.iter().filter(|f| f.table == "image");
+    for row in distinct(of_table.map(|f| &f.row)) {
+        let time = |column| number(times, "image", row, column);
+        let rate = time(LARGEST).map(|took| ROOM as u64 * 1000 / took.max(1));
+        let cells = [time(FRESH), time(LARGEST), rate];
+        print_row(
+            row,
+            cells
+                .into_iter()
+                .map(|cell| cell.map_or("–".to_string(), written)),
+        );
+    }
+    println!();
+}
+
 /// A bar: a figure, with what it may cost at most.
 fn print_bars(before: &[Figure], now: &[Figure]) {
     let full = |figures: &[Figure], row, way| number(figures, "call", row, &format!("{way}, full"));
@@ -119,12 +152,12 @@ fn print_bars(before: &[Figure], now: &[Figure]) {
     };
     let scan = "Rust: entries backwards, then the map";
     let row = |name: &str, was: Option<u64>, is: Option<u64>, bar: Option<u64>, why: &str| {
-        let (was, is, bar) = (was.unwrap(), is.unwrap(), bar.unwrap());
+        let (is, bar) = (is.unwrap(), bar.unwrap());
         let met = if is <= bar { "met" } else { "NOT MET" };
         print_row(
             name,
             [
-                written(was),
+                was.map_or("–".to_string(), written),
                 written(is),
                 format!("{} ({why})", written(bar)),
                 met.to_string(),
@@ -189,6 +222,14 @@ fn print_bars(before: &[Figure], now: &[Figure]) {
             "the Rust's scan and map",
         );
     }
+    for (name, call) in [
+        ("the largest image written", "write_image"),
+        ("the largest image read", "read_image"),
+    ] {
+        let bar = full(now, append, "lent").map(|n| FEW_HUNDRED * n);
+        let why = format!("{FEW_HUNDRED} lent appends");
+        row(name, None, number(now, "image", call, LARGEST), bar, &why);
+    }
     println!();
 }
 
@@ -206,8 +247,16 @@ An empty state has no key and no entry. A half one has {} keys in its snapshot a
 where the call adds sixteen), over half of the keys; all but the last entry are decided. *Lent* is a call on a record and words that the
 caller lends, whose form is judged first; *owned* one through the crate's `Index`, which is not judged again where the boundary has an
 inner call. The *Rust* is omnipaxos's `InternalStorage` over the oracle's backend, on the same state; both are compared after each is built.
+
+A fresh log's image has {} bytes. The largest, of a full state with a stop-sign of {NODES} nodes and {METADATA} bytes, has {}. The copy beside
+them is libc's of so many bytes. What a file costs beyond them is the device's.
 ",
-        half.0, half.1, full.0, full.1
+        half.0,
+        half.1,
+        full.0,
+        full.1,
+        written(HEAD as u64),
+        written(ROOM as u64)
     )
 }
 
@@ -220,6 +269,7 @@ fn slower() -> String {
   front, four keys a step, and moves what follows; the Rust inserts into a tree.
 - A lookup walks the decided entries backwards and then the snapshot's keys from the front; a `BTreeMap` of everything, which nobody has to
   keep beside a log and a snapshot, answers in a hundred instructions.
+- Of an image every byte is put or looked at, and summed; a copy moves many bytes an instruction and looks at none.
 - An operation list runs on a copy of all words, judged before it and by its numbers after it; the oracle's backend copies everything too.
 - We are faster where the Rust builds what a reader did not ask for: a read shows a part of the log where the Rust copies entries out, and
   a trim moves words where the Rust's backend copies the whole state.
@@ -240,6 +290,8 @@ pub fn run(before: &str, counts: &str, times: Option<&String>) {
     print_whole(&counts, &counts, "snapshot", "what, and of how many");
     println!("## Lookup: instructions\n");
     print_whole(&counts, &counts, "lookup", "the key is");
+    println!("## Images: instructions\n");
+    print_whole(&counts, &counts, "image", "what is done");
     println!("## How cost grows: instructions\n");
     print_whole(&counts, &counts, "growth", "state");
     if let Some(times) = times {
@@ -250,6 +302,8 @@ pub fn run(before: &str, counts: &str, times: Option<&String>) {
         print_whole(&counts, &times, "snapshot", "what, and of how many");
         println!("## Lookup: nanoseconds\n");
         print_whole(&counts, &times, "lookup", "the key is");
+        println!("## Images: nanoseconds\n");
+        print_images(&counts, &times);
         println!("## How cost grows: nanoseconds\n");
         print_whole(&counts, &times, "growth", "state");
     }

@@ -1,5 +1,6 @@
 //! The log with its snapshot: one that a program owns, and one that it lends.
 use crate::entry::{entries, words, Entry, LOG_WORDS, SNAPSHOT_WORDS};
+use crate::image::ROOM;
 use crate::plain::{self, Ballot, BlockPlace, IndexRecord, LogIndex, Reply, Said, ShownSaid, StopSign};
 use crate::requests::{bound, Appended, Diff, Lent, LogSync, Marker, Op, Run};
 use crate::snapshot::Snapshot;
@@ -8,8 +9,8 @@ use std::fmt;
 use std::ops::RangeBounds;
 
 /// A log with its snapshot that the program owns. It comes from [`fresh`](Index::fresh), from a state that was judged
-/// ([`judged`](Index::judged)) or from a call on another, and only calls change it: so it is always well formed, and its calls need not
-/// judge that again.
+/// ([`judged`](Index::judged)), from an image ([`from_image`](Index::from_image)) or from a call on another, and only calls change it: so it
+/// is always well formed, and its calls need not judge that again.
 ///
 /// Its numbers and words can be seen, and not written:
 ///
@@ -86,6 +87,13 @@ fn run<'a>(record: &'a IndexRecord, log: &'a [u64], snapshot: &'a [u64], shown: 
         decided: shown.decided,
         stop: shown.stop.then_some((&record.stop, shown.stop_decided)),
     })
+}
+
+fn image(record: &IndexRecord, log: &[u64], snapshot: &[u64]) -> Result<Vec<u8>, Refusal> {
+    let mut bytes = vec![0; ROOM];
+    let said = plain::write_image(*record, log, snapshot, &mut bytes).accepted()?;
+    bytes.truncate(said.first as usize);
+    Ok(bytes)
 }
 
 /// A call on a lent state.
@@ -346,13 +354,46 @@ macro_rules! calls {
 }
 
 impl Index {
+    /// What a call writes into words of a log's and a snapshot's length.
+    fn written(call: impl FnOnce(&mut [u64], &mut [u64]) -> Reply) -> Result<Index, Refusal> {
+        let (mut log, mut snapshot) = (Box::new([0; LOG_WORDS]), Box::new([0; SNAPSHOT_WORDS]));
+        let reply = call(&mut log[..], &mut snapshot[..]);
+        reply.said.accepted()?;
+        Ok(Index { record: reply.index, log, snapshot })
+    }
+
     /// An empty log whose batch is flushed when it has so many entries, [`LARGEST_BATCH`](plain::LARGEST_BATCH) at most; at 0 no entry
     /// waits.
     pub fn fresh(batch_size: u64) -> Result<Index, Refusal> {
-        let (mut log, mut snapshot) = (Box::new([0; LOG_WORDS]), Box::new([0; SNAPSHOT_WORDS]));
-        let reply = plain::fresh(batch_size, &mut log[..], &mut snapshot[..]);
-        reply.said.accepted()?;
-        Ok(Index { record: reply.index, log, snapshot })
+        Index::written(|log, snapshot| plain::fresh(batch_size, log, snapshot))
+    }
+
+    /// The log whose image some bytes are, with this batch size and nothing in its batch.
+    ///
+    /// ```
+    /// use kotuseraw::{BlockPlace, Entry, Index};
+    /// let mut index = Index::fresh(2)?;
+    /// for key in [7, 8, 9] {
+    ///     index.append(Entry::put(key, BlockPlace(10 * key)))?;
+    /// }
+    /// let mut image = index.to_image();
+    /// let restored = Index::from_image(&image, 2)?;
+    /// index.load_cache()?; // 9 waited in the batch, which is not written
+    /// assert_eq!(restored, index);
+    /// image.pop();
+    /// let refused = Index::from_image(&image, 2).unwrap_err();
+    /// assert_eq!((refused.number(), refused.carried()), (15, 83)); // the second entry's record stands there
+    /// # Ok::<(), kotuseraw::Refusal>(())
+    /// ```
+    pub fn from_image(bytes: &[u8], batch_size: u64) -> Result<Index, Refusal> {
+        Index::written(|log, snapshot| plain::read_image(batch_size, bytes, log, snapshot))
+    }
+
+    /// Its image: the bytes that stand for it, without its batch. Two logs have the same bytes only if they are the same but for batch and
+    /// batch size.
+    pub fn to_image(&self) -> Vec<u8> {
+        let (record, log, snapshot) = self.parts();
+        image(record, log, snapshot).expect("an index is well formed, and no image is longer than the room")
     }
 
     /// A copy of a state from elsewhere, where it is well formed.
@@ -420,6 +461,21 @@ impl View<'_> {
     /// Whether the state is well formed.
     pub fn well_formed(&self) -> bool {
         plain::well_formed(*self.record, self.log, self.snapshot)
+    }
+
+    /// Its image, as [`Index::to_image`] gives it.
+    pub fn to_image(&self) -> Result<Vec<u8>, Refusal> {
+        let (record, log, snapshot) = self.parts();
+        image(record, log, snapshot)
+    }
+
+    /// Reads an image, as a log of this batch size, over whatever is lent. Tells the accepted index.
+    pub fn read_image(&mut self, bytes: &[u8], batch_size: u64) -> Result<LogIndex, Refusal> {
+        let reply = plain::read_image(batch_size, bytes, self.log, self.snapshot);
+        let said = reply.said.accepted()?;
+        // A refused one hands back a record that is not the one that is lent.
+        *self.record = reply.index;
+        Ok(LogIndex(said.first))
     }
 
     fn parts(&self) -> (&IndexRecord, &[u64], &[u64]) {

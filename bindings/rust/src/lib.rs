@@ -18,8 +18,11 @@
 //!
 //! - [`Index`] owns its state. [`View`] has the same calls on a record and words that the caller lends. [`plain`] is the boundary
 //!   itself, number for number. [`entry`] says how entries lie in words, and how many there may be.
+//! - [`Index::save`] puts an index into a file, and [`Index::load`] gets it back; [`Index::to_image`] and [`Index::from_image`] are the
+//!   same with bytes ([`image`]).
 //! - A call that is refused says so by a [`Refusal`], and has changed nothing.
 pub mod entry;
+pub mod image;
 mod index;
 pub mod plain;
 mod ready;
@@ -28,6 +31,7 @@ mod requests;
 mod snapshot;
 
 pub use entry::{Entry, LOG_WORDS, SNAPSHOT_WORDS};
+pub use image::LoadError;
 pub use index::{Index, View};
 pub use plain::{Ballot, BlockPlace, IndexRecord, LogIndex, StopSign};
 pub use refusal::Refusal;

@@ -154,11 +154,11 @@ macro_rules! export {
     ($kind:ident $(#[$note:meta])* $name:ident($($args:tt)*) -> $out:ty = $symbol:literal) => {
         export! { @ [$kind $(#[$note])*] $name $out, $symbol, [] [] [] $($args)* }
     };
-    (@ $head:tt $name:ident $out:ty, $symbol:literal, [$($c:tt)*] [$($sig:tt)*] [$($pass:tt)*] $a:ident: &[u64], $($rest:tt)*) => {
-        export! { @ $head $name $out, $symbol, [$($c)* _: *const u64, _: usize,] [$($sig)* $a: &[u64],] [$($pass)* $a.as_ptr(), $a.len(),] $($rest)* }
+    (@ $head:tt $name:ident $out:ty, $symbol:literal, [$($c:tt)*] [$($sig:tt)*] [$($pass:tt)*] $a:ident: &[$unit:ident], $($rest:tt)*) => {
+        export! { @ $head $name $out, $symbol, [$($c)* _: *const $unit, _: usize,] [$($sig)* $a: &[$unit],] [$($pass)* $a.as_ptr(), $a.len(),] $($rest)* }
     };
-    (@ $head:tt $name:ident $out:ty, $symbol:literal, [$($c:tt)*] [$($sig:tt)*] [$($pass:tt)*] $a:ident: &mut [u64], $($rest:tt)*) => {
-        export! { @ $head $name $out, $symbol, [$($c)* _: *mut u64, _: usize,] [$($sig)* $a: &mut [u64],] [$($pass)* $a.as_mut_ptr(), $a.len(),] $($rest)* }
+    (@ $head:tt $name:ident $out:ty, $symbol:literal, [$($c:tt)*] [$($sig:tt)*] [$($pass:tt)*] $a:ident: &mut [$unit:ident], $($rest:tt)*) => {
+        export! { @ $head $name $out, $symbol, [$($c)* _: *mut $unit, _: usize,] [$($sig)* $a: &mut [$unit],] [$($pass)* $a.as_mut_ptr(), $a.len(),] $($rest)* }
     };
     (@ $head:tt $name:ident $out:ty, $symbol:literal, [$($c:tt)*] [$($sig:tt)*] [$($pass:tt)*] $a:ident: &mut IndexRecord, $($rest:tt)*) => {
         export! { @ $head $name $out, $symbol, [$($c)* _: *mut IndexRecord,] [$($sig)* $a: &mut IndexRecord,] [$($pass)* $a,] $($rest)* }
@@ -174,8 +174,8 @@ macro_rules! export {
                 #[link_name = $symbol]
                 fn export($($c)*) -> $out;
             }
-            // SAFETY: the export is proved for every record, request and slice that Rust's types admit, and writes to no other words
-            // than those of the slices that are lent to it to write.
+            // SAFETY: the export is proved for every record, request and slice that Rust's types admit, and writes to nothing else
+            // than the slices that are lent to it to write.
             unsafe { export($($pass)*) }
         }
     };
@@ -223,6 +223,13 @@ exports! {
     get_accepted_idx(index: IndexRecord, log: &[u64], snapshot: &[u64]) -> Said = "kotuseraw_get_accepted_idx";
     get_decided_idx_without_stopsign(index: IndexRecord, log: &[u64], snapshot: &[u64]) -> Said = "kotuseraw_get_decided_idx_without_stopsign";
     stopsign_is_decided(index: IndexRecord, log: &[u64], snapshot: &[u64]) -> Said = "kotuseraw_stopsign_is_decided";
+
+    /// Writes the image of a log, its batch left out, to the front of `out`, of which [`ROOM`](crate::image::ROOM) bytes are always
+    /// enough. First how many bytes it has; those after them stay.
+    write_image(index: IndexRecord, log: &[u64], snapshot: &[u64], out: &mut [u8]) -> Said = "kotuseraw_write_image";
+    /// Reads an image into a log of this batch size, over whatever its words held. First the accepted index. Where it is refused no
+    /// word has changed, and the record is that of a fresh log of batch size 0.
+    read_image(batch_size: u64, bytes: &[u8], log: &mut [u64], snapshot: &mut [u64]) -> Reply = "kotuseraw_read_image";
 
     /// Where `removed` is set the place is not looked at.
     append_entry_with_batching(index: IndexRecord, log: &mut [u64], snapshot: &[u64], key: u64, removed: bool, place: BlockPlace) -> Reply = "kotuseraw_append_entry_with_batching";

@@ -10,7 +10,7 @@ pub struct Refusal {
 }
 
 /// What each number means, and what it carries.
-const MEANINGS: [(u64, &str, &str); 13] = [
+const MEANINGS: [(u64, &str, &str); 16] = [
     (1, "the log has no room", ""),
     (2, "the index is above the decided index", "decided index"),
     (3, "the index is below the compacted index", "compacted index"),
@@ -23,6 +23,9 @@ const MEANINGS: [(u64, &str, &str); 13] = [
     (10, "entries wait in the batch", "entries waiting"),
     (11, "an argument is malformed", ""),
     (12, "the state is not well formed", ""),
+    (13, "the room for the image is too short", ""),
+    (14, "the image is of an unknown format", ""),
+    (15, "the image is damaged, ill-formed or has bytes left over", "offset"),
     (16, "the log has a hole: entries were trimmed, and no snapshot has them", ""),
 ];
 
@@ -32,7 +35,7 @@ impl Refusal {
         self.number
     }
 
-    /// The index or the count that the table says it carries, else 0.
+    /// The index, the count or the offset that the table says it carries, else 0.
     pub fn carried(&self) -> u64 {
         self.carried
     }

@@ -1,4 +1,5 @@
 //! The C header beside the crate: the same structs to the byte, the same functions; and a C program that links the archive.
+use kotuseraw::image::ROOM;
 use kotuseraw::plain::*;
 use kotuseraw::{LOG_WORDS, SNAPSHOT_WORDS};
 use std::collections::BTreeSet;
@@ -83,8 +84,8 @@ fn the_structs_are_the_same_to_the_byte() {
             due += &format!("{c} {number}\n");
         }
     }
-    source += "printf(\"%d %d\\n\", KOTUSERAW_LOG_WORDS, KOTUSERAW_SNAPSHOT_WORDS);\nreturn 0;\n}\n";
-    due += &format!("{LOG_WORDS} {SNAPSHOT_WORDS}\n");
+    source += "printf(\"%d %d %d\\n\", KOTUSERAW_LOG_WORDS, KOTUSERAW_SNAPSHOT_WORDS, KOTUSERAW_IMAGE_ROOM);\nreturn 0;\n}\n";
+    due += &format!("{LOG_WORDS} {SNAPSHOT_WORDS} {ROOM}\n");
     let file = Path::new(env!("CARGO_TARGET_TMPDIR")).join("layout.c");
     fs::write(&file, source).unwrap();
     assert_eq!(printed("layout", &file, &[]), due);
@@ -106,12 +107,15 @@ fn the_functions_are_the_same() {
     let rust = fs::read_to_string(Path::new(env!("CARGO_MANIFEST_DIR")).join("src/plain.rs")).unwrap();
     let declared = functions(&header, '(');
     assert_eq!(declared, functions(&rust, '"'));
-    assert_eq!(declared.len(), 42);
+    assert_eq!(declared.len(), 44);
 }
 
 #[test]
 fn a_c_program_links_the_archive() {
     let source = folder().join("example.c");
     let archive = Path::new(env!("KOTUSERAW_LINKED"));
-    assert_eq!(printed("example", &source, &[archive]), "refused 0, found 1, place 80\nrefused 5, carrying 2\n");
+    assert_eq!(
+        printed("example", &source, &[archive]),
+        "refused 0, found 1, place 80\nrefused 5, carrying 2\nan image of 103 bytes, accepted 2\n"
+    );
 }

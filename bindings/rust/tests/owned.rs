@@ -2,7 +2,8 @@
 use kotuseraw::entry::{ENTRIES, KEYS, PLACES, WIDTH};
 use kotuseraw::plain::{LARGEST_BATCH, LARGEST_INDEX, METADATA, NODES};
 use kotuseraw::{
-    plain, Ballot, BlockPlace, Entry, Index, Lent, LogIndex, LogSync, Op, Refusal, Snapshot, SnapshotType, StopSign, View, SNAPSHOT_WORDS,
+    plain, Ballot, BlockPlace, Entry, Index, IndexRecord, Lent, LogIndex, LogSync, Op, Refusal, Snapshot, SnapshotType, StopSign, View,
+    SNAPSHOT_WORDS,
 };
 use std::collections::BTreeMap;
 
@@ -158,14 +159,32 @@ impl Dice {
     }
 }
 
+/// An image read back is the log after a reload, whatever was in the words, and at another batch size too.
+fn restored(index: &Index, dice: &mut Dice) {
+    let image = index.to_image();
+    let mut reloaded = index.clone();
+    let accepted = reloaded.load_cache().unwrap();
+    assert_eq!(Index::from_image(&image, index.record().batch_size).as_ref(), Ok(&reloaded));
+    let (mut record, mut log, mut snapshot) = (*index.record(), index.log().to_vec(), index.snapshot_words().to_vec());
+    let mut view = View { record: &mut record, log: &mut log, snapshot: &mut snapshot };
+    assert_eq!(view.to_image().as_ref(), Ok(&image));
+    let batch_size = dice.next(LARGEST_BATCH + 1);
+    assert_eq!(view.read_image(&image, batch_size), Ok(accepted));
+    assert_eq!(record, IndexRecord { batch_size, ..*reloaded.record() });
+    assert_eq!((&log[..], &snapshot[..]), (reloaded.log(), reloaded.snapshot_words()));
+}
+
 #[test]
 fn an_owned_index_answers_as_a_lent_one() {
     let mut dice = Dice(0x9e37_79b9_7f4a_7c15);
     let mut met = Met::new();
     for _ in 0..150 {
         let mut index = Index::fresh(dice.next(9)).unwrap();
-        for _ in 0..200 {
+        for made in 0..200 {
             turn(&mut index, &mut dice, &mut met);
+            if made % 8 == 0 {
+                restored(&index, &mut dice);
+            }
         }
     }
     for number in 1..=11 {
@@ -190,7 +209,7 @@ fn a_place_that_there_is_not_is_malformed() {
 fn a_state_that_is_not_well_formed_becomes_no_index() {
     let index = Index::fresh(4).unwrap();
     let (log, snapshot) = (index.log().to_vec(), index.snapshot_words().to_vec());
-    let spoilt: [fn(&mut kotuseraw::IndexRecord); 4] = [
+    let spoilt: [fn(&mut IndexRecord); 4] = [
         |record| record.retained = ENTRIES + 1,
         |record| record.decided.0 = 1,
         |record| record.batch_size = LARGEST_BATCH + 1,

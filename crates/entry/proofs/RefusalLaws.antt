@@ -3,7 +3,8 @@ use Rattle.words.proofs.Prelude.{_≡_, refl, sym, ap₂, _∙_, ℕ, eqb, if_t
 use Rattle.entry.specs.declared.Refusal.{Refusal}
 use Rattle.entry.specs.declared.Refusal.the-variants.{NoRoom, AboveDecided, BelowCompacted, Stopped, BelowDecided}
 use Rattle.entry.specs.declared.Refusal.the-variants.{AboveAccepted, OutsideRun, TooManyKeys, PastLastIndex}
-use Rattle.entry.specs.declared.Refusal.the-variants.{BatchHeld, Malformed, IllFormed, Hole}
+use Rattle.entry.specs.declared.Refusal.the-variants.{BatchHeld, Malformed, IllFormed, OutputShort, UnknownFormat}
+use Rattle.entry.specs.declared.Refusal.the-variants.{Damaged, Hole}
 use Rattle.entry.specs.Refusals.{numberOf, carriedOf}
 use Rattle.entry.specs.Guards.{refusedBy}
 
@@ -21,6 +22,9 @@ refusalOf n k =
     else if eqb n 10 then BatchHeld k
     else if eqb n 11 then Malformed
     else if eqb n 12 then IllFormed
+    else if eqb n 13 then OutputShort
+    else if eqb n 14 then UnknownFormat
+    else if eqb n 15 then Damaged k
     else Hole
 
 refusal-of : (r : Refusal) → refusalOf (numberOf r) (carriedOf r) ≡ r
@@ -37,6 +41,9 @@ refusal-of (PastLastIndex i) = refl
 refusal-of (BatchHeld n) = refl
 refusal-of Malformed = refl
 refusal-of IllFormed = refl
+refusal-of OutputShort = refl
+refusal-of UnknownFormat = refl
+refusal-of (Damaged at) = refl
 refusal-of Hole = refl
 
 pub refusal-known : {A : Type 0} (r q : Refusal) → refusedBy {A = A} r ≡ refusedBy q → r ≡ q

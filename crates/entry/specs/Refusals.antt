@@ -3,7 +3,8 @@ use Prim.Native.Nat.{ℕ}
 use Rattle.entry.specs.declared.Refusal.{Refusal}
 use Rattle.entry.specs.declared.Refusal.the-variants.{NoRoom, AboveDecided, BelowCompacted, Stopped, BelowDecided}
 use Rattle.entry.specs.declared.Refusal.the-variants.{AboveAccepted, OutsideRun, TooManyKeys, PastLastIndex}
-use Rattle.entry.specs.declared.Refusal.the-variants.{BatchHeld, Malformed, IllFormed, Hole}
+use Rattle.entry.specs.declared.Refusal.the-variants.{BatchHeld, Malformed, IllFormed, OutputShort, UnknownFormat}
+use Rattle.entry.specs.declared.Refusal.the-variants.{Damaged, Hole}
 
 abbrev pub numberOf : Refusal → ℕ
 numberOf NoRoom = 1
@@ -18,6 +19,9 @@ numberOf (PastLastIndex i) = 9
 numberOf (BatchHeld n) = 10
 numberOf Malformed = 11
 numberOf IllFormed = 12
+numberOf OutputShort = 13
+numberOf UnknownFormat = 14
+numberOf (Damaged at) = 15
 numberOf Hole = 16
 
 abbrev pub carriedOf : Refusal → ℕ
@@ -33,4 +37,7 @@ carriedOf (PastLastIndex i) = i .0
 carriedOf (BatchHeld n) = n
 carriedOf Malformed = 0
 carriedOf IllFormed = 0
+carriedOf OutputShort = 0
+carriedOf UnknownFormat = 0
+carriedOf (Damaged at) = at
 carriedOf Hole = 0

@@ -135,6 +135,9 @@ pub enum Refusal {
     BatchHeld(usize),
     Malformed,
     IllFormed,
+    OutputShort,
+    UnknownFormat,
+    Damaged(usize),
     Hole,
 }
 
@@ -155,6 +158,9 @@ pub fn number(r: Refusal) -> u64
         Refusal::BatchHeld(_) => 10,
         Refusal::Malformed => 11,
         Refusal::IllFormed => 12,
+        Refusal::OutputShort => 13,
+        Refusal::UnknownFormat => 14,
+        Refusal::Damaged(_) => 15,
         Refusal::Hole => 16,
     }
 }
@@ -176,6 +182,9 @@ pub fn carried(r: Refusal) -> u64
         Refusal::BatchHeld(n) => n as u64,
         Refusal::Malformed => 0,
         Refusal::IllFormed => 0,
+        Refusal::OutputShort => 0,
+        Refusal::UnknownFormat => 0,
+        Refusal::Damaged(at) => at as u64,
         Refusal::Hole => 0,
     }
 }

@@ -5,6 +5,7 @@ use super::ShownSaid;
 use diff::Diff;
 use entry::Ordering;
 use entry::Refusal;
+use image::Written;
 use internal_storage::Appended;
 use internal_storage::AppendedAt;
 use internal_storage::MaybeIndex;
@@ -28,6 +29,7 @@ ghost use Rattle.snapshot.specs.Calls.{found, folded};
 ghost use Rattle.state_cache.specs.State.{Raw};
 ghost use Rattle.state_cache.specs.Run.{settled, indexSaid, flag};
 ghost use Rattle.internal_storage.specs.Replies.{appendSaid, maybeIndexSaid};
+ghost use Rattle.image.specs.Calls.{written};
 ghost use Rattle.diff.specs.Replies.{diffSaid};
 ghost use Rattle.reading.specs.Replies.{spanSays, markerSaid, shownSaid, readSaid};
 ghost use Rattle.host.specs.Plain.{tells, plain};
@@ -166,6 +168,16 @@ pub(crate) fn folded_said(answer: Folded) -> Said
     match answer {
         Folded::Keys(n) => tell(1, n as u64, 0),
         Folded::Refused(r) => refuse(r),
+    }
+}
+
+// How many bytes of an image were written.
+pub(crate) fn written_said(answer: Written) -> Said
+    ensures { λ s. ⌜ s ≡ plain aNumber (written answer) ⌝ }
+{
+    match answer {
+        Written::Bytes(n) => tell(1, n as u64, 0),
+        Written::Refused(r) => refuse(r),
     }
 }
 

@@ -10,6 +10,7 @@ use state_cache::IndexRecord;
 mod answers;
 mod asked;
 pub mod forms;
+pub mod images;
 pub mod inner;
 pub mod lists;
 pub mod log;

@@ -2,24 +2,23 @@
 use Rattle.words.proofs.Prelude.{arith, _≡_, refl, sym, ap, _∙_, ℕ, _≤_, _<_, Bool, true, false, true≢false, _||_, ltb}
 use Rattle.words.proofs.Prelude.{leb, ltb-true, ltb-false, leb-false, if_then_else_, Option, none, some, List, [], _∷_}
 use Rattle.words.proofs.Prelude.{append-nil, append-assoc, _++_, length, take, length-take-le}
-use Rattle.model.specs.Log.{freshLog}
-use Rattle.state_cache.specs.{declared.IndexRecord.IndexRecord, State.Raw, State.raw, State.rawOf}
+use Rattle.state_cache.specs.{declared.IndexRecord.IndexRecord, State.Raw, State.raw}
 use Rattle.text.specs.{Parse.parseOf, Lines.Lines, Lines.lineEnded, Lines.restWith, Lines.linesFrom, Lines.linesOf}
 use Rattle.text.specs.{Lines.lastEnded, Feeding.come, Feeding.fitting, Feeding.joined, Feeding.nextAt, Rooms.inputLine}
 use Rattle.text.proofs.{Long.too-long, LineLaws.joined-fitting}
 use Rattle.replay.specs.{Answering.Printout, Answering.printout, Answering.answering, Feeding.meaning}
-use Rattle.replay.specs.{Feeding.lastStart, Feeding.after, Input.replayed, Input.start, Input.Reached}
+use Rattle.replay.specs.{Feeding.lastStart, Feeding.after, Input.replayed, Input.startOf, Input.Reached}
 
 -- before the first byte
-pub begun : (x : Raw) (over : Bool) (len used : ℕ) (line out : List ℕ) → x ≡ rawOf (freshLog 0) → len ≡ 0 → over ≡ false
-    → used ≡ 0 → Reached (linesOf []) x (come over len line) (take used out)
+pub begun : (from x : Raw) (over : Bool) (len used : ℕ) (line out : List ℕ) → x ≡ from → len ≡ 0 → over ≡ false
+    → used ≡ 0 → Reached from (linesOf []) x (come over len line) (take used out)
 unfolding linesFrom replayed
-begun x over len used line out e l o u = record { state = e; unended = rw (l, o); handed = []; answers = rw u }
+begun from x over len used line out e l o u = record { state = e; unended = rw (l, o); handed = []; answers = rw u }
 
 -- the answers that wait are handed over to be written
-pub handed-over : (ls : Lines) (x : Raw) (line : Option (List ℕ)) (waits : List ℕ) → Reached ls x line waits
-    → Reached ls x line []
-handed-over ls x line waits st = record {
+pub handed-over : (from : Raw) (ls : Lines) (x : Raw) (line : Option (List ℕ)) (waits : List ℕ)
+    → Reached from ls x line waits → Reached from ls x line []
+handed-over from ls x line waits st = record {
   state = st .state;
   unended = st .unended;
   handed = st .handed ++ waits;
@@ -51,22 +50,22 @@ stay-or-go used out gone = go (leb used lastStart)
     go false = (gone ++ take used out, append-nil (gone ++ take used out))
 
 -- a line's end: its answer is put after those that wait
-module _ (ls : Lines) (x : Raw) (line : Option (List ℕ)) (used : ℕ) (out : List ℕ)
-    (st : Reached ls x line (take used out)) where
+module _ (from : Raw) (ls : Lines) (x : Raw) (line : Option (List ℕ)) (used : ℕ) (out : List ℕ)
+    (st : Reached from ls x line (take used out)) where
   before : Printout
-  before = replayed (ls .ended) start
+  before = replayed (ls .ended) (startOf from)
 
   answered : answering (meaning line) x ≡ answering (parseOf (ls .rest)) (before .after)
   unfolding before
   answered = rw (st .state, st .unended, meaning-whole (ls .rest))
 
-  ended : replayed (ls .ended ++ (ls .rest ∷ [])) start ≡ after (before .text) (answering (meaning line) x)
+  ended : replayed (ls .ended ++ (ls .rest ∷ [])) (startOf from) ≡ after (before .text) (answering (meaning line) x)
   unfolding before
-  ended = rw answered (replayed-more (ls .ended) (ls .rest) start)
+  ended = rw answered (replayed-more (ls .ended) (ls .rest) (startOf from))
 
   pub finished : (y : Raw) (text : List ℕ) (buffer : List ℕ)
       → printout text y ≡ after (take (nextAt lastStart used) out) (answering (meaning line) x)
-      → Reached (lineEnded ls) y (come false 0 buffer) text
+      → Reached from (lineEnded ls) y (come false 0 buffer) text
   unfolding before
   finished y text buffer e =
       let stay = stay-or-go used out (st .handed) in
@@ -83,12 +82,12 @@ module _ (ls : Lines) (x : Raw) (line : Option (List ℕ)) (used : ℕ) (out : L
       }
 
 -- bytes that join the line, in a buffer of the size it has
-pub kept : (ls : Lines) (x y : IndexRecord) (log snapshot : List ℕ) (line line′ : Option (List ℕ)) (used used′ room : ℕ)
-    (out bytes : List ℕ)
+pub kept : (from : Raw) (ls : Lines) (x y : IndexRecord) (log snapshot : List ℕ) (line line′ : Option (List ℕ))
+    (used used′ room : ℕ) (out bytes : List ℕ)
     → y ≡ x → used′ ≡ used → room ≡ inputLine → line′ ≡ joined room line bytes
-    → Reached ls (raw x log snapshot) line (take used out)
-    → Reached (restWith bytes ls) (raw y log snapshot) line′ (take used′ out)
-kept ls x y log snapshot line line′ used used′ room out bytes i u r e st = rw (i, u) (record {
+    → Reached from ls (raw x log snapshot) line (take used out)
+    → Reached from (restWith bytes ls) (raw y log snapshot) line′ (take used′ out)
+kept from ls x y log snapshot line line′ used used′ room out bytes i u r e st = rw (i, u) (record {
   state = st .state;
   unended = e ∙ rw (r, st .unended) (joined-fitting inputLine (ls .rest) bytes);
   handed = st .handed;
@@ -133,7 +132,7 @@ module _ (ls : Lines) (len : ℕ) (line : List ℕ) where
   by-none [] h = refl
   by-none (b ∷ bs) h = absurd (omega arith)
 
-  module _ (x : Raw) (waits : List ℕ) (over : Bool) (st : Reached ls x (come over len line) waits) where
+  module _ (from x : Raw) (waits : List ℕ) (over : Bool) (st : Reached from ls x (come over len line) waits) where
     pub last-line : (over || ltb 0 len) ≡ true → len ≤ length line → lastEnded ls ≡ lineEnded ls
     last-line t h = by-rest (ls .rest) (some-rest over (st .unended) t h)
 

@@ -1,3 +1,5 @@
 pub mod Answering
 pub mod Feeding
 pub mod Input
+pub mod Told
+pub mod File

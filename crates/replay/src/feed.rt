@@ -7,8 +7,7 @@ ghost use mathlib.Core.Path.{_≡_};
 ghost use mathlib.Core.Bool.{false};
 ghost use Prim.Native.Nat.{_≤_};
 ghost use lib.ListN.{length, take};
-ghost use Rattle.model.specs.Log.{freshLog};
-ghost use Rattle.state_cache.specs.State.{raw, rawOf};
+ghost use Rattle.state_cache.specs.State.{Raw, raw};
 ghost use Rattle.text.specs.Lines.{Lines, lineEnded, restWith, endedIf, linesFrom, lastEnded};
 ghost use Rattle.text.specs.Feeding.{come, joined};
 ghost use Rattle.replay.specs.Feeding.{meaning, outRoom, Fed};
@@ -23,16 +22,10 @@ pub struct Feed {
     pub more: bool,
 }
 
-// Before the first part: a fresh log of batch size 0, no byte of a line, and no answer.
-pub(crate) fn start(
-    log: &mut [u64; entry::LOG_WORDS],
-    snapshot: &mut [u64; entry::SNAPSHOT_WORDS],
-) -> Feed
-    ensures { λ r. ⌜ (raw (r .index) (now (log .exit)) (now (snapshot .exit)) ≡ rawOf (freshLog 0))
-        × (r .held .len ≡ 0) × (r .held .over ≡ false) × (r .used ≡ 0) ⌝ }
+// Before the first part: the log that the program starts from, no byte of a line, and no answer.
+pub(crate) fn start(index: IndexRecord) -> Feed
+    ensures { λ r. ⌜ (r .index ≡ index) × (r .held .len ≡ 0) × (r .held .over ≡ false) × (r .used ≡ 0) ⌝ }
 {
-    let first = state_cache::fresh(0, log, snapshot);
-    let index = first.index;
     Feed {
         index,
         held: Partial {
@@ -60,9 +53,10 @@ fn command_of(held: Partial, line: &[u8]) -> Command
 fn finish(st: Feed, line: &[u8], log: &mut [u64], snapshot: &mut [u64], out: &mut [u8]) -> Feed
     requires { ⌜ Fed (st .held .len) (st .used) (length (now line)) (length (now log)) (length (now out)) ⌝ }
     ensures { λ r. ⌜ (r .held .len ≤ length (now (line .entry))) × (r .used ≤ outRoom) ⌝ }
-    ensures { λ r. ⌜ ((ls : Lines) → Reached ls (raw (st .index) (now (log .entry)) (now (snapshot .entry)))
+    ensures { λ r. ⌜ ((from : Raw) (ls : Lines)
+        → Reached from ls (raw (st .index) (now (log .entry)) (now (snapshot .entry)))
         (come (st .held .over) (st .held .len) (now (line .entry))) (take (st .used) (now (out .entry)))
-        → Reached (lineEnded ls) (raw (r .index) (now (log .exit)) (now (snapshot .exit)))
+        → Reached from (lineEnded ls) (raw (r .index) (now (log .exit)) (now (snapshot .exit)))
         (come (r .held .over) (r .held .len) (now (line .entry))) (take (r .used) (now (out .exit)))) ⌝ }
 {
     let used = st.used;
@@ -109,9 +103,10 @@ fn take_line(
 ) -> Feed
     requires { ⌜ Fed (st .held .len) (st .used) (length (now line)) (length (now log)) (length (now out)) ⌝ }
     ensures { λ r. ⌜ (r .held .len ≤ length (now (line .entry))) × (r .used ≤ outRoom) ⌝ }
-    ensures { λ r. ⌜ ((ls : Lines) → Reached ls (raw (st .index) (now (log .entry)) (now (snapshot .entry)))
+    ensures { λ r. ⌜ ((from : Raw) (ls : Lines)
+        → Reached from ls (raw (st .index) (now (log .entry)) (now (snapshot .entry)))
         (come (st .held .over) (st .held .len) (now (line .entry))) (take (st .used) (now (out .entry)))
-        → Reached (endedIf ends (restWith (now (bytes .entry)) ls))
+        → Reached from (endedIf ends (restWith (now (bytes .entry)) ls))
         (raw (r .index) (now (log .exit)) (now (snapshot .exit)))
         (come (r .held .over) (r .held .len) (now (line .exit))) (take (r .used) (now (out .exit)))) ⌝ }
 {
@@ -133,9 +128,10 @@ pub(crate) fn take_part(
 ) -> Feed
     requires { ⌜ Fed (st .held .len) (st .used) (length (now line)) (length (now log)) (length (now out)) ⌝ }
     ensures { λ r. ⌜ (r .held .len ≤ length (now (line .entry))) × (r .used ≤ outRoom) ⌝ }
-    ensures { λ r. ⌜ ((ls : Lines) → Reached ls (raw (st .index) (now (log .entry)) (now (snapshot .entry)))
+    ensures { λ r. ⌜ ((from : Raw) (ls : Lines)
+        → Reached from ls (raw (st .index) (now (log .entry)) (now (snapshot .entry)))
         (come (st .held .over) (st .held .len) (now (line .entry))) (take (st .used) (now (out .entry)))
-        → Reached (linesFrom ls (now (part .entry))) (raw (r .index) (now (log .exit)) (now (snapshot .exit)))
+        → Reached from (linesFrom ls (now (part .entry))) (raw (r .index) (now (log .exit)) (now (snapshot .exit)))
         (come (r .held .over) (r .held .len) (now (line .exit))) (take (r .used) (now (out .exit)))) ⌝ }
 {
     let mut s = st;
@@ -158,9 +154,10 @@ pub(crate) fn end(
 ) -> Feed
     requires { ⌜ Fed (st .held .len) (st .used) (length (now line)) (length (now log)) (length (now out)) ⌝ }
     ensures { λ r. ⌜ r .used ≤ outRoom ⌝ }
-    ensures { λ r. ⌜ ((ls : Lines) → Reached ls (raw (st .index) (now (log .entry)) (now (snapshot .entry)))
+    ensures { λ r. ⌜ ((from : Raw) (ls : Lines)
+        → Reached from ls (raw (st .index) (now (log .entry)) (now (snapshot .entry)))
         (come (st .held .over) (st .held .len) (now (line .entry))) (take (st .used) (now (out .entry)))
-        → Reached (lastEnded ls) (raw (r .index) (now (log .exit)) (now (snapshot .exit)))
+        → Reached from (lastEnded ls) (raw (r .index) (now (log .exit)) (now (snapshot .exit)))
         (come (r .held .over) (r .held .len) (now (line .entry))) (take (r .used) (now (out .exit)))) ⌝ }
 {
     let held = st.held;

@@ -5,3 +5,4 @@ pub mod Parse
 pub mod Answers
 pub mod Lines
 pub mod Feeding
+pub mod Refusing

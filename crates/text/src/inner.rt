@@ -12,6 +12,7 @@ ghost use Rattle.entry.specs.Limits.{width};
 ghost use Rattle.entry.specs.Change.{saidIs, entriesOf};
 ghost use Rattle.io.specs.Counts.{Counts};
 ghost use Rattle.text.specs.Bytes.{bytes, gapOf};
+ghost use Rattle.text.specs.Refusing.{whyRoom, refusedRoom, whyText, refusedText};
 ghost use Rattle.text.specs.Rooms.{mostDigits, outputLine};
 ghost use Rattle.text.specs.Feeding.{come, joined, nextAt};
 ghost use Rattle.text.specs.Number.{numeralOf};
@@ -154,6 +155,37 @@ pub fn put_line(out: &mut [u8], at: usize, line: Line) -> usize
         Line::Snapshot(i, keys) => put_two(out, at, b"snapshot ", i, keys),
         Line::Stop(c, decided) => put_stop(out, at, c, decided),
     }
+}
+
+// What the refusal of an image means, and from where on it is damaged.
+fn put_why(out: &mut [u8], at: usize, number: u64, carried: u64) -> usize
+    requires { ⌜ at + whyRoom ≤ length (now out) ⌝ }
+    ensures { λ r. ⌜ r ≤ at + whyRoom ⌝ }
+    ensures { λ r. ⌜ take r (now (out .exit)) ≡ take at (now (out .entry)) ++ whyText number carried ⌝ }
+{
+    if number == 15 {
+        return put_one(
+            out,
+            at,
+            b" at ",
+            carried,
+            b": the image is damaged from here on\n",
+        );
+    }
+    if number == 14 {
+        return put(out, at, b": unknown format\n");
+    }
+    put(out, at, b"\n")
+}
+
+// The line that tells the refusal of an image.
+pub fn put_refused(out: &mut [u8], at: usize, number: u64, carried: u64) -> usize
+    requires { ⌜ at + refusedRoom ≤ length (now out) ⌝ }
+    ensures { λ r. ⌜ r ≤ at + refusedRoom ⌝ }
+    ensures { λ r. ⌜ take r (now (out .exit)) ≡ take at (now (out .entry)) ++ refusedText number carried ⌝ }
+{
+    let a = put_one(out, at, b"refused ", number, b"");
+    put_why(out, a, number, carried)
 }
 
 // label, a key, a space, the key's place or `-`, and a line end.

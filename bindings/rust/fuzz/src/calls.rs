@@ -2,6 +2,7 @@
 use crate::check::{hold, Answer, Turn};
 use crate::dice::Dice;
 use crate::form;
+use crate::images;
 use crate::states::Case;
 use kotuseraw::entry::{entries, words, ENTRIES, KEYS};
 use kotuseraw::plain::{self, BlockPlace, Bound, IndexRecord, Lent, LogSync, Ops, Reply, Said, ShownSaid, LARGEST_BATCH};
@@ -24,7 +25,7 @@ pub struct Call {
     pub name: &'static str,
     /// How often it is made.
     pub weight: u64,
-    /// The refusals that document 01 gives it, and 0: a long run is to meet them all.
+    /// The refusals that documents 01 and 02 give it, and 0: a long run is to meet them all.
     pub answers: &'static [u64],
     pub changes: Changes,
     /// Whether it refuses with 12 for what it would leave too.
@@ -50,11 +51,11 @@ fn plainly(said: Said) -> Result<u64, String> {
     Ok(said.number)
 }
 
-fn said(said: Said) -> Result<Answer, String> {
+pub fn said(said: Said) -> Result<Answer, String> {
     Ok(Answer { number: plainly(said)?, wrote: None })
 }
 
-fn reply(turn: &mut Turn, reply: Reply) -> Result<Answer, String> {
+pub fn reply(turn: &mut Turn, reply: Reply) -> Result<Answer, String> {
     turn.record = reply.index;
     said(reply.said)
 }
@@ -296,6 +297,8 @@ pub const ALL: &[Call] = &[
     Call::of("stopsign_is_decided", 1, &[0, 12], Changes::Nothing, |t, _, _| {
         said(plain::stopsign_is_decided(t.record, t.log.words(), t.snapshot.words()))
     }),
+    Call::of("write_image", 3, &[0, 12, 13], Changes::Nothing, images::write),
+    Call::of("read_image", 3, &[0, 11, 14, 15], Changes::Words, images::read),
     Call::of("append_entry_with_batching", 12, &[0, 12, 11, 4, 9, 1], Changes::Log, entry),
     Call::of("append_entries_with_batching", 8, &[0, 12, 11, 4, 9, 1], Changes::Log, |t, _, _| {
         let made = plain::append_entries_with_batching(t.record, t.log.words_mut(), t.snapshot.words(), t.entries.words());

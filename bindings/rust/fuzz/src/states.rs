@@ -6,7 +6,7 @@ use kotuseraw::{LOG_WORDS, SNAPSHOT_WORDS};
 use std::fmt;
 
 /// A record and the words of a log and a snapshot, as many as are lent.
-#[derive(Clone, Default)]
+#[derive(Clone, Default, PartialEq)]
 pub struct State {
     pub record: IndexRecord,
     pub log: Vec<u64>,

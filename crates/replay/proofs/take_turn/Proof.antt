@@ -1,5 +1,6 @@
 -- `replay::take_turn` meets its contract: what waits is handed over, and what was read is a part of the input.
 use Rattle.words.proofs.Prelude.{needs, arith, now, sym, [], take, length-take-le}
+use Rattle.state_cache.specs.State.{Raw}
 use Rattle.text.specs.Lines.{Lines, linesFrom}
 use Rattle.replay.proofs.{Inputs.handed-over, take_turn.Statement.statement}
 use Rattle.replay.proofs.take_turn.Tie as tie
@@ -11,15 +12,16 @@ returns : tie.Need-returns
 unfolding linesFrom
 returns c =
     let s = c .before .before .before .before .before .before .before .before .before .before .before in
-    (search needs, λ (ls : Lines) st. ([], handed-over ls _ _ (take (s .args .st .used) (now (s .args .out))) st))
+    let waits = take (s .args .st .used) (now (s .args .out)) in
+    (search needs, λ (from : Raw) (ls : Lines) st. ([], handed-over from ls _ _ waits st))
 
 returns-2 : tie.Need-returns-2
 returns-2 c =
     let s = c .before .before .before .before .before .before .before .before .before .before .before .before .before
-    .before .before .before .before in (
+    .before .before .before .before in
+    let waits = take (s .args .st .used) (now (s .args .out)) in (
       search needs,
-      λ (ls : Lines) st.
-          (_, c .take-part .ensures .1 ls (handed-over ls _ _ (take (s .args .st .used) (now (s .args .out))) st)),
+      λ (from : Raw) (ls : Lines) st. (_, c .take-part .ensures .1 from ls (handed-over from ls _ _ waits st)),
     )
 
 pub take-turn-spec : {M : Type 1} → statement M

@@ -1,6 +1,6 @@
 -- `replay::feed::finish` meets its contract: the answer is put where there is room for it.
 use Rattle.words.proofs.Prelude.{needs, arith, now, ap, _∙_, ℕ, take}
-use Rattle.state_cache.specs.State.{raw}
+use Rattle.state_cache.specs.State.{Raw, raw}
 use Rattle.text.specs.{Lines.Lines, Feeding.come, declared.Command.Command}
 use Rattle.text.proofs.FeedLaws.{next-low}
 use Rattle.replay.specs.{Answering.answering, Feeding.meaning, Feeding.lastStart, Feeding.after}
@@ -28,7 +28,8 @@ returns c =
     (c .before .before .before .before .before .before .before .before .before .before .before .command-of .ensures)
     ∙ ap (λ (n : ℕ). after (take n (now (a .out))) (answering (meaning came) x)) (room .ensures) in (
       (omega arith, omega (arith, done .ensures .0, room .ensures, next-low lastStart (a .st .used))),
-      λ (ls : Lines) st. finished ls x came (a .st .used) (now (a .out)) st _ _ (now (a .line)) answered,
+      λ (from : Raw) (ls : Lines) st.
+          finished from ls x came (a .st .used) (now (a .out)) st _ _ (now (a .line)) answered,
     )
 
 pub finish-spec : {M : Type 1} → statement M

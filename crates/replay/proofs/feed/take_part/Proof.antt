@@ -2,7 +2,7 @@
 use Rattle.words.proofs.Prelude.{arith, now, _≡_, ap, ℕ, _+_, _-_, _≤_, length-drop, length-take, length, take}
 use Rattle.words.proofs.Prelude.{take-all}
 use Rattle.entry.specs.Limits.{logWords}
-use Rattle.state_cache.specs.State.{raw}
+use Rattle.state_cache.specs.State.{Raw, raw}
 use Rattle.text.specs.{Lines.Lines, Lines.linesFrom, Feeding.come, Rooms.inputLine}
 use Rattle.text.proofs.LineLaws.{lines-part}
 use Rattle.replay.specs.{Feeding.outRoom, Input.Reached}
@@ -15,17 +15,18 @@ Inv-loop part line₀ log₀ snapshot₀ out₀ s₀ at₀ line log snapshot out
     × (length log ≡ logWords) × (length line ≡ inputLine)
     × (length line ≡ length line₀) × (length log ≡ length log₀) × (length snapshot ≡ length snapshot₀)
     × (length out ≡ length out₀))
-    × ((ls : Lines) → Reached ls (raw (s₀ .index) log₀ snapshot₀) (come (s₀ .held .over) (s₀ .held .len) line₀)
+    × ((from : Raw) (ls : Lines)
+    → Reached from ls (raw (s₀ .index) log₀ snapshot₀) (come (s₀ .held .over) (s₀ .held .len) line₀)
     (take (s₀ .used) out₀)
-    → Reached (linesFrom ls (take at part)) (raw (s .index) log snapshot) (come (s .held .over) (s .held .len) line)
-    (take (s .used) out))
+    → Reached from (linesFrom ls (take at part)) (raw (s .index) log snapshot)
+    (come (s .held .over) (s .held .len) line) (take (s .used) out))
 
 abbrev μ-loop : tie.MeasureT-loop
 μ-loop part line₀ log₀ snapshot₀ out₀ s₀ at₀ line log snapshot out s at = length part + 1 - at
 
 loop-holds : tie.Need-loop-holds Inv-loop μ-loop
 unfolding linesFrom
-loop-holds c = (omega arith, λ (ls : Lines) st. st)
+loop-holds c = (omega arith, λ (from : Raw) (ls : Lines) st. st)
 
 add-at : tie.Need-add-at Inv-loop μ-loop
 add-at c =
@@ -47,16 +48,17 @@ loop-again c =
     let line = c .before .before .before .before .before .before .before .before .take-line in
     let g = simp (length-take, length-drop) at (gap .ensures .0 .0) in (
       omega (arith, g, turn .inv .0, line .ensures .0, line .kept, c .before .before .before .before .before .before .before .before .before .before .before .before .before .before .before .before .loop-test .taken),
-      λ (ls : Lines) st.
+      λ (from : Raw) (ls : Lines) st.
           rw (lines-part ls part (turn .at) (c .before .before .before .before .before .before .before .before .before .before .before .before .before .before .before .before .loop-test .taken) (turn .at + gap .result) (ap (λ (k : ℕ). turn .at + k) (gap .ensures .1)))
-          (line .ensures .1 (linesFrom ls (take (turn .at) part)) (turn .inv .1 ls st)),
+          (line .ensures .1 from (linesFrom ls (take (turn .at) part)) (turn .inv .1 from ls st)),
     )
 
 returns : tie.Need-returns Inv-loop μ-loop
 returns c =
     let part = now (c .before .before .before .before .before .before .before .args .part) in
     let turn = c .before .loop in
-    (omega arith, λ (ls : Lines) st. rw (← take-all (turn .at) part (c .loop-test .left)) (turn .inv .1 ls st))
+    let whole = take-all (turn .at) part (c .loop-test .left) in
+    (omega arith, λ (from : Raw) (ls : Lines) st. rw (← whole) (turn .inv .1 from ls st))
 
 pub take-part-spec : {M : Type 1} → statement M
 take-part-spec =

@@ -1,0 +1,5 @@
+pub mod BigLaws
+pub mod SealedLaws
+pub mod Splices
+pub mod Loops
+pub mod Fields

@@ -20,9 +20,9 @@ fn put_change(s: &mut [u8], at: usize, mark: u64, words: &[u64])
         ≡ spliced at changeSize (sealed (changeFields mark (changeCode .dec (now (words .entry))))) (now (s .entry)) ⌝ }
 {
     let widths = [8usize; entry::WIDTH];
-    records::put_big(s, at, 2, mark);
-    records::put_fields(s, at + 2, &widths, words);
-    records::put_sum(s, at, super::CHANGE - 2);
+    records::inner::put_big(s, at, 2, mark);
+    records::inner::put_fields(s, at + 2, &widths, words);
+    records::inner::put_sum(s, at, super::CHANGE - 2);
 }
 
 // Puts the records of the first n entries of some words, one after the other.
@@ -55,7 +55,7 @@ pub(crate) fn change_at(s: &[u8], at: usize, mark: u64) -> Seen
     ensures { λ r. ⌜ r .sound ≡ changeSound mark (drop at (now (s .entry))) ⌝ }
     ensures { λ r. ⌜ (r .sound ≡ true → r .key ≡ changeFrom (unpacked changeWidths (drop at (now (s .entry)))) .key) ⌝ }
 {
-    if !records::sealed_at(s, at, super::CHANGE - 2) {
+    if !records::inner::sealed_at(s, at, super::CHANGE - 2) {
         return Seen {
             sound: false,
             key: 0,
@@ -63,8 +63,8 @@ pub(crate) fn change_at(s: &[u8], at: usize, mark: u64) -> Seen
     }
     let widths = [8usize; entry::WIDTH];
     let mut words = [0u64; entry::WIDTH];
-    records::get_fields(s, at + 2, &widths, &mut words);
-    let marked = records::get_big(s, at, 2) == mark;
+    records::inner::get_fields(s, at + 2, &widths, &mut words);
+    let marked = records::inner::get_big(s, at, 2) == mark;
     let fine = entry::inner::places_formed(&words, 1);
     Seen {
         sound: marked & fine,
@@ -85,7 +85,7 @@ fn load_words(s: &[u8], at: usize, words: &mut [u64], n: usize)
     while i < n {
         let from = i * entry::WIDTH;
         let to = from + entry::WIDTH;
-        records::get_fields(s, here + 2, &widths, &mut words[from..to]);
+        records::inner::get_fields(s, here + 2, &widths, &mut words[from..to]);
         here += super::CHANGE;
         i += 1;
     }

@@ -67,8 +67,8 @@ pub(crate) fn put_head(s: &mut [u8], h: Head)
         round.priority as u64,
         round.pid,
     ];
-    records::put_fields(s, 0, &widths, &ns);
-    records::put_sum(s, 0, super::HEAD - 2);
+    records::inner::put_fields(s, 0, &widths, &ns);
+    records::inner::put_sum(s, 0, super::HEAD - 2);
 }
 
 // The number that the four bytes at `at` are.
@@ -76,7 +76,7 @@ pub(crate) fn four_at(s: &[u8], at: usize) -> u32
     requires { ⌜ at + 4 ≤ length (now s) ⌝ }
     ensures { λ r. ⌜ r ≡ value (take 4 (drop at (now (s .entry)))) ⌝ }
 {
-    records::get_big(s, at, 4) as u32
+    records::inner::get_big(s, at, 4) as u32
 }
 
 fn ballot_at(s: &[u8], at: usize) -> Ballot
@@ -86,7 +86,7 @@ fn ballot_at(s: &[u8], at: usize) -> Ballot
     let config_id = four_at(s, at);
     let n = four_at(s, at + 4);
     let priority = four_at(s, at + 8);
-    let pid = records::get_big(s, at + 12, 8);
+    let pid = records::inner::get_big(s, at + 12, 8);
     Ballot {
         config_id,
         n,
@@ -101,11 +101,11 @@ pub(crate) fn head_at(s: &[u8]) -> Head
     ensures { λ h. ⌜ h ≡ headAt (now (s .entry)) ⌝ }
 {
     let held = s[4];
-    let compacted = records::get_big(s, 5, 4);
-    let decided = records::get_big(s, 9, 4);
-    let accepted = records::get_big(s, 13, 4);
-    let entries = records::get_big(s, 17, 2);
-    let keys = records::get_big(s, 19, 2);
+    let compacted = records::inner::get_big(s, 5, 4);
+    let decided = records::inner::get_big(s, 9, 4);
+    let accepted = records::inner::get_big(s, 13, 4);
+    let entries = records::inner::get_big(s, 17, 2);
+    let keys = records::inner::get_big(s, 19, 2);
     let promise = ballot_at(s, 21);
     let round = ballot_at(s, 41);
     Head {
@@ -162,7 +162,7 @@ fn head_formed(h: Head) -> bool
 pub(crate) fn head_sound(s: &[u8]) -> bool
     ensures { λ r. ⌜ r ≡ headSound (now (s .entry)) ⌝ }
 {
-    if !records::sealed_at(s, 0, super::HEAD - 2) {
+    if !records::inner::sealed_at(s, 0, super::HEAD - 2) {
         return false;
     }
     let known = flags::flags_known(s[4]);

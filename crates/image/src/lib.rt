@@ -95,10 +95,10 @@ pub fn judge(bytes: &[u8]) -> Judged
     if bytes.len() < 4 {
         return Judged::Refused(Refusal::Damaged(0));
     }
-    if records::get_big(bytes, 0, 2) != HEAD_MARK {
+    if records::inner::get_big(bytes, 0, 2) != HEAD_MARK {
         return Judged::Refused(Refusal::Damaged(0));
     }
-    if records::get_big(bytes, 2, 2) != FORMAT {
+    if records::inner::get_big(bytes, 2, 2) != FORMAT {
         return Judged::Refused(Refusal::UnknownFormat);
     }
     if !header::head_sound(bytes) {

@@ -34,7 +34,7 @@ fn put_nodes(s: &mut [u8], at: usize, nodes: [u64; entry::NODES], n: usize)
     ensures { λ _. ⌜ now (s .exit) ≡ spliced at (n * 8) (packed (map (field 8) (take n nodes))) (now (s .entry)) ⌝ }
 {
     let widths = [8usize; entry::NODES];
-    records::put_fields(s, at, &widths[..n], &nodes[..n]);
+    records::inner::put_fields(s, at, &widths[..n], &nodes[..n]);
 }
 
 // Puts the first n bytes of metadata at `at`.
@@ -43,7 +43,7 @@ fn put_metadata(s: &mut [u8], at: usize, metadata: [u8; entry::METADATA], n: usi
     requires { ⌜ at + n ≤ length (now s) ⌝ }
     ensures { λ _. ⌜ now (s .exit) ≡ spliced at n (packed (map (field 1) (take n metadata))) (now (s .entry)) ⌝ }
 {
-    records::put_bytes(s, at, &metadata[..n]);
+    records::inner::put_bytes(s, at, &metadata[..n]);
 }
 
 // Puts a stop-sign's record at `at`.
@@ -61,11 +61,11 @@ fn put_stop(s: &mut [u8], at: usize, stop: StopSign)
     let widths = [2usize, 4, 1];
     let front = [super::STOP_MARK, stop.config_id as u64, count as u64];
     let here = at + (7 + count * 8);
-    records::put_fields(s, at, &widths, &front);
+    records::inner::put_fields(s, at, &widths, &front);
     put_nodes(s, at + 7, nodes, count);
-    records::put_big(s, here, 1, used as u64);
+    records::inner::put_big(s, here, 1, used as u64);
     put_metadata(s, here + 1, metadata, used);
-    records::put_sum(s, at, 8 + count * 8 + used);
+    records::inner::put_sum(s, at, 8 + count * 8 + used);
 }
 
 pub(crate) fn put_if(s: &mut [u8], at: usize, held: bool, stop: StopSign)
@@ -96,7 +96,7 @@ pub(crate) fn stop_at(s: &[u8], at: usize, metadata: bool) -> usize
     if left < super::STOP {
         return 0;
     }
-    let count = records::get_big(s, at + 6, 1) as usize;
+    let count = records::inner::get_big(s, at + 6, 1) as usize;
     if entry::NODES < count {
         return 0;
     }
@@ -104,15 +104,15 @@ pub(crate) fn stop_at(s: &[u8], at: usize, metadata: bool) -> usize
     if left < super::STOP + nodes {
         return 0;
     }
-    let used = records::get_big(s, at + (7 + nodes), 1) as usize;
+    let used = records::inner::get_big(s, at + (7 + nodes), 1) as usize;
     if entry::METADATA < used {
         return 0;
     }
     let size = super::STOP + nodes + used;
-    if !records::sealed_at(s, at, size - 2) {
+    if !records::inner::sealed_at(s, at, size - 2) {
         return 0;
     }
-    let marked = records::get_big(s, at, 2) == super::STOP_MARK;
+    let marked = records::inner::get_big(s, at, 2) == super::STOP_MARK;
     if_fine(marked & ((1 <= count) & (metadata | (used == 0))), size)
 }
 
@@ -124,7 +124,7 @@ fn load_nodes(s: &[u8], at: usize, n: usize) -> [u64; entry::NODES]
 {
     let widths = [8usize; entry::NODES];
     let mut nodes = [0u64; entry::NODES];
-    records::get_fields(s, at, &widths[..n], &mut nodes[..n]);
+    records::inner::get_fields(s, at, &widths[..n], &mut nodes[..n]);
     nodes
 }
 
@@ -147,9 +147,9 @@ fn load_stop(s: &[u8], at: usize, metadata: bool) -> StopSign
     ensures { λ g. ⌜ g ≡ signAt metadata (drop at (now (s .entry))) ⌝ }
 {
     let config_id = header::four_at(s, at + 2);
-    let count = records::get_big(s, at + 6, 1) as usize;
+    let count = records::inner::get_big(s, at + 6, 1) as usize;
     let here = at + (7 + count * 8);
-    let used = records::get_big(s, here, 1) as usize;
+    let used = records::inner::get_big(s, here, 1) as usize;
     let nodes = load_nodes(s, at + 7, count);
     let bytes = load_metadata(s, here + 1, used);
     StopSign {

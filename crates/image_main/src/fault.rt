@@ -8,13 +8,13 @@ fn why_head(bytes: &[u8]) {
     if bytes.len() < 2 {
         return say(b"is cut short\n");
     }
-    if records::get_big(bytes, 0, 2) != image::HEAD_MARK {
+    if records::inner::get_big(bytes, 0, 2) != image::HEAD_MARK {
         return say(b"has another mark: this is no image\n");
     }
     if bytes.len() < image::HEAD {
         return say(b"is cut short\n");
     }
-    if !records::sealed_at(bytes, 0, image::HEAD - 2) {
+    if !records::inner::sealed_at(bytes, 0, image::HEAD - 2) {
         return say(b"has a sum that is not its bytes'\n");
     }
     if !image::inner::flags_known(bytes[4]) {
@@ -31,13 +31,13 @@ fn why_change(bytes: &[u8], at: usize, mark: u64) {
     if bytes.len() - at < image::CHANGE {
         return say(b"is cut short\n");
     }
-    if records::get_big(bytes, at, 2) != mark {
+    if records::inner::get_big(bytes, at, 2) != mark {
         return say(b"has another mark\n");
     }
-    if !records::sealed_at(bytes, at, image::CHANGE - 2) {
+    if !records::inner::sealed_at(bytes, at, image::CHANGE - 2) {
         return say(b"has a sum that is not its bytes'\n");
     }
-    if !entry::place_formed(records::get_big(bytes, at + 10, 8)) {
+    if !entry::place_formed(records::inner::get_big(bytes, at + 10, 8)) {
         return say(b"has a place that there is not\n");
     }
     say(b"has a key that is not above the one before\n");
@@ -52,10 +52,10 @@ fn why_stop(bytes: &[u8], at: usize) {
     if left < image::STOP {
         return say(b"is cut short\n");
     }
-    if records::get_big(bytes, at, 2) != image::STOP_MARK {
+    if records::inner::get_big(bytes, at, 2) != image::STOP_MARK {
         return say(b"has another mark\n");
     }
-    let count = records::get_big(bytes, at + 6, 1) as usize;
+    let count = records::inner::get_big(bytes, at + 6, 1) as usize;
     if count == 0 {
         return say(b"has no node\n");
     }
@@ -65,14 +65,14 @@ fn why_stop(bytes: &[u8], at: usize) {
     if left < image::STOP + count * 8 {
         return say(b"is cut short\n");
     }
-    let used = records::get_big(bytes, at + (7 + count * 8), 1) as usize;
+    let used = records::inner::get_big(bytes, at + (7 + count * 8), 1) as usize;
     if entry::METADATA < used {
         return say(b"has more than 32 bytes of metadata\n");
     }
     if left < image::STOP + count * 8 + used {
         return say(b"is cut short\n");
     }
-    if !records::sealed_at(bytes, at, image::STOP - 2 + count * 8 + used) {
+    if !records::inner::sealed_at(bytes, at, image::STOP - 2 + count * 8 + used) {
         return say(b"has a sum that is not its bytes'\n");
     }
     say(b"has metadata, and the header says that there is none\n");

@@ -1,10 +1,10 @@
--- `records::put_big` meets its contract: at each turn, what is left to put gives what is asked.
+-- `records::inner::put_big` meets its contract: at each turn, what is left to put gives what is asked.
 use Rattle.words.proofs.Prelude.{needs, arith, _≡_, refl, sym, _∙_, _≤_, length-set, length}
 use Rattle.words.specs.Words.{spliced}
 use Rattle.records.specs.Big.{big}
 use Rattle.records.proofs.Loops.{put-turn, put-done}
-use Rattle.records.proofs.put_big.Statement.{statement}
-use Rattle.records.proofs.put_big.Tie as tie
+use Rattle.records.proofs.inner.put_big.Statement.{statement}
+use Rattle.records.proofs.inner.put_big.Tie as tie
 
 abbrev Inv-loop : tie.InvT-loop
 Inv-loop s₀ at k n j₀ m₀ s j m =

@@ -1,12 +1,12 @@
--- `records::put_bytes` meets its contract: the part that is copied over, put back.
+-- `records::inner::put_bytes` meets its contract: the part that is copied over, put back.
 use Rattle.words.proofs.Prelude.{needs, arith, now, _≡_, refl, sym, ap, ap₂, _∙_, ℕ, _+_, _-_, _≤_, List, append-nil}
 use Rattle.words.proofs.Prelude.{_++_, length-take, drop-of-length-le, length, take, drop, take-all}
 use Rattle.records.proofs.SealedLaws.{packed-singles}
 use Rattle.records.proofs.Loops.{bytes-of}
 use Rattle.words.specs.Words.{spliced}
 use Rattle.records.proofs.Splices.{splice-part}
-use Rattle.records.proofs.put_bytes.Statement.{statement}
-use Rattle.records.proofs.put_bytes.Tie as tie
+use Rattle.records.proofs.inner.put_bytes.Statement.{statement}
+use Rattle.records.proofs.inner.put_bytes.Tie as tie
 
 copied : (src dst : List ℕ) (n : ℕ) → n ≡ length src → length dst ≤ n → take n src ++ drop n dst ≡ src
 copied src dst n e h =

@@ -1,10 +1,10 @@
--- `records::sealed_at` meets its contract.
+-- `records::inner::sealed_at` meets its contract.
 use Rattle.words.proofs.Prelude.{needs, arith, now, sym, ap, ℕ, _+_, Bool, _&&_, lt-leb, List, length-drop, length}
 use Rattle.words.proofs.Prelude.{drop}
 use Rattle.records.specs.Sealed.{sumHolds}
 use Rattle.records.proofs.Loops.{sealed-here}
-use Rattle.records.proofs.sealed_at.Statement.{statement}
-use Rattle.records.proofs.sealed_at.Tie as tie
+use Rattle.records.proofs.inner.sealed_at.Statement.{statement}
+use Rattle.records.proofs.inner.sealed_at.Tie as tie
 
 returns : tie.Need-returns
 returns c =

@@ -1,12 +1,12 @@
--- `records::put_fields` meets its contract: at each turn, what is left to put gives what is asked.
+-- `records::inner::put_fields` meets its contract: at each turn, what is left to put gives what is asked.
 use Rattle.words.proofs.Prelude.{arith, _≡_, refl, sym, ap, _∙_, ℕ, _+_, _-_, _≤_, length, drop, getD}
 use Rattle.records.specs.Big.{big}
 use Rattle.records.specs.Sealed.{total}
 use Rattle.records.proofs.BigLaws.{big-length}
 use Rattle.records.proofs.Splices.{splice-length}
 use Rattle.records.proofs.Fields.{total-turn, left, put-turn, put-done}
-use Rattle.records.proofs.put_fields.Statement.{statement}
-use Rattle.records.proofs.put_fields.Tie as tie
+use Rattle.records.proofs.inner.put_fields.Statement.{statement}
+use Rattle.records.proofs.inner.put_fields.Tie as tie
 
 abbrev Inv-loop : tie.InvT-loop
 Inv-loop s₀ at widths ns i₀ here₀ s i here =

@@ -1,9 +1,9 @@
--- `records::get_big` meets its contract: the number so far, behind the bytes still to come, is the number asked.
+-- `records::inner::get_big` meets its contract: the number so far, behind the bytes still to come, is the number asked.
 use Rattle.words.proofs.Prelude.{arith, _≡_, refl, ap, _∙_, ℕ, _+_, _-_, _*_, _≤_, take, drop}
 use Rattle.records.specs.Big.{onto, value}
 use Rattle.records.proofs.Loops.{get-turn, get-room, get-done}
-use Rattle.records.proofs.get_big.Statement.{statement}
-use Rattle.records.proofs.get_big.Tie as tie
+use Rattle.records.proofs.inner.get_big.Statement.{statement}
+use Rattle.records.proofs.inner.get_big.Tie as tie
 
 abbrev Inv-loop : tie.InvT-loop
 Inv-loop s at k i₀ n₀ i n = (i ≤ k) × (onto n (drop i (take k (drop at s))) ≡ value (take k (drop at s)))

@@ -1,9 +1,9 @@
--- `records::get_fields` meets its contract: the numbers got, and those still to come, are those asked for.
+-- `records::inner::get_fields` meets its contract: the numbers got, and those still to come, are those asked for.
 use Rattle.words.proofs.Prelude.{arith, _≡_, refl, _∙_, _+_, _-_, _≤_, length-set, length, drop}
 use Rattle.records.specs.Sealed.{total}
 use Rattle.records.proofs.Fields.{narrow-at, total-turn, got, got-turn, got-done}
-use Rattle.records.proofs.get_fields.Statement.{statement}
-use Rattle.records.proofs.get_fields.Tie as tie
+use Rattle.records.proofs.inner.get_fields.Statement.{statement}
+use Rattle.records.proofs.inner.get_fields.Tie as tie
 
 abbrev Inv-loop : tie.InvT-loop
 Inv-loop s at widths ns₀ i₀ here₀ ns i here =

@@ -1,11 +1,11 @@
--- `records::sum` meets its contract: the sum so far and that of the bytes still to come is the sum asked.
+-- `records::inner::sum` meets its contract: the sum so far and that of the bytes still to come is the sum asked.
 use Rattle.words.proofs.Prelude.{arith, _≡_, ap, _∙_, ℕ, _+_, _-_, _≤_, take, drop}
 use Prim.Native.Nat.{_%_}
 use native.Mathlib.Nat.{zero-add}
 use Rattle.records.specs.Sealed.{total}
 use Rattle.records.proofs.Loops.{sum-turn, sum-room, sum-done}
-use Rattle.records.proofs.sum.Statement.{statement}
-use Rattle.records.proofs.sum.Tie as tie
+use Rattle.records.proofs.inner.sum.Statement.{statement}
+use Rattle.records.proofs.inner.sum.Tie as tie
 
 abbrev Inv-loop : tie.InvT-loop
 Inv-loop s at k i₀ t₀ i t = (i ≤ k) × (t + total (drop i (take k (drop at s))) ≡ total (take k (drop at s)))

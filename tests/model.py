@@ -81,7 +81,7 @@ class Log:
         return "ok"
 
     def compact(self, index, fold):
-        """A trim, or with `fold` a snapshot; an index of None is all that is decided."""
+        """A trim, or with `fold` a snapshot; an index of None is log-decided."""
         if index is not None and index > self.decided:
             return "refused 2"
         to = index if index is not None and index < self.decided else self.log_decided()
@@ -256,8 +256,8 @@ class Replay:
         if words == [b"flush"]:
             self.log.flush()
             return [f"accepted {self.log.accepted()}"]
-        if words == [b"snap", b"all"]:
-            return [self.log.compact(None, True)]
+        if name in (b"snap", b"trim") and words[1:] == [b"all"]:
+            return [self.log.compact(None, name == b"snap")]
         if None in numbers:
             return ["bad line"]
         if len(numbers) == 1:
@@ -271,12 +271,10 @@ class Replay:
                 return [self.log.append(n, None)]
             if name == b"decide":
                 return [self.log.decide(n)]
-            if name == b"snap":
-                return [self.log.compact(n, True)]
+            if name in (b"snap", b"trim"):
+                return [self.log.compact(n, name == b"snap")]
             if name == b"stop" and n <= LARGEST_CONFIG:
                 return [self.log.append_stop(n)]
-            if name == b"trim":
-                return [self.log.compact(n, False)]
         if len(numbers) == 2:
             m, n = numbers
             if name == b"put":

@@ -11,7 +11,8 @@ int main(void) {
     kotuseraw_reply r = kotuseraw_fresh(0, log, KOTUSERAW_LOG_WORDS, snapshot, KOTUSERAW_SNAPSHOT_WORDS);
     r = kotuseraw_append_entries_with_batching(r.index, log, KOTUSERAW_LOG_WORDS, snapshot, KOTUSERAW_SNAPSHOT_WORDS, entries, 4);
     r = kotuseraw_set_decided_idx(r.index, log, KOTUSERAW_LOG_WORDS, snapshot, KOTUSERAW_SNAPSHOT_WORDS, two);
-    r = kotuseraw_try_snapshot(r.index, log, KOTUSERAW_LOG_WORDS, snapshot, KOTUSERAW_SNAPSHOT_WORDS, false, none);
+    r = kotuseraw_compact(
+        r.index, log, KOTUSERAW_LOG_WORDS, snapshot, KOTUSERAW_SNAPSHOT_WORDS, KOTUSERAW_SNAPSHOT, false, none);
     kotuseraw_said found = kotuseraw_lookup(r.index, log, KOTUSERAW_LOG_WORDS, snapshot, KOTUSERAW_SNAPSHOT_WORDS, 8);
     printf("refused %d, found %d, place %d\n", (int)found.number, (int)found.told, (int)found.first);
     r = kotuseraw_set_decided_idx(r.index, log, KOTUSERAW_LOG_WORDS, snapshot, KOTUSERAW_SNAPSHOT_WORDS, none);

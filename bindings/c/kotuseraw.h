@@ -21,6 +21,9 @@ extern "C" {
 #define KOTUSERAW_IMAGE_ROOM 30881
 /* The second word of an entry whose key is removed. */
 #define KOTUSERAW_REMOVED UINT64_MAX
+/* Whether a compaction folds. */
+#define KOTUSERAW_TRIM false
+#define KOTUSERAW_SNAPSHOT true
 
 /* The number of a change in the log. */
 typedef struct {
@@ -255,17 +258,13 @@ kotuseraw_reply kotuseraw_set_decided_idx(
     const uint64_t *log, size_t log_len,
     const uint64_t *snapshot, size_t snapshot_len,
     kotuseraw_index idx);
-/* A trim that passes the compacted index drops the held snapshot too: its words become zero. */
-kotuseraw_reply kotuseraw_try_trim(
+/* A snapshot where `folds` is set, else a trim, which drops the held snapshot too where it passes the compacted index: its words
+ * become zero. Where `given` is not set it goes over all that is decided but a stop-sign, and `idx` is not looked at. */
+kotuseraw_reply kotuseraw_compact(
     kotuseraw_record index,
     uint64_t *log, size_t log_len,
     uint64_t *snapshot, size_t snapshot_len,
-    kotuseraw_index idx);
-/* Where `given` is not set the snapshot goes over all that is decided, and `idx` is not looked at. */
-kotuseraw_reply kotuseraw_try_snapshot(
-    kotuseraw_record index,
-    uint64_t *log, size_t log_len,
-    uint64_t *snapshot, size_t snapshot_len,
+    bool folds,
     bool given,
     kotuseraw_index idx);
 /* Where `held` is not set there is no log part, and of what is lent only the slices' lengths are looked at. */
@@ -305,10 +304,11 @@ kotuseraw_said kotuseraw_in_place_set_decided_idx(
     const uint64_t *log, size_t log_len,
     const uint64_t *snapshot, size_t snapshot_len,
     kotuseraw_index idx);
-kotuseraw_said kotuseraw_in_place_try_trim(
+kotuseraw_said kotuseraw_in_place_trim(
     kotuseraw_record *held,
     uint64_t *log, size_t log_len,
     uint64_t *snapshot, size_t snapshot_len,
+    bool given,
     kotuseraw_index idx);
 
 /* The calls that read a log and change nothing. */

@@ -98,7 +98,8 @@ pub enum Call {
     Entries(u64, u64),
     Suffix(u64),
     Lookup(u64),
-    Trim(Form, u64),
+    /// To an index or, as the next, over all that is log-decided.
+    Trim(Form, Option<u64>),
     Snapshot(Option<u64>),
     Create(u64, usize),
     Diff(u64, usize),
@@ -180,9 +181,9 @@ impl Call {
             Call::Entries(..) => "get_entries_reply",
             Call::Suffix(_) => "get_suffix_reply",
             Call::Lookup(_) => "lookup",
-            Call::Trim(Covered, _) => "try_trim",
-            Call::Trim(ByHand, _) => "in_place::try_trim",
-            Call::Snapshot(_) => "try_snapshot",
+            Call::Trim(Covered, _) => "compact, trim",
+            Call::Trim(ByHand, _) => "in_place::trim",
+            Call::Snapshot(_) => "compact, snapshot",
             Call::Create(..) => "create_snapshot",
             Call::Diff(..) => "create_diff_snapshot",
             Call::Sync(_, _, part) => match part.kind {
@@ -230,9 +231,9 @@ impl Call {
             ("get_entries_reply", &[]),
             ("get_suffix_reply", &[]),
             ("lookup", &[]),
-            ("try_trim", &[2]),
-            ("in_place::try_trim", &[2]),
-            ("try_snapshot", &[2, 16, 8]),
+            ("compact, trim", &[2]),
+            ("in_place::trim", &[2]),
+            ("compact, snapshot", &[2, 16, 8]),
             ("create_snapshot", &[11, 3, 2, 16, 8]),
             ("create_diff_snapshot", &[11, 16, 8]),
             ("sync_log without a log part", &[11, 6]),
@@ -315,9 +316,9 @@ impl Call {
             Call::Entries(a, b) => vec![32, *a, *b],
             Call::Suffix(a) => vec![33, *a],
             Call::Lookup(k) => vec![34, *k],
-            Call::Trim(form, i) => vec![[40, 49][*form as usize], *i],
-            Call::Snapshot(Some(i)) => vec![41, *i],
-            Call::Snapshot(None) => vec![42],
+            Call::Trim(Form::Covered, i) => [40, 0].into_iter().chain(*i).collect(),
+            Call::Trim(Form::ByHand, i) => [49].into_iter().chain(*i).collect(),
+            Call::Snapshot(i) => [40, 1].into_iter().chain(*i).collect(),
             Call::Create(i, out) => {
                 lines.push(vec![3, 4, *out as u64]);
                 vec![43, *i]

@@ -185,6 +185,11 @@ impl Dice {
         }
     }
 
+    /// How far a compaction goes.
+    fn upto(&mut self, s: &State) -> Option<u64> {
+        (!self.one_in(3)).then(|| self.index(s))
+    }
+
     fn form(&mut self) -> Form {
         self.pick(&[Form::Covered, Form::Covered, Form::ByHand])
     }
@@ -297,8 +302,8 @@ impl Dice {
             67..=68 => Call::Entries(self.index(s), self.index(s)),
             69 => Call::Suffix(self.index(s)),
             70..=72 => Call::Lookup(self.key(wide)),
-            73..=76 => Call::Trim(self.form(), self.index(s)),
-            77..=81 => Call::Snapshot((!self.one_in(3)).then(|| self.index(s))),
+            73..=76 => Call::Trim(self.form(), self.upto(s)),
+            77..=81 => Call::Snapshot(self.upto(s)),
             82..=84 => Call::Create(self.index(s), self.output()),
             85..=87 => Call::Diff(self.index(s), self.output()),
             88..=94 => self.sync(s, wide),

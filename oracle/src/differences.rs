@@ -88,7 +88,7 @@ fn cases() -> Vec<Case> {
                 append(2),
                 decide(2),
                 Call::Snapshot(Some(1)),
-                Call::Trim(Form::Covered, 2),
+                Call::Trim(Form::Covered, Some(2)),
             ],
             rust: |s| {
                 rust_append(s, 2);

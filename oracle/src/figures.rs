@@ -14,8 +14,8 @@ use crate::ClusterConfig;
 use kotuseraw::image::ROOM;
 use kotuseraw::plain::{METADATA, NODES};
 use kotuseraw::{
-    plain, Ballot, BlockPlace, Entry, Index, Lent, LogIndex, LogSync, Op, Snapshot, SnapshotType,
-    StopSign, View,
+    plain, Ballot, BlockPlace, Compaction, Entry, Index, Lent, LogIndex, LogSync, Op, Snapshot,
+    SnapshotType, StopSign, Upto, View,
 };
 use std::collections::BTreeMap;
 use std::hint::black_box;
@@ -111,7 +111,7 @@ impl Both {
             if part == "keys" {
                 index.set_decided_idx(LogIndex(keys)).unwrap();
                 rust.set_decided_idx(keys as usize).unwrap();
-                index.try_snapshot(None).unwrap();
+                index.compact(Compaction::Snapshot, Upto::All).unwrap();
                 rust.try_snapshot(None).unwrap();
             }
         }
@@ -249,8 +249,10 @@ fn calls(meter: &mut Meter) {
             "set_stopsign" on both: |i| i.set_stopsign(Some(sign)), |r| r.set_stopsign(Some(rust_sign.clone()));
             "set_promise" on both: |i| i.set_promise(ballot), |r| r.set_promise(rust_ballot);
             "set_decided_idx" on both: |i| i.set_decided_idx(end), |r| r.set_decided_idx(end_at);
-            "try_trim (half of the entries)" on both: |i| i.try_trim(mid), |r| r.try_trim(mid_at);
-            "try_snapshot (all that is decided)" on both: |i| i.try_snapshot(None), |r| r.try_snapshot(None);
+            "compact, trim (half of the entries)" on both:
+                |i| i.compact(Compaction::Trim, Upto::Index(mid)), |r| r.try_trim(mid_at);
+            "compact, snapshot (all that is decided)" on both:
+                |i| i.compact(Compaction::Snapshot, Upto::All), |r| r.try_snapshot(None);
             "create_snapshot (half of the entries)" on both: |i| i.create_snapshot(mid), |r| r.create_snapshot(mid_at);
             "create_diff_snapshot (from the compacted index)" on both:
                 |i| i.create_diff_snapshot(low), |r| r.create_diff_snapshot(keys as usize);
@@ -526,11 +528,13 @@ fn growth(meter: &mut Meter) {
             .unwrap();
         let mut i = index.clone();
         meter
-            .of("growth", &row, "try_snapshot", || i.try_snapshot(None))
+            .of("growth", &row, "a snapshot", || {
+                i.compact(Compaction::Snapshot, Upto::All)
+            })
             .unwrap();
         let mut rust = original(&both.held);
         meter
-            .of("growth", &row, "try_snapshot, the Rust", || {
+            .of("growth", &row, "a snapshot, the Rust", || {
                 rust.try_snapshot(None)
             })
             .unwrap();

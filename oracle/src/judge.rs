@@ -200,9 +200,14 @@ fn after_delta(before: &State, round: &Ballot, decided: u64, p: &Part) -> State 
     after.with_snapshot(&keys)
 }
 
+/// The index that the Rust's trim is told, which has no "all": the decided index stands for log-decided there too.
+fn trimmed_at(before: &State, upto: Option<u64>) -> usize {
+    upto.unwrap_or(before.decided) as usize
+}
+
 /// The state that a trim past compacted is to leave: the snapshot is dropped with the entries that it lacks.
-fn after_trim(before: &State, i: u64) -> State {
-    let to = target(before, i);
+fn after_trim(before: &State, upto: Option<u64>) -> State {
+    let to = target(before, upto);
     let kept = before.entries()[(to - before.compacted) as usize..].to_vec();
     let all = [kept.clone(), before.batch()].concat();
     let after = State {
@@ -338,11 +343,13 @@ impl<S: Sight> Judge<S> {
                 let same = rust.is_ok_and(|idx| idx as u64 == accepted);
                 return Ok(self.listed_unless(same, &due, "a delta sync"));
             }
-            Call::Trim(_, i) if before.snapshot_held && target(before, *i) > before.compacted => {
-                let due = after_trim(before, *i);
+            Call::Trim(_, upto)
+                if before.snapshot_held && target(before, *upto) > before.compacted =>
+            {
+                let due = after_trim(before, *upto);
                 differ("the state", &due, told.after)?;
                 differ("the answer", &[1][..], told.answer)?;
-                let same = self.storage.try_trim(*i as usize).is_ok();
+                let same = self.storage.try_trim(trimmed_at(before, *upto)).is_ok();
                 return Ok(self.listed_unless(same, &due, "a trim past a held snapshot"));
             }
             Call::Write(_, list) => self.written_atomically(list, told)?,
@@ -457,8 +464,8 @@ impl<S: Sight> Judge<S> {
             }
             Call::Entries(a, b) => part(s.get_entries(*a as usize, *b as usize).unwrap())?,
             Call::Suffix(a) => part(s.get_suffix(*a as usize).unwrap())?,
-            Call::Trim(_, i) => {
-                s.try_trim(*i as usize).unwrap();
+            Call::Trim(_, upto) => {
+                s.try_trim(trimmed_at(before, *upto)).unwrap();
                 same(&[1])?
             }
             Call::Snapshot(i) => {

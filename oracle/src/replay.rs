@@ -119,7 +119,9 @@ fn answer(judge: &mut Rust, line: &str) -> Vec<String> {
             done
         }
         "trim" => {
-            rust.try_trim(index(1)).unwrap();
+            let all = rust.get_decided_idx();
+            rust.try_trim(if words[1] == "all" { all } else { index(1) })
+                .unwrap();
             done
         }
         "stop" => {

@@ -77,13 +77,9 @@ pub fn folded(s: &State, upto: u64) -> Keys {
     keys
 }
 
-/// The index that a trim or snapshot moves to.
-pub fn target(s: &State, i: u64) -> u64 {
-    if i < s.decided {
-        i
-    } else {
-        s.log_decided()
-    }
+/// The index that a trim or snapshot moves to; none is all that is log-decided.
+pub fn target(s: &State, upto: Option<u64>) -> u64 {
+    upto.filter(|i| *i < s.decided).unwrap_or(s.log_decided())
 }
 
 pub fn merged(first: &Keys, second: &Keys) -> Keys {
@@ -120,11 +116,12 @@ fn append(s: &State, n: u64) -> Refusal {
     ])
 }
 
-fn snapshot(s: &State, i: u64) -> Refusal {
-    let to = target(s, i);
-    let folds = to > s.compacted;
+/// 2, 16, 8, the last two for snapshots only.
+fn compact(s: &State, snapshot: bool, upto: Option<u64>) -> Refusal {
+    let to = target(s, upto);
+    let folds = snapshot && to > s.compacted;
     first(&[
-        (i > s.decided, 2, s.decided as u128),
+        (upto.is_some_and(|i| i > s.decided), 2, s.decided as u128),
         (folds && hole(s), 16, 0),
     ])
     .or_else(|| first(&[(folds && over(&folded(s, to)), 8, 0)]))
@@ -136,7 +133,7 @@ fn create(s: &State, i: u64) -> Refusal {
         (i > s.decided, 2, s.decided as u128),
         (hole(s), 16, 0),
     ])
-    .or_else(|| first(&[(over(&folded(s, target(s, i))), 8, 0)]))
+    .or_else(|| first(&[(over(&folded(s, target(s, Some(i)))), 8, 0)]))
 }
 
 /// The entries of a delta from an index past compacted.
@@ -301,8 +298,8 @@ pub fn refusal(s: &State, call: &Call) -> Refusal {
             (*i < s.decided, 5, s.decided as u128),
             (*i as u128 > s.accepted(), 6, s.accepted()),
         ]),
-        Call::Trim(_, i) => first(&[(*i > s.decided, 2, s.decided as u128)]),
-        Call::Snapshot(i) => snapshot(s, i.unwrap_or(s.decided)),
+        Call::Trim(_, upto) => compact(s, false, *upto),
+        Call::Snapshot(upto) => compact(s, true, *upto),
         Call::Create(i, _) => create(s, *i),
         Call::Diff(i, _) => diff(s, *i),
         Call::Sync(_, d, part) if !part.held => {

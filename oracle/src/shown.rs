@@ -265,7 +265,7 @@ fn slower() -> String {
         "## Where we are slower, and why
 
 - A call on lent words judges all {} of them first: that is most of what a lent call costs, and why an owned state is not judged again.
-- Folding (`try_snapshot`, `create_snapshot`, a delta, `sync_log` with one) finds each key's place in the sorted words by a walk from the
+- Folding (a snapshot, `create_snapshot`, a delta, `sync_log` with one) finds each key's place in the sorted words by a walk from the
   front, four keys a step, and moves what follows; the Rust inserts into a tree.
 - A lookup walks the decided entries backwards and then the snapshot's keys from the front; a `BTreeMap` of everything, which nobody has to
   keep beside a log and a snapshot, answers in a hundred instructions.

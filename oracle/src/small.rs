@@ -60,13 +60,17 @@ fn moves() -> Vec<Call> {
         [
             Call::Decide(Form::Covered, i),
             Call::Decide(Form::ByHand, i),
-            Call::Trim(Form::Covered, i),
-            Call::Trim(Form::ByHand, i),
+            Call::Trim(Form::Covered, Some(i)),
+            Call::Trim(Form::ByHand, Some(i)),
             Call::Snapshot(Some(i)),
         ]
     };
     let mut calls: Vec<Call> = (0..=TOP).flat_map(each).collect();
-    calls.push(Call::Snapshot(None));
+    calls.extend([
+        Call::Trim(Form::Covered, None),
+        Call::Trim(Form::ByHand, None),
+        Call::Snapshot(None),
+    ]);
     calls
 }
 

@@ -2,7 +2,7 @@
 use crate::entry::{entries, words, Entry, LOG_WORDS, SNAPSHOT_WORDS};
 use crate::image::ROOM;
 use crate::plain::{self, Ballot, BlockPlace, IndexRecord, LogIndex, Reply, Said, ShownSaid, StopSign};
-use crate::requests::{bound, Appended, Diff, Lent, LogSync, Marker, Op, Run};
+use crate::requests::{bound, Appended, Compaction, Diff, Lent, LogSync, Marker, Op, Run, Upto};
 use crate::snapshot::Snapshot;
 use crate::{ready, Refusal};
 use std::fmt;
@@ -194,32 +194,29 @@ macro_rules! calls {
             kept(record, reply).map(drop)
         }
 
-        /// Drops the decided entries below an index, and the held snapshot, which lacks them: nothing can be folded onto the log until
-        /// a complete sync. One that does not pass the compacted index keeps both.
+        /// Compacts the decided entries below an index, or all of them: a trim drops them, and the held snapshot, which lacks them, so
+        /// that nothing can be folded onto the log until a complete sync; a snapshot folds them into the held one. A compaction that
+        /// does not pass the compacted index changes nothing.
         ///
         /// ```
-        /// # use kotuseraw::{BlockPlace, Entry, Index, LogIndex, Marker};
+        /// # use kotuseraw::{BlockPlace, Compaction, Entry, Index, LogIndex, Marker, Upto};
         /// let mut index = Index::fresh(0)?;
         /// for key in 1..4 {
         ///     index.append(Entry::put(key, BlockPlace(10 * key)))?;
         /// }
         /// index.set_decided_idx(LogIndex(3))?;
-        /// index.try_snapshot(Some(LogIndex(1)))?;
-        /// index.try_trim(LogIndex(2))?;
+        /// index.compact(Compaction::Snapshot, Upto::Index(LogIndex(1)))?;
+        /// index.compact(Compaction::Trim, Upto::Index(LogIndex(2)))?;
         /// assert_eq!(index.read(LogIndex(0)..)?.unwrap().marker, Marker::Trimmed(LogIndex(2)));
-        /// assert_eq!(index.try_snapshot(None).unwrap_err().number(), 16);
+        /// assert_eq!(index.compact(Compaction::Snapshot, Upto::All).unwrap_err().number(), 16);
+        /// index.compact(Compaction::Trim, Upto::All)?;
+        /// assert_eq!(index.read(LogIndex(0)..)?.unwrap().marker, Marker::Trimmed(LogIndex(3)));
         /// # Ok::<(), kotuseraw::Refusal>(())
         /// ```
-        pub fn try_trim(&mut self, idx: LogIndex) -> Result<(), Refusal> {
+        pub fn compact(&mut self, what: Compaction, upto: Upto) -> Result<(), Refusal> {
             let (record, log, snapshot) = self.parts_mut();
-            let reply = $call!(try_trim(*record, log, snapshot, idx));
-            kept(record, reply).map(drop)
-        }
-
-        /// Folds the decided entries below an index, or all of them, into the snapshot.
-        pub fn try_snapshot(&mut self, upto: Option<LogIndex>) -> Result<(), Refusal> {
-            let (record, log, snapshot) = self.parts_mut();
-            let reply = plain::try_snapshot(*record, log, snapshot, upto.is_some(), upto.unwrap_or_default());
+            let (given, idx) = upto.plain();
+            let reply = $call!(compact(*record, log, snapshot, what == Compaction::Snapshot, given, idx));
             kept(record, reply).map(drop)
         }
 

@@ -243,9 +243,9 @@ exports! {
     set_stopsign(index: IndexRecord, log: &[u64], snapshot: &[u64], held: bool, ss: StopSign) -> Reply = "kotuseraw_set_stopsign";
     set_promise(index: IndexRecord, log: &[u64], snapshot: &[u64], n_prom: Ballot) -> Reply = "kotuseraw_set_promise";
     set_decided_idx(index: IndexRecord, log: &[u64], snapshot: &[u64], idx: LogIndex) -> Reply = "kotuseraw_set_decided_idx";
-    try_trim(index: IndexRecord, log: &mut [u64], snapshot: &mut [u64], idx: LogIndex) -> Reply = "kotuseraw_try_trim";
-    /// Where `given` is not set the snapshot goes over all that is decided, and `idx` is not looked at.
-    try_snapshot(index: IndexRecord, log: &mut [u64], snapshot: &mut [u64], given: bool, idx: LogIndex) -> Reply = "kotuseraw_try_snapshot";
+    /// A snapshot where `folds` is set, else a trim, which drops the held snapshot too where it passes the compacted index. Where `given`
+    /// is not set it goes over all that is decided but a stop-sign, and `idx` is not looked at.
+    compact(index: IndexRecord, log: &mut [u64], snapshot: &mut [u64], folds: bool, given: bool, idx: LogIndex) -> Reply = "kotuseraw_compact";
     /// Where `held` is not set there is no log part, and of what is lent only the slices' lengths are looked at.
     sync_log(index: IndexRecord, log: &mut [u64], snapshot: &mut [u64], accepted_round: Ballot, decided_idx: LogIndex, held: bool, log_sync: LogSync, incoming: &[u64], suffix: &[u64]) -> Reply = "kotuseraw_sync_log";
     write_list(index: IndexRecord, log: &mut [u64], snapshot: &mut [u64], entries: &[u64], incoming: &[u64], lent: Lent, ops: Ops) -> Reply = "kotuseraw_write_list";
@@ -253,8 +253,8 @@ exports! {
     write_atomically(index: IndexRecord, log: &mut [u64], snapshot: &mut [u64], entries: &[u64], incoming: &[u64], lent: Lent, ops: Ops) -> Reply = "kotuseraw_write_atomically";
     /// [`set_decided_idx`] on a record where it stands.
     in_place_set_decided_idx(held: &mut IndexRecord, log: &[u64], snapshot: &[u64], idx: LogIndex) -> Said = "kotuseraw_in_place_set_decided_idx";
-    /// [`try_trim`] on a record where it stands.
-    in_place_try_trim(held: &mut IndexRecord, log: &mut [u64], snapshot: &mut [u64], idx: LogIndex) -> Said = "kotuseraw_in_place_try_trim";
+    /// [`compact`] on a record where it stands, told to trim.
+    in_place_trim(held: &mut IndexRecord, log: &mut [u64], snapshot: &mut [u64], given: bool, idx: LogIndex) -> Said = "kotuseraw_in_place_trim";
 
     lookup(index: IndexRecord, log: &[u64], snapshot: &[u64], key: u64) -> Said = "kotuseraw_lookup";
     read(index: IndexRecord, log: &[u64], snapshot: &[u64], from: Bound, to: Bound) -> ShownSaid = "kotuseraw_read";

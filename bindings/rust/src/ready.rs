@@ -30,5 +30,5 @@ exports! {
     set_stopsign(index: IndexRecord, log: &[u64], snapshot: &[u64], held: bool, ss: StopSign) -> Reply = "kotuseraw_inner_set_stopsign";
     set_promise(index: IndexRecord, log: &[u64], snapshot: &[u64], n_prom: Ballot) -> Reply = "kotuseraw_inner_set_promise";
     set_decided_idx(index: IndexRecord, log: &[u64], snapshot: &[u64], idx: LogIndex) -> Reply = "kotuseraw_inner_set_decided_idx";
-    try_trim(index: IndexRecord, log: &mut [u64], snapshot: &mut [u64], idx: LogIndex) -> Reply = "kotuseraw_inner_try_trim";
+    compact(index: IndexRecord, log: &mut [u64], snapshot: &mut [u64], folds: bool, given: bool, idx: LogIndex) -> Reply = "kotuseraw_inner_compact";
 }

@@ -42,6 +42,33 @@ impl StopSign {
     }
 }
 
+/// What a compaction does with the entries that leave the log.
+#[derive(Clone, Copy, Debug, PartialEq, Eq)]
+pub enum Compaction {
+    /// Drops them, and the held snapshot, which lacks them.
+    Trim,
+    /// Folds them into the held snapshot.
+    Snapshot,
+}
+
+/// How far a compaction goes.
+#[derive(Clone, Copy, Debug, PartialEq, Eq)]
+pub enum Upto {
+    /// Over all that is decided but a stop-sign.
+    All,
+    Index(LogIndex),
+}
+
+impl Upto {
+    /// Whether an index is given, and which.
+    pub(crate) fn plain(self) -> (bool, LogIndex) {
+        match self {
+            Upto::All => (false, LogIndex::default()),
+            Upto::Index(idx) => (true, idx),
+        }
+    }
+}
+
 /// What became of an append.
 #[derive(Clone, Copy, Debug, PartialEq, Eq)]
 pub enum Appended {

@@ -1,7 +1,7 @@
 //! Images: the bytes that document 02 asks for, what is refused of them and where, and the files that hold them.
 use kotuseraw::image::{CHANGE, HEAD, ROOM, STOP};
 use kotuseraw::plain::{self, LARGEST_BATCH, METADATA, NODES};
-use kotuseraw::{BlockPlace, Entry, Index, LoadError, LogIndex, Refusal, StopSign, View, LOG_WORDS, SNAPSHOT_WORDS};
+use kotuseraw::{BlockPlace, Compaction, Entry, Index, LoadError, LogIndex, Refusal, StopSign, Upto, View, LOG_WORDS, SNAPSHOT_WORDS};
 use std::path::PathBuf;
 use std::{env, fs, io, process};
 
@@ -17,10 +17,10 @@ fn example() -> Index {
     }
     index.flush_batch().unwrap();
     index.set_decided_idx(LogIndex(2)).unwrap();
-    index.try_snapshot(None).unwrap();
+    index.compact(Compaction::Snapshot, Upto::All).unwrap();
     index.append_stopsign(StopSign::new(7, &[1], None).unwrap()).unwrap();
     index.set_decided_idx(LogIndex(4)).unwrap();
-    index.try_snapshot(Some(LogIndex(4))).unwrap();
+    index.compact(Compaction::Snapshot, Upto::Index(LogIndex(4))).unwrap();
     index
 }
 
@@ -30,7 +30,7 @@ fn largest() -> Index {
     let run = |from, to| (from..to).map(|key| Entry::put(key, BlockPlace(key))).collect::<Vec<_>>();
     index.append_entries_with_batching(&run(0, 512)).unwrap();
     index.set_decided_idx(LogIndex(512)).unwrap();
-    index.try_snapshot(None).unwrap();
+    index.compact(Compaction::Snapshot, Upto::All).unwrap();
     index.append_entries_with_batching(&run(512, 1536)).unwrap();
     index.append_stopsign(StopSign::new(u32::MAX, &[u64::MAX; NODES], Some(&[255; METADATA])).unwrap()).unwrap();
     index

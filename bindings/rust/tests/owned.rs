@@ -2,8 +2,8 @@
 use kotuseraw::entry::{ENTRIES, KEYS, PLACES, WIDTH};
 use kotuseraw::plain::{LARGEST_BATCH, LARGEST_INDEX, METADATA, NODES};
 use kotuseraw::{
-    plain, Ballot, BlockPlace, Entry, Index, IndexRecord, Lent, LogIndex, LogSync, Op, Refusal, Snapshot, SnapshotType, StopSign, View,
-    SNAPSHOT_WORDS,
+    plain, Ballot, BlockPlace, Compaction, Entry, Index, IndexRecord, Lent, LogIndex, LogSync, Op, Refusal, Snapshot, SnapshotType,
+    StopSign, Upto, View, SNAPSHOT_WORDS,
 };
 use std::collections::BTreeMap;
 
@@ -117,8 +117,11 @@ fn turn(index: &mut Index, dice: &mut Dice, met: &mut Met) {
             both!(index, met, set_promise(ballot))
         }
         10 | 11 => both!(index, met, set_decided_idx(i)),
-        12 => both!(index, met, try_trim(i)),
-        13 => both!(index, met, try_snapshot(Some(i).filter(|_| j.0 % 2 == 0))),
+        12 | 13 => {
+            let what = [Compaction::Trim, Compaction::Snapshot][dice.next(2) as usize];
+            let upto = [Upto::All, Upto::Index(i)][dice.next(2) as usize];
+            both!(index, met, compact(what, upto))
+        }
         14 => both!(index, met, load_cache()),
         15 => {
             let (run, ballot) = (dice.entries(), dice.ballot());
@@ -194,7 +197,7 @@ fn an_owned_index_answers_as_a_lent_one() {
     for name in &names {
         assert!(met.contains_key(&(**name, 0)), "{name} was never accepted");
     }
-    assert_eq!(names.len(), 25);
+    assert_eq!(names.len(), 24);
 }
 
 #[test]
@@ -231,7 +234,7 @@ fn holed() -> Index {
         index.append(Entry::removed(key)).unwrap();
     }
     index.set_decided_idx(LogIndex(2)).unwrap();
-    index.try_trim(LogIndex(1)).unwrap();
+    index.compact(Compaction::Trim, Upto::Index(LogIndex(1))).unwrap();
     index
 }
 
@@ -245,7 +248,7 @@ fn a_complete_sync_mends_a_hole() {
     index.sync_log(Ballot::default(), LogIndex(2), Some(sync(SnapshotType::Complete(&snapshot)))).unwrap();
     index.append(Entry::put(1, BlockPlace(10))).unwrap();
     index.set_decided_idx(LogIndex(3)).unwrap();
-    index.try_snapshot(None).unwrap();
+    index.compact(Compaction::Snapshot, Upto::All).unwrap();
     assert_eq!(index.lookup(1).unwrap(), Some(BlockPlace(10)));
 }
 
@@ -255,10 +258,10 @@ fn a_refusal_says_what_it_means() {
     index.append(Entry::removed(1)).unwrap();
     let said: Vec<String> = [
         index.set_decided_idx(LogIndex(2)).unwrap_err(),
-        index.try_trim(LogIndex(1)).unwrap_err(),
+        index.compact(Compaction::Trim, Upto::Index(LogIndex(1))).unwrap_err(),
         index.append_stopsign(StopSign::default()).unwrap_err(),
         Index::fresh(LARGEST_BATCH + 1).unwrap_err(),
-        holed().try_snapshot(None).unwrap_err(),
+        holed().compact(Compaction::Snapshot, Upto::All).unwrap_err(),
     ]
     .map(|refusal| refusal.to_string())
     .to_vec();

@@ -1,5 +1,5 @@
 pub mod Moving
 pub mod Folding
-pub mod Snapshots
+pub mod Holding
 pub mod Creates
 pub mod Refused

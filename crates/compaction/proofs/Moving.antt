@@ -1,29 +1,46 @@
--- A trim or a snapshot of a lent state: refusal 2, where it ends, and the run's start moved up there, the model's
--- `movedTo`.
+-- A compaction of a lent state: refusal 2, where it ends, what is then held, and the run's start moved up there, the
+-- model's `compactedTo`.
 use Rattle.words.proofs.Prelude.{arith, _≡_, refl, sym, ap, _∙_, ℕ, _+_, _-_, _≤_, Bool, true, false, lt-ltb, le-ltb}
-use Rattle.words.proofs.Prelude.{Option, none, some, List, [], _∷_, _++_, length-drop, length, replicate}
-use Rattle.words.specs.{Words.laid, Coded.wordsOf}
+use Rattle.words.proofs.Prelude.{if_then_else_, Option, List, [], _∷_, _++_, length-drop, length}
+use Rattle.words.specs.Coded.{wordsOf}
 use Rattle.words.proofs.CodedLaws.{spliced-trim}
 use Rattle.entry.specs.{Limits.logWords, Limits.snapshotWords, Change.Change, Change.stored, Guards.Guard}
-use Rattle.entry.specs.{Guards.passes, Guards.refuses, Guards.first, Guards.replied, Refusals.numberOf}
-use Rattle.entry.specs.{Refusals.carriedOf}
+use Rattle.entry.specs.{Guards.passes, Guards.refuses, Guards.first, Guards.replied, Guards.refusedBy}
+use Rattle.entry.specs.{Refusals.numberOf, Refusals.carriedOf, declared.Refusal.Refusal}
+use Rattle.entry.specs.{declared.Compaction.Compaction, declared.Compaction.the-variants.Trim}
+use Rattle.entry.specs.{declared.Compaction.the-variants.Snapshot}
 use Rattle.entry.proofs.GuardLaws.{first-left, first-right}
+use Rattle.snapshot.specs.{Calls.outcome as snapshotOutcome, Calls.folded, declared.Folded.Folded}
+use Rattle.snapshot.specs.{declared.Folded.the-variants.Keys, declared.Folded.the-variants.Refused}
+use Rattle.snapshot.proofs.Calling.{wrote-nothing, wrote-keys}
 use Rattle.model.specs.Numbers.{Numbers, endOf}
-use Rattle.model.specs.Log.{Log, numbersOf, given, orEmpty}
-use Rattle.model.specs.Compact.{target, aboveDecided, trimGuards, passesStart, movedTo, trimmedTo}
-use Rattle.model.specs.Calls.{Call, trim, malformed, further, effect, replyOf}
+use Rattle.model.specs.Log.{Log, numbersOf, given, orEmpty, foldedTo}
+use Rattle.model.specs.Compact.{target, aboveDecided, passesStart, foldedUpto, ontoGuards, snapshotsOnly}
+use Rattle.model.specs.Compact.{compactGuards, heldThen, compactedTo}
+use Rattle.model.specs.Calls.{Call, compact, malformed, further, effect, replyOf}
 use Rattle.model.proofs.{Forms.ranges, Keeps.target-range}
 use Rattle.state_cache.specs.{State.Raw, State.raw, State.numbersIn, State.formed, State.logOf, Run.outcome, Run.run}
 use Rattle.state_cache.specs.{Run.settled, declared.IndexRecord.IndexRecord, declared.Settled.Settled}
-use Rattle.state_cache.specs.{declared.Settled.the-variants.Done, declared.Settled.the-variants.Refused}
+use Rattle.state_cache.specs.{declared.Settled.the-variants.Done}
+use Rattle.state_cache.specs.{declared.Settled.the-variants.Refused as SettledRefused}
 use Rattle.state_cache.proofs.{Stands.Stands, Stands.stands-of, Stands.log-formed, Stands.ready-of, Runs.call-refused}
 use Rattle.state_cache.proofs.{Runs.call-stands, Changes.log-spliced}
 use Rattle.internal_storage.proofs.Effects.{numbers}
-use Rattle.compaction.specs.Inner.{pastVerdict, Stay, Up, Movable, Moved}
+use Rattle.compaction.specs.Inner.{pastVerdict, Stay, Up, Movable, Moved, heldAt, holdsThen, heldWritten}
 
-module _ (r : Raw) (ok : formed r ≡ true) (upto : Option ℕ) where
+-- what is decided is held or compacted
+pub target-in : (r : Raw) → formed r ≡ true → (upto : Option ℕ)
+    → target upto (numbersIn (r .index)) ≤ r .index .compacted .0 + r .index .retained
+target-in r ok upto =
+    let f = ready-of r ok .numbers in
+    unfold endOf in omega (arith, target-range upto (numbersIn (r .index)), ranges (numbersIn (r .index)) f .high)
+
+module _ (r : Raw) (ok : formed r ≡ true) (what : Compaction) (upto : Option ℕ) where
   abbrev s : Log
   s = logOf r
+
+  abbrev c : Call
+  c = compact what upto
 
   st : Stands s r
   st = stands-of r ok
@@ -31,63 +48,89 @@ module _ (r : Raw) (ok : formed r ≡ true) (upto : Option ℕ) where
   target-is : target upto (numbersOf s) ≡ target upto (numbersIn (r .index))
   target-is = ap (target upto) (numbers r ok)
 
-  -- what is decided is held or compacted
-  pub target-in : target upto (numbersIn (r .index)) ≤ r .index .compacted .0 + r .index .retained
-  target-in =
-      let f = ready-of r ok .numbers in
-      unfold endOf in omega (arith, target-range upto (numbersIn (r .index)), ranges (numbersIn (r .index)) f .high)
+  -- refusals 16 and 8, by whether it passes compacted, and what is folded
+  abbrev due : Bool → List Change → List Guard
+  due t es = snapshotsOnly what (ontoGuards t s (if t then es else []))
 
-  -- refusal 2 stands first among those of a trim and of a snapshot
-  module _ (c : Call) (more : List Guard) (is : further c s ≡ aboveDecided upto (numbersOf s) ∷ more) where
-    guards-are : first (further c s) ≡ first ((aboveDecided upto (numbersIn (r .index)) ∷ []) ++ more)
-    guards-are = ap first is ∙ ap (λ (n : Numbers). first (aboveDecided upto n ∷ more)) (numbers r ok)
+  -- refusal 2 stands first
+  guards-are : first (further c s)
+      ≡ first ((aboveDecided upto (numbersIn (r .index)) ∷ []) ++ due (passesStart upto s) (foldedUpto upto s))
+  unfolding further compactGuards
+  guards-are =
+      ap (λ (n : Numbers). first (aboveDecided upto n ∷ due (passesStart upto s) (foldedUpto upto s))) (numbers r ok)
 
-    pub past-stops : (n k : ℕ) → refuses n k ≡ pastVerdict upto (r .index) → refuses n k ≡ first (further c s)
-    past-stops n k e = first-left (aboveDecided upto (numbersIn (r .index)) ∷ []) more n k e ∙ sym guards-are
+  past-stops : (n k : ℕ) → refuses n k ≡ pastVerdict upto (r .index) → refuses n k ≡ first (further c s)
+  past-stops n k e = first-left (aboveDecided upto (numbersIn (r .index)) ∷ []) _ n k e ∙ sym guards-are
 
-    pub past-goes-on : passes ≡ pastVerdict upto (r .index) → first (further c s) ≡ first more
-    past-goes-on e = guards-are ∙ first-right (aboveDecided upto (numbersIn (r .index)) ∷ []) more e
+  goes-on : passes ≡ pastVerdict upto (r .index) → (t : Bool) → passesStart upto s ≡ t
+      → first (further c s) ≡ first (due t (foldedUpto upto s))
+  goes-on v t e =
+      guards-are ∙ first-right (aboveDecided upto (numbersIn (r .index)) ∷ []) _ v
+      ∙ ap (λ (b : Bool). first (due b (foldedUpto upto s))) e
+
+  stands : passes ≡ first (further c s) → (x : Raw) → Stands (compactedTo what upto s) x
+      → outcome (replied tt) x ≡ run c true r
+  unfolding malformed effect replyOf
+  stands v x p = call-stands c r ok refl v tt x refl p
 
   -- one that does not pass compacted changes nothing
   module _ (low : target upto (numbersIn (r .index)) ≤ r .index .compacted .0) where
-    pub not-past : passesStart upto s ≡ false
+    not-past : passesStart upto s ≡ false
     unfolding passesStart
     not-past = le-ltb (s .run .compacted) (target upto (numbersOf s)) (omega (arith, st .run .start, target-is, low))
 
-    pub unmoved-stands : (o : Option (List Change)) → Stands (movedTo upto o s) r
-    unfolding movedTo
-    unmoved-stands o = rw not-past st
+    unmoved : Stands (compactedTo what upto s) r
+    unfolding compactedTo
+    unmoved = rw not-past st
+
+  nothing-due : (w : Compaction) → passes ≡ first (snapshotsOnly w (ontoGuards false s []))
+  unfolding first
+  nothing-due Trim = refl
+  nothing-due Snapshot = refl
+
+  pub compact-stays : (a : Settled) → Stay upto (r .index) a → outcome (settled a) r ≡ run c true r
+  unfolding malformed
+  compact-stays Done p =
+      stands (nothing-due what ∙ sym (goes-on (p .verdict) false (not-past (p .low refl)))) r (unmoved (p .low refl))
+  compact-stays (SettledRefused x) p =
+      call-refused c r ok refl (numberOf x) (carriedOf x) (past-stops (numberOf x) (carriedOf x) (p .verdict))
 
   module _ (to : ℕ) (u : Up upto (r .index) to) where
-    pub in-run : to ≤ r .index .compacted .0 + r .index .retained
-    in-run = omega (arith, u .is, target-in)
+    in-run : to ≤ r .index .compacted .0 + r .index .retained
+    in-run = omega (arith, u .is, target-in r ok upto)
 
     pub movable : Movable to (r .index) (r .log)
     movable = record { up = omega (arith, u .up); within = in-run; laid-out = ready-of r ok .log }
 
-    pub ends-at : target upto (numbersOf s) ≡ to
+    ends-at : target upto (numbersOf s) ≡ to
     ends-at = target-is ∙ sym (u .is)
 
-    pub is-past : passesStart upto s ≡ true
+    is-past : passesStart upto s ≡ true
     unfolding passesStart
     is-past = lt-ltb (s .run .compacted) (target upto (numbersOf s)) (omega (arith, st .run .start, ends-at, u .up))
 
     gone-le : to - s .run .compacted ≤ length (s .run .retained)
     gone-le = omega (arith, st .run .start, st .run .count, in-run)
 
-    -- the snapshot then held is given, with its words
-    pub moved-stands : (held : Bool) (keys : ℕ) (y : IndexRecord) (words : List ℕ)
-        → Moved to held keys (r .index) (r .log) y words
-        → (o : Option (List Change)) (snapshot : List ℕ) → given o ≡ held → length (orEmpty o) ≡ keys
-        → stored snapshotWords (orEmpty o) ≡ snapshot
-        → Stands (movedTo upto o s) (raw y words snapshot)
-    unfolding movedTo
-    moved-stands held keys y words m o snapshot g k e = rw (is-past, ends-at, m .index) (record {
+    folds-to : foldedUpto upto s ≡ foldedTo to (s .run)
+    unfolding foldedUpto
+    folds-to = ap (λ (j : ℕ). foldedTo j (s .run)) ends-at
+
+    -- the snapshot then held, in the words that hold it
+    held-is : (w : Compaction) → (given (heldThen w upto s) ≡ holdsThen w) × (orEmpty (heldThen w upto s) ≡ heldAt w to s)
+    held-is Trim = (refl, refl)
+    held-is Snapshot = (refl, folds-to)
+
+    moved-stands : (y : IndexRecord) (words : List ℕ)
+        → Moved to (holdsThen what) (length (heldAt what to s)) (r .index) (r .log) y words
+        → Stands (compactedTo what upto s) (raw y words (stored snapshotWords (heldAt what to s)))
+    unfolding compactedTo
+    moved-stands y words m = rw (is-past, ends-at, m .index) (record {
       run = record {
         start = refl;
         count = omega (arith, length-drop (to - s .run .compacted) (s .run .retained), st .run .count, st .run .start);
-        snapshot = g;
-        snapshot-keys = k;
+        snapshot = held-is what .0;
+        snapshot-keys = ap length (held-is what .1);
       };
       tail = st .tail;
       marks = st .marks;
@@ -96,36 +139,27 @@ module _ (r : Raw) (ok : formed r ≡ true) (upto : Option ℕ) where
           (sym (spliced-trim (to - s .run .compacted) (s .run .retained) (s .tail .batched) gone-le))
           ∙ rw (st .run .start) (sym (m .words
           ∙ log-spliced s r st (log-formed r ok) 0 (to - r .index .compacted .0) [] [] (unfold wordsOf in refl)));
-      snapshot = e;
+      snapshot = ap (stored snapshotWords) (held-is what .1);
     })
 
--- ---- a trim
+    -- what is written in the snapshot's place, or refused
+    module _ (a : Folded) (exit : List ℕ) (f : snapshotOutcome (folded a) exit ≡ heldWritten what to r) where
+      verdict : first (further c s) ≡ first (due true (foldedTo to (s .run)))
+      verdict =
+          goes-on (u .verdict) true is-past ∙ ap (λ (es : List Change). first (due true es)) folds-to
 
-module _ (r : Raw) (ok : formed r ≡ true) (i : ℕ) where
-  abbrev t : Log
-  t = logOf r
+      pub compact-over : (x : Refusal) → a ≡ Refused x
+          → outcome (refusedBy x) (raw (r .index) (r .log) exit) ≡ run c true r
+      unfolding malformed
+      compact-over x p =
+          let q = wrote-nothing (first (due true (foldedTo to (s .run)))) (heldAt what to s) (r .snapshot) exit a f x p in
+          ap (λ (ws : List ℕ). outcome (refusedBy x) (raw (r .index) (r .log) ws)) (q .1)
+          ∙ call-refused c r ok refl (numberOf x) (carriedOf x) (sym (verdict ∙ q .0))
 
-  only : further (trim i) t ≡ aboveDecided (some i) (numbersOf t) ∷ []
-  unfolding further trimGuards
-  only = refl
-
-  trim-stands : passes ≡ pastVerdict (some i) (r .index) → (x : Raw) → Stands (movedTo (some i) none t) x
-      → outcome (replied tt) x ≡ run (trim i) true r
-  unfolding malformed effect trimmedTo replyOf first
-  trim-stands v x p = call-stands (trim i) r ok refl (sym (past-goes-on r ok (some i) (trim i) [] only v)) tt x refl p
-
-  pub trim-stays : (a : Settled) → Stay (some i) (r .index) a → outcome (settled a) r ≡ run (trim i) true r
-  unfolding malformed
-  trim-stays Done p = trim-stands (p .verdict) r (unmoved-stands r ok (some i) (p .low refl) none)
-  trim-stays (Refused x) p =
-      call-refused (trim i) r ok refl (numberOf x) (carriedOf x)
-      (past-stops r ok (some i) (trim i) [] only (numberOf x) (carriedOf x) (p .verdict))
-
-  -- the snapshot is dropped with all its words
-  pub trim-moves : (to : ℕ) (u : Up (some i) (r .index) to) (y : IndexRecord) (words snapshot : List ℕ)
-      → Moved to false 0 (r .index) (r .log) y words → snapshot ≡ replicate snapshotWords 0
-      → outcome (replied tt) (raw y words snapshot) ≡ run (trim i) true r
-  unfolding laid wordsOf
-  trim-moves to u y words snapshot m e =
-      trim-stands (u .verdict) (raw y words snapshot)
-      (moved-stands r ok (some i) to u false 0 y words m none snapshot refl refl (sym e))
+      pub compact-moves : (k : ℕ) → a ≡ Keys k → (held : Bool) → held ≡ holdsThen what
+          → (y : IndexRecord) (words : List ℕ) → Moved to held k (r .index) (r .log) y words
+          → outcome (replied tt) (raw y words exit) ≡ run c true r
+      compact-moves k p held h y words m =
+          let q = wrote-keys (first (due true (foldedTo to (s .run)))) (heldAt what to s) (r .snapshot) exit a f k p in
+          ap (λ (ws : List ℕ). outcome (replied tt) (raw y words ws)) (q .2)
+          ∙ stands (sym (verdict ∙ q .0)) _ (moved-stands y words (rw (h, q .1) at m))

@@ -1,17 +1,21 @@
--- What the inner functions say: where a trim or a snapshot ends, and the run's start moved up there.
+-- What the inner functions say: where a compaction ends, what is then held, and the run's start moved up there.
 use Prim.Native.Nat.{ℕ, _+_, _-_, _*_, _≤_, _<_}
 use mathlib.Core.Path.{_≡_}
-use mathlib.Core.Bool.{Bool}
+use mathlib.Core.Bool.{Bool, true, false}
 use mathlib.Core.List.{List, [], _∷_}
 use mathlib.Core.Option.{Option}
 use lib.ListN.{length, take}
 use Rattle.words.specs.Words.{laid, spliced}
 use Rattle.entry.specs.Limits.{width, logWords}
-use Rattle.entry.specs.Change.{Laid}
+use Rattle.entry.specs.Change.{Change, Laid}
 use Rattle.entry.specs.Guards.{Verdict, passes, refuses, first}
 use Rattle.entry.specs.Refusals.{numberOf, carriedOf}
-use Rattle.model.specs.Compact.{target, aboveDecided}
-use Rattle.state_cache.specs.State.{numbersIn}
+use Rattle.entry.specs.declared.Compaction.{Compaction}
+use Rattle.entry.specs.declared.Compaction.the-variants.{Trim, Snapshot}
+use Rattle.snapshot.specs.Calls.{Outcome, writtenBy}
+use Rattle.model.specs.Log.{Log, foldedTo}
+use Rattle.model.specs.Compact.{target, aboveDecided, ontoGuards, snapshotsOnly}
+use Rattle.state_cache.specs.State.{Raw, numbersIn, logOf}
 use Rattle.state_cache.specs.declared.IndexRecord.{IndexRecord}
 use Rattle.state_cache.specs.declared.Settled.{Settled}
 use Rattle.state_cache.specs.declared.Settled.the-variants.{Done, Refused}
@@ -55,3 +59,18 @@ pub record Moved (to : ℕ) (held : Bool) (keys : ℕ) (x : IndexRecord) (log : 
   pub words : exit
       ≡ laid (length log)
       (spliced 0 ((to - x .compacted .0) * width) [] (take ((x .retained + x .batched) * width) log))
+
+-- what is held once the run starts at an index: its changes, none after a trim; whether it is a snapshot
+abbrev pub heldAt : Compaction → ℕ → Log → List Change
+heldAt Trim to s = []
+heldAt Snapshot to s = foldedTo to (s .run)
+
+abbrev pub holdsThen : Compaction → Bool
+holdsThen Trim = false
+holdsThen Snapshot = true
+
+-- and it written in the snapshot's place, or refusals 16 and 8
+abbrev pub heldWritten : Compaction → ℕ → Raw → Outcome
+heldWritten what to r =
+    writtenBy (first (snapshotsOnly what (ontoGuards true (logOf r) (foldedTo to (logOf r .run)))))
+    (heldAt what to (logOf r)) (r .snapshot)

@@ -1,4 +1,5 @@
 // What the calls do once the state is known to be well formed: not for a user, whose calls are in lib.rt.
+use entry::Compaction;
 use entry::LogIndex;
 use entry::Refusal;
 use entry::Upto;
@@ -12,24 +13,24 @@ ghost use lib.ListN.{length};
 ghost use Rattle.entry.specs.Limits.{snapshotWords};
 ghost use Rattle.entry.specs.Upto.{uptoOf};
 ghost use Rattle.snapshot.specs.Calls.{outcome as snapshotOutcome, folded, writtenOut};
-ghost use Rattle.model.specs.Calls.{query, create, trim, snapshot as snapshotCall};
+ghost use Rattle.model.specs.Calls.{query, create, compact};
 ghost use Rattle.model.specs.Compact.{target, pastDecided};
 ghost use Rattle.state_cache.specs.State.{raw, numbersIn};
 ghost use Rattle.state_cache.specs.Inner.{Small, Ready};
 ghost use Rattle.state_cache.specs.Run.{outcome, run, settled};
-ghost use Rattle.compaction.specs.Inner.{ReachIs, Movable, Moved};
+ghost use Rattle.compaction.specs.Inner.{ReachIs, Movable, Moved, heldWritten, holdsThen};
 
 // Whether refusal 2 applies.
 fn past_decided(index: IndexRecord, upto: Upto) -> bool
     ensures { λ r. ⌜ r ≡ pastDecided (uptoOf upto) (numbersIn index) ⌝ }
 {
     match upto {
-        Upto::Decided => false,
+        Upto::All => false,
         Upto::Index(i) => index.decided.0 < i.0,
     }
 }
 
-// Where a trim or a snapshot ends. An index that is decided is no more than log-decided, but for that of a decided
+// Where a compaction ends. An index that is decided is no more than log-decided, but for that of a decided
 // stop-sign, which is no entry to compact.
 fn target(index: IndexRecord, upto: Upto) -> u64
     requires { ⌜ Small (numbersIn index) ⌝ }
@@ -37,7 +38,7 @@ fn target(index: IndexRecord, upto: Upto) -> u64
 {
     let decided = state_cache::inner::log_decided(index);
     match upto {
-        Upto::Decided => decided,
+        Upto::All => decided,
         Upto::Index(i) => state_cache::inner::least(i.0, decided),
     }
 }
@@ -87,61 +88,62 @@ pub fn move_to(
     next
 }
 
-// Refusal 2, or the entries below the target dropped, and with them the snapshot of what came before.
-pub fn trim_at(
-    index: IndexRecord,
-    log: &mut [u64],
-    snapshot: &mut [u64],
-    idx: LogIndex,
-) -> SettledAt
-    requires { ⌜ Ready (raw index (now log) (now snapshot)) ⌝ }
-    ensures { λ r. ⌜ outcome (settled (r .answer)) (raw (r .index) (now (log .exit)) (now (snapshot .exit)))
-        ≡ run (trim (idx .0)) true (raw index (now (log .entry)) (now (snapshot .entry))) ⌝ }
+// The snapshot that is held once the run starts at `to`, in its place: none after a trim, which clears its words; after
+// a snapshot the fold of all below, or refusal 16 or 8. Says how many keys it has.
+fn hold(index: IndexRecord, log: &[u64], snapshot: &mut [u64], what: Compaction, to: u64) -> Folded
+    requires { ⌜ Ready (raw index (now log) (now snapshot)) × Movable to index (now log) ⌝ }
+    ensures { λ r. ⌜ snapshotOutcome (folded r) (now (snapshot .exit))
+        ≡ heldWritten what to (raw index (now (log .entry)) (now (snapshot .entry))) ⌝ }
 {
-    let way = reach_of(index, Upto::Index(idx));
-    match way {
-        Reach::Stays(answer) => SettledAt { answer, index },
-        Reach::To(to) => {
+    match what {
+        Compaction::Trim => {
             words::clear(snapshot, 0, entry::SNAPSHOT_WORDS);
-            let next = move_to(index, log, to, false, 0);
-            SettledAt {
-                answer: Settled::Done,
-                index: next,
+            Folded::Keys(0)
+        }
+        Compaction::Snapshot => {
+            if state_cache::inner::hole(index) {
+                return Folded::Refused(Refusal::Hole);
             }
+            let gone = (to - index.compacted.0) as usize;
+            snapshot::inner::fold_over(snapshot, index.keys, log, gone, &[], 0)
         }
     }
 }
 
-// Refusals 2, 16 and 8, or the entries below the target folded and dropped.
-pub fn snapshot_at(
+// Whether a snapshot is then held.
+fn holds(what: Compaction) -> bool
+    ensures { λ r. ⌜ r ≡ holdsThen what ⌝ }
+{
+    match what {
+        Compaction::Trim => false,
+        Compaction::Snapshot => true,
+    }
+}
+
+// Refusals 2, 16 and 8, the last two for snapshots only, or the entries below the target gone from the log.
+pub fn compact_at(
     index: IndexRecord,
     log: &mut [u64],
     snapshot: &mut [u64],
+    what: Compaction,
     upto: Upto,
 ) -> SettledAt
     requires { ⌜ Ready (raw index (now log) (now snapshot)) ⌝ }
     ensures { λ r. ⌜ outcome (settled (r .answer)) (raw (r .index) (now (log .exit)) (now (snapshot .exit)))
-        ≡ run (snapshotCall (uptoOf upto)) true (raw index (now (log .entry)) (now (snapshot .entry))) ⌝ }
+        ≡ run (compact what (uptoOf upto)) true (raw index (now (log .entry)) (now (snapshot .entry))) ⌝ }
 {
     let way = reach_of(index, upto);
     match way {
         Reach::Stays(answer) => SettledAt { answer, index },
         Reach::To(to) => {
-            if state_cache::inner::hole(index) {
-                return SettledAt {
-                    answer: Settled::Refused(Refusal::Hole),
-                    index,
-                };
-            }
-            let gone = (to - index.compacted.0) as usize;
-            let folded = snapshot::inner::fold_over(snapshot, index.keys, log, gone, &[], 0);
-            match folded {
+            let held = hold(index, log, snapshot, what, to);
+            match held {
                 Folded::Refused(refusal) => SettledAt {
                     answer: Settled::Refused(refusal),
                     index,
                 },
                 Folded::Keys(keys) => {
-                    let next = move_to(index, log, to, true, keys);
+                    let next = move_to(index, log, to, holds(what), keys);
                     SettledAt {
                         answer: Settled::Done,
                         index: next,

@@ -1,5 +1,6 @@
-// The calls of document 01's module 6 on a lent log: trims and snapshots. Each contract is one equation with `run`:
-// the reply, the record and every lent word after the call. Names are the Rust's.
+// The calls of document 01's module 6 on a lent log. Each contract is one equation with `run`: the reply, the record
+// and every lent word after the call. `compact` is the Rust's `try_trim` and `try_snapshot` in one.
+use entry::Compaction;
 use entry::LogIndex;
 use entry::Refusal;
 use entry::Upto;
@@ -14,22 +15,24 @@ ghost use lib.ListN.{length};
 ghost use Rattle.entry.specs.Limits.{snapshotWords};
 ghost use Rattle.entry.specs.Upto.{uptoOf};
 ghost use Rattle.snapshot.specs.Calls.{outcome as snapshotOutcome, folded, writtenOut};
-ghost use Rattle.model.specs.Calls.{query, create, trim, snapshot as snapshotCall};
+ghost use Rattle.model.specs.Calls.{query, create, compact as compactCall};
 ghost use Rattle.state_cache.specs.State.{raw};
 ghost use Rattle.state_cache.specs.Run.{outcome, run, settled};
 
 pub mod inner;
 
-// Drops the entries below an index, and the held snapshot, which lacks them: nothing can be folded onto the log until
-// a complete sync. One that does not pass compacted keeps both.
-pub fn try_trim(
+// Compacts the entries below an index, or all below log-decided. A trim drops them, and the held snapshot, which lacks
+// them: nothing can be folded onto the log until a complete sync. A snapshot folds them onto the held one; where the
+// log has a hole, or the fold too many keys, nothing changes. Neither does where the start of the run is not passed.
+pub fn compact(
     index: IndexRecord,
     log: &mut [u64],
     snapshot: &mut [u64],
-    idx: LogIndex,
+    what: Compaction,
+    upto: Upto,
 ) -> SettledAt
     ensures { λ r. ⌜ outcome (settled (r .answer)) (raw (r .index) (now (log .exit)) (now (snapshot .exit)))
-        ≡ run (trim (idx .0)) true (raw index (now (log .entry)) (now (snapshot .entry))) ⌝ }
+        ≡ run (compactCall what (uptoOf upto)) true (raw index (now (log .entry)) (now (snapshot .entry))) ⌝ }
 {
     if !state_cache::well_formed(index, log, snapshot) {
         return SettledAt {
@@ -37,27 +40,7 @@ pub fn try_trim(
             index,
         };
     }
-    inner::trim_at(index, log, snapshot, idx)
-}
-
-// Folds the entries below an index onto the held snapshot and drops them. Where the log has a hole, or the fold too
-// many keys, nothing changes.
-pub fn try_snapshot(
-    index: IndexRecord,
-    log: &mut [u64],
-    snapshot: &mut [u64],
-    idx: Upto,
-) -> SettledAt
-    ensures { λ r. ⌜ outcome (settled (r .answer)) (raw (r .index) (now (log .exit)) (now (snapshot .exit)))
-        ≡ run (snapshotCall (uptoOf idx)) true (raw index (now (log .entry)) (now (snapshot .entry))) ⌝ }
-{
-    if !state_cache::well_formed(index, log, snapshot) {
-        return SettledAt {
-            answer: Settled::Refused(Refusal::IllFormed),
-            index,
-        };
-    }
-    inner::snapshot_at(index, log, snapshot, idx)
+    inner::compact_at(index, log, snapshot, what, upto)
 }
 
 // Writes out the fold of all changes below an index and says how many keys it has. The log stays as it is.

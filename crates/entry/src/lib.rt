@@ -47,9 +47,16 @@ pub enum Said {
     Removed,
 }
 
-// How far a compaction goes, the Rust's `Option`: over all that is decided, or up to an index.
+// What a compaction does with the entries that leave the log: a trim drops them, and the held snapshot, which then
+// lacks them; a snapshot folds them onto it.
+pub enum Compaction {
+    Trim,
+    Snapshot,
+}
+
+// How far a compaction goes, the Rust's `Option`: over all that is log-decided, or up to an index.
 pub enum Upto {
-    Decided,
+    All,
     Index(LogIndex),
 }
 

@@ -9,6 +9,8 @@ use lib.ListN.{take}
 use Rattle.words.specs.If.{if_then_else_}
 use Rattle.entry.specs.Limits.{lastWord}
 use Rattle.entry.specs.Change.{Said, place, removed}
+use Rattle.entry.specs.declared.Compaction.{Compaction}
+use Rattle.entry.specs.declared.Compaction.the-variants as compaction
 use Rattle.entry.specs.declared.Ordering.{Ordering}
 use Rattle.entry.specs.declared.Ordering.the-variants.{Less, Equal, Greater}
 use Rattle.model.specs.Read.{Bound, included, excluded, unbounded}
@@ -28,12 +30,15 @@ use Rattle.host.specs.declared.PlainOp.{PlainOp}
 use Rattle.host.specs.declared.PlainOps.{PlainOps}
 use Rattle.host.specs.declared.PlainSync.{PlainSync}
 
--- a number or none, by a flag; an entry's second half
+-- by a flag: a number or none; an entry's second half; what a compaction does
 abbrev pub ofFlag : Bool → ℕ → Option ℕ
 ofFlag given n = if given then some n else none
 
 abbrev pub lentSaid : Bool → ℕ → Said
 lentSaid gone p = if gone then removed else place p
+
+abbrev pub whatOf : Bool → Compaction
+whatOf folds = if folds then compaction.Snapshot else compaction.Trim
 
 abbrev pub orderAs : Ordering → ℕ
 orderAs Less = 0

@@ -7,6 +7,7 @@ use backend::Op;
 use backend::OpKind;
 use backend::OpList;
 use entry::BlockPlace;
+use entry::Compaction;
 use entry::LogIndex;
 use entry::Said as EntrySaid;
 use entry::Upto;
@@ -22,8 +23,8 @@ ghost use Rattle.entry.specs.Change.{saidIs};
 ghost use Rattle.entry.specs.Upto.{uptoOf};
 ghost use Rattle.model.specs.Read.{included, excluded};
 ghost use Rattle.reading.specs.Replies.{boundOf};
-ghost use Rattle.host.specs.Requests.{ofFlag, lentSaid, endAt, kindAt, opAt, knownAt, knownAll, listAt, countAt};
-ghost use Rattle.host.specs.Requests.{nineAt, typeAt, keysAt, syncAt};
+ghost use Rattle.host.specs.Requests.{ofFlag, lentSaid, whatOf, endAt, kindAt, opAt, knownAt, knownAll, listAt};
+ghost use Rattle.host.specs.Requests.{countAt, nineAt, typeAt, keysAt, syncAt};
 
 pub(crate) fn entry_said(removed: bool, place: BlockPlace) -> EntrySaid
     ensures { λ s. ⌜ saidIs s ≡ lentSaid removed (place .0) ⌝ }
@@ -40,7 +41,16 @@ pub(crate) fn upto(given: bool, idx: LogIndex) -> Upto
     if given {
         return Upto::Index(idx);
     }
-    Upto::Decided
+    Upto::All
+}
+
+pub(crate) fn what(folds: bool) -> Compaction
+    ensures { λ c. ⌜ c ≡ whatOf folds ⌝ }
+{
+    if folds {
+        return Compaction::Snapshot;
+    }
+    Compaction::Trim
 }
 
 // One end of a range; `past` for a kind that there is not.

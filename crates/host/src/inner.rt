@@ -23,14 +23,15 @@ ghost use Rattle.entry.specs.Change.{entriesIn, wholeIn};
 ghost use Rattle.model.specs.Numbers.{acceptedOf, stopDecided, logDecided};
 ghost use Rattle.model.specs.Read.{included, excluded};
 ghost use Rattle.model.specs.Calls.{query, read, readDecided, getEntries, getSuffix, lookup as lookupCall, append};
-ghost use Rattle.model.specs.Calls.{appendNow, flush, flushEntries, appendStop, setStop, setPromise, decide, trim};
+ghost use Rattle.model.specs.Calls.{appendNow, flush, flushEntries, appendStop, setStop, setPromise, decide};
+ghost use Rattle.model.specs.Calls.{compact};
 ghost use Rattle.state_cache.specs.State.{raw};
 ghost use Rattle.state_cache.specs.Inner.{Ready};
 ghost use Rattle.state_cache.specs.Run.{run, ofNumbers};
 ghost use Rattle.internal_storage.specs.Replies.{asked as askedSign, withIndexOnly};
 ghost use Rattle.host.specs.Plain.{plain, left, plainly, nothing, aNumber, aFlag, maybeNumber, maybeFlushed};
 ghost use Rattle.host.specs.Plain.{aSpan};
-ghost use Rattle.host.specs.Requests.{endAt, lentSaid};
+ghost use Rattle.host.specs.Requests.{endAt, ofFlag, lentSaid, whatOf};
 ghost use Rattle.host.specs.Reads.{shownAs};
 
 // A key's place: its newest word among the retained entries below log-decided, else the snapshot's.
@@ -365,17 +366,23 @@ pub extern "C" fn kotuseraw_inner_set_decided_idx(
     ))
 }
 
-// Drops the entries below an index, which must not be above decided.
+// Compacts the entries below an index, or all that is log-decided.
 #[no_mangle]
-pub extern "C" fn kotuseraw_inner_try_trim(
+pub extern "C" fn kotuseraw_inner_compact(
     index: IndexRecord,
     log: &mut [u64],
     snapshot: &mut [u64],
+    folds: bool,
+    given: bool,
     idx: LogIndex,
 ) -> Reply
     requires { ⌜ Ready (raw index (now log) (now snapshot)) ⌝ }
     ensures { λ r. ⌜ left (r .said) (raw (r .index) (now (log .exit)) (now (snapshot .exit)))
-        ≡ plainly nothing (run (trim (idx .0)) true (raw index (now (log .entry)) (now (snapshot .entry)))) ⌝ }
+        ≡ plainly nothing
+        (run (compact (whatOf folds) (ofFlag given (idx .0))) true
+        (raw index (now (log .entry)) (now (snapshot .entry)))) ⌝ }
 {
-    answers::settled_reply(compaction::inner::trim_at(index, log, snapshot, idx))
+    let what = asked::what(folds);
+    let upto = asked::upto(given, idx);
+    answers::settled_reply(compaction::inner::compact_at(index, log, snapshot, what, upto))
 }

@@ -13,13 +13,13 @@ ghost use mathlib.Core.Bool.{true};
 ghost use mathlib.Core.List.{[], _∷_};
 ghost use Rattle.entry.specs.Change.{entriesIn, wholeIn};
 ghost use Rattle.model.specs.Calls.{append, appendNow, flush, flushEntries, appendStop, setStop, setPromise, decide};
-ghost use Rattle.model.specs.Calls.{trim, snapshot as snapshotCall, sync as syncCall};
+ghost use Rattle.model.specs.Calls.{compact, sync as syncCall};
 ghost use Rattle.state_cache.specs.State.{raw};
 ghost use Rattle.state_cache.specs.Run.{run};
 ghost use Rattle.internal_storage.specs.Replies.{asked as askedSign, withIndexOnly};
 ghost use Rattle.sync.specs.Requests.{partOf, lentWhole};
 ghost use Rattle.host.specs.Plain.{nothing, aNumber, maybeNumber, maybeFlushed, left, plainly};
-ghost use Rattle.host.specs.Requests.{ofFlag, lentSaid, syncAt};
+ghost use Rattle.host.specs.Requests.{ofFlag, lentSaid, whatOf, syncAt};
 
 // Adds an entry to the batch, as the call for several does. Where `removed` is set the place is not looked at.
 #[no_mangle]
@@ -188,36 +188,26 @@ pub extern "C" fn kotuseraw_set_decided_idx(
     answers::settled_reply(internal_storage::set_decided_idx(index, log, snapshot, idx))
 }
 
-// Drops the entries below an index, which must not be above decided.
+// Compacts the entries below an index: a snapshot where `folds` is set, which folds them onto the held one; else a
+// trim, which drops them and the snapshot. Where `given` is not set it goes over all that is log-decided, and `idx` is
+// not looked at.
 #[no_mangle]
-pub extern "C" fn kotuseraw_try_trim(
+pub extern "C" fn kotuseraw_compact(
     index: IndexRecord,
     log: &mut [u64],
     snapshot: &mut [u64],
-    idx: LogIndex,
-) -> Reply
-    ensures { λ r. ⌜ left (r .said) (raw (r .index) (now (log .exit)) (now (snapshot .exit)))
-        ≡ plainly nothing (run (trim (idx .0)) true (raw index (now (log .entry)) (now (snapshot .entry)))) ⌝ }
-{
-    answers::settled_reply(compaction::try_trim(index, log, snapshot, idx))
-}
-
-// Folds the entries below an index onto the snapshot, and drops them. Where `given` is not set the snapshot goes over
-// all that is decided, and `idx` is not looked at.
-#[no_mangle]
-pub extern "C" fn kotuseraw_try_snapshot(
-    index: IndexRecord,
-    log: &mut [u64],
-    snapshot: &mut [u64],
+    folds: bool,
     given: bool,
     idx: LogIndex,
 ) -> Reply
     ensures { λ r. ⌜ left (r .said) (raw (r .index) (now (log .exit)) (now (snapshot .exit)))
         ≡ plainly nothing
-        (run (snapshotCall (ofFlag given (idx .0))) true (raw index (now (log .entry)) (now (snapshot .entry)))) ⌝ }
+        (run (compact (whatOf folds) (ofFlag given (idx .0))) true
+        (raw index (now (log .entry)) (now (snapshot .entry)))) ⌝ }
 {
-    let to = asked::upto(given, idx);
-    answers::settled_reply(compaction::try_snapshot(index, log, snapshot, to))
+    let what = asked::what(folds);
+    let upto = asked::upto(given, idx);
+    answers::settled_reply(compaction::compact(index, log, snapshot, what, upto))
 }
 
 // Takes over a leader's round and decided index, and its log part. Where `held` is not set there is no log part, and of

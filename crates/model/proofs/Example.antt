@@ -3,19 +3,19 @@
 use Rattle.words.proofs.Prelude.{arith, _≡_, refl, ℕ, true, Option, none, some, List, [], _∷_, _++_}
 use Rattle.words.specs.All.{allOf}
 use Rattle.entry.specs.{Change.Change, Sign.signFormed, Guards.passes, Guards.refuses, Guards.first}
+use Rattle.entry.specs.declared.Compaction.the-variants.{Snapshot}
 use Rattle.snapshot.specs.Folds.{insert, foldOnto, fold, merge, climbs, rising}
 use Rattle.model.specs.Numbers.{endOf, acceptedOf, stopDecided, logDecided, numbersFormed}
 use Rattle.model.specs.Log.{Run, Log, foldedTo, keysFormed, wellFormed, noBallot, freshLog}
 use Rattle.model.specs.Append.{appendGuards, fills, appended}
 use Rattle.model.specs.Backend.{opsFormed}
-use Rattle.model.specs.Compact.{target, passesStart, foldedUpto, trimGuards, snapshotGuards, movedTo, trimmedTo}
-use Rattle.model.specs.Compact.{snapshotTo}
+use Rattle.model.specs.Compact.{target, passesStart, foldedUpto, compactGuards, compactedTo}
 use Rattle.model.specs.Diff.{Given, plain, complete, delta}
 use Rattle.model.specs.Sync.{partFormed, deltaOnto, runThen, partNumberGuards, partGuards, partSynced}
-use Rattle.model.specs.Calls.{Call, append, decide, trim, snapshot, sync, write, malformed, decideGuards}
+use Rattle.model.specs.Calls.{Call, append, decide, compact, sync, write, malformed, decideGuards}
 use Rattle.model.specs.Calls.{syncGuards, further, guards, synced, effect, stateAfter}
 use Rattle.model.specs.History.{syncedHistory, grown, Stands, Event, next, told, AllTruthful, fresh}
-use Rattle.model.specs.Cases.{put, del}
+use Rattle.model.specs.Cases.{put, del, trim}
 
 abbrev says : Call → Event
 says c = record { call = c; behind = [] }
@@ -29,7 +29,7 @@ abbrev toDelta : List Event
 toDelta =
     says (append (put 9 100 ∷ put 4 200 ∷ []))
     ∷ says (decide 2)
-    ∷ says (snapshot none)
+    ∷ says (compact Snapshot none)
     ∷ syncs 3 2 plain (del 9 ∷ put 8 800 ∷ []) []
     ∷ says (trim 9)
     ∷ syncs 5 5 (delta (put 6 600 ∷ put 7 700 ∷ [])) (put 5 500 ∷ []) (put 7 700 ∷ put 6 600 ∷ [])
@@ -52,18 +52,18 @@ toHole = toComplete ++ (says (append (put 2 20 ∷ put 3 30 ∷ [])) ∷ says (d
 abbrev trace : List Event
 trace =
     toHole
-    ++ (says (snapshot none)
+    ++ (says (compact Snapshot none)
     ∷ syncs 9 9 (delta []) [] []
     ∷ syncs 9 9 (complete (put 2 20 ∷ put 3 30 ∷ [])) (del 2 ∷ [])
     (put 2 1 ∷ put 2 2 ∷ put 2 3 ∷ put 2 4 ∷ put 2 5 ∷ put 2 6 ∷ put 2 7 ∷ put 2 20 ∷ put 3 30 ∷ [])
     ∷ says (decide 10)
-    ∷ says (snapshot none)
+    ∷ says (compact Snapshot none)
     ∷ [])
 
 pub premise-met : AllTruthful trace (fresh 0)
 unfolding AllTruthful Stands allOf signFormed first insert foldOnto fold merge climbs rising endOf acceptedOf
     stopDecided logDecided numbersFormed foldedTo keysFormed wellFormed freshLog appendGuards fills appended target
-    passesStart foldedUpto trimGuards snapshotGuards movedTo trimmedTo snapshotTo opsFormed partFormed deltaOnto
+    passesStart foldedUpto compactGuards compactedTo opsFormed partFormed deltaOnto
     runThen partNumberGuards partGuards partSynced malformed decideGuards syncGuards further guards synced effect
     stateAfter syncedHistory grown next told fresh
 premise-met =
@@ -93,11 +93,11 @@ pub on-the-way : (after toDelta .run
     ≡ runAt 5 (put 5 500 ∷ []) (some (put 4 200 ∷ put 6 600 ∷ put 7 700 ∷ del 9 ∷ [])))
     × (after toComplete .run ≡ runAt 6 (put 4 400 ∷ []) (some (put 1 10 ∷ del 4 ∷ [])))
     × (after toHole .run ≡ runAt 7 (put 2 20 ∷ put 3 30 ∷ []) none)
-    × (first (guards (snapshot none) (after toHole)) ≡ refuses 16 0)
+    × (first (guards (compact Snapshot none) (after toHole)) ≡ refuses 16 0)
     × (after trace .run ≡ runAt 10 [] (some (del 2 ∷ put 3 30 ∷ [])))
 unfolding allOf signFormed first insert foldOnto fold merge climbs rising endOf acceptedOf stopDecided
     logDecided numbersFormed foldedTo keysFormed wellFormed freshLog appendGuards fills appended target passesStart
-    foldedUpto trimGuards snapshotGuards movedTo trimmedTo snapshotTo opsFormed partFormed deltaOnto runThen
+    foldedUpto compactGuards compactedTo opsFormed partFormed deltaOnto runThen
     partNumberGuards partGuards partSynced malformed decideGuards syncGuards further guards synced effect stateAfter
     syncedHistory grown next told fresh
 on-the-way = (refl, refl, refl, refl, refl)

@@ -8,6 +8,8 @@ use Rattle.words.proofs.Alls.{all-join, all-take, all-drop}
 use Rattle.entry.specs.{Limits.entryRoom, Limits.keyRoom, Limits.lastIndex, Limits.largestBatch, Change.Change}
 use Rattle.entry.specs.{Change.changeFormed, Change.entriesFormed, Sign.signFormed, Guards.Verdict, Guards.passes}
 use Rattle.entry.specs.{Guards.refuses, Guards.first, declared.Ballot.Ballot, declared.StopSign.StopSign}
+use Rattle.entry.specs.{declared.Compaction.Compaction, declared.Compaction.the-variants.Trim}
+use Rattle.entry.specs.{declared.Compaction.the-variants.Snapshot}
 use Rattle.entry.proofs.GuardLaws.{Passed, passed, passed-right, Clear, clear}
 use Rattle.model.specs.Numbers.{Numbers, endOf, acceptedOf, stopDecided, logDecided}
 use Rattle.model.specs.Log.{Log, given, ifGiven, numbersOf, foldedTo, keysFormed, wellFormed, withMarks, deciding}
@@ -16,12 +18,12 @@ use Rattle.model.specs.Append.{appendGuards, appendStopGuards, setStopGu
 use Rattle.model.specs.Append.{appendedNow, flushed, stopAppended, stopSet, reloaded}
 use Rattle.model.specs.Backend.{Op, Lent, Midst, step, steps, stepGuards, lastGuards, opGuards, midst}
 use Rattle.model.specs.Backend.{writeGuards, listWritten}
-use Rattle.model.specs.Compact.{target, passesStart, foldedUpto, snapshotGuards, movedTo, trimmedTo, snapshotTo}
+use Rattle.model.specs.Compact.{target, passesStart, foldedUpto, compactGuards, heldThen, compactedTo}
 use Rattle.model.specs.Diff.{Given, plain, complete, delta}
 use Rattle.model.specs.Sync.{Part, partFormed, deltaOnto, runThen, partNumberGuards, partGuards, roundGuards}
 use Rattle.model.specs.Sync.{partSynced}
 use Rattle.model.specs.Calls.{Call, query, append, appendNow, flush, flushEntries, appendStop, setStop}
-use Rattle.model.specs.Calls.{setPromise, decide, trim, snapshot, sync, reload, write, malformed, decideGuards}
+use Rattle.model.specs.Calls.{setPromise, decide, compact, sync, reload, write, malformed, decideGuards}
 use Rattle.model.specs.Calls.{syncGuards, further, guards, synced, effect, after, stateAfter}
 use Rattle.model.proofs.Forms.{log-min, Formed, formed-of, of-formed, snapshot-held, snapshot-merge, of-snapshot}
 use Rattle.model.proofs.Forms.{snapshot-folded}
@@ -40,7 +42,7 @@ pub unstopped : (n : Numbers) → stopDecided n ≡ false → logDecided n ≡ n
 unfolding logDecided
 unstopped n e = rw e
 
--- a trim or a snapshot ends at its index or at log-decided, whichever is the lesser
+-- a compaction ends at its index or at log-decided, whichever is the lesser
 pub target-least : (i : ℕ) (n : Numbers) → target (some i) n ≡ min i (logDecided n)
 unfolding target
 target-least i n = go (ltb i (n .decided)) refl
@@ -206,11 +208,20 @@ module _ (s : Log) (f : Formed s) where
     stop = f .stop;
   }
 
+  -- a snapshot that is held once the call stands has room
+  held-formed : (what : Compaction) (upto : Option ℕ) → Clear (compactGuards what upto s) → passesStart upto s ≡ true
+      → ifGiven keysFormed (heldThen what upto s) ≡ true
+  unfolding compactGuards foldedUpto
+  held-formed Trim upto clr e = refl
+  held-formed Snapshot upto clr e =
+      let all : List Change = foldedTo (target upto (numbersOf s)) (s .run) in
+      of-snapshot all (snapshot-folded _ s f) (ltb-false keyRoom (length all) (rw e at (clr 8)))
+
   -- the run's start moved up to a decided index
-  moved-keeps : (upto : Option ℕ) (held : Option (List Change))
-      → (passesStart upto s ≡ true → ifGiven keysFormed held ≡ true) → Formed (movedTo upto held s)
-  unfolding movedTo passesStart acceptedOf endOf
-  moved-keeps upto held w =
+  compact-keeps : (what : Compaction) (upto : Option ℕ) → Clear (compactGuards what upto s)
+      → Formed (compactedTo what upto s)
+  unfolding compactedTo passesStart acceptedOf endOf
+  compact-keeps what upto clr =
       let to = target upto (numbersOf s) in
       let k = target-range upto (numbersOf s) in
       let m = log-min (numbersOf s) (f .numbers .high) in
@@ -230,21 +241,10 @@ module _ (s : Log) (f : Formed s) where
         };
         entries = all-drop changeFormed (to - s .run .compacted) (s .run .retained) (f .entries);
         batch = f .batch;
-        snapshot = w e;
+        snapshot = held-formed what upto clr e;
         stop = f .stop;
       })
       (λ e. f)
-
-  trim-keeps : (upto : Option ℕ) → Formed (trimmedTo upto s)
-  unfolding trimmedTo
-  trim-keeps upto = moved-keeps upto none (λ e. refl)
-
-  snapshot-keeps : (upto : Option ℕ) → Clear (snapshotGuards upto s) → Formed (snapshotTo upto s)
-  unfolding snapshotTo snapshotGuards foldedUpto
-  snapshot-keeps upto clr =
-      let all : List Change = foldedTo (target upto (numbersOf s)) (s .run) in
-      moved-keeps upto (some all)
-      (λ e. of-snapshot all (snapshot-folded _ s f) (ltb-false keyRoom (length all) (rw e at (clr 8))))
 
   -- the whole record of a sync with a log part: where the run starts, how long it is, and what is held before it
   part-formed : (b : Ballot) (d : ℕ) (p : Part) → entriesFormed (runThen p s .retained) ≡ true
@@ -413,8 +413,7 @@ keeps (setStop g) s f p = of-formed _ (setStop-keeps s f g (not-false (ifGiven s
 keeps (setPromise b) s f p =
     of-formed _ (marks-keep s f (s .marks .decided) b (s .marks .round) (f .numbers .low) (f .numbers .high))
 keeps (decide i) s f p = of-formed _ (decide-keeps i s f (cleared (decide i) s p))
-keeps (trim i) s f p = of-formed _ (trim-keeps s f (some i))
-keeps (snapshot i) s f p = of-formed _ (snapshot-keeps s f i (cleared (snapshot i) s p))
+keeps (compact what upto) s f p = of-formed _ (compact-keeps s f what upto (cleared (compact what upto) s p))
 keeps (sync b d q) s f p = of-formed _ (sync-keeps s f b d q
     (not-false (ifGiven partFormed q) (argued (sync b d q) s p)) (cleared (sync b d q) s p))
 keeps reload s f p = of-formed _ (reload-keeps s f)

@@ -8,3 +8,4 @@ pub mod Shows
 pub mod Cases
 pub mod Example
 pub mod Holes
+pub mod Compactions

@@ -4,18 +4,19 @@ use Rattle.words.proofs.Prelude.{arith, _≡_, refl, sym, ap, _∙_, ℕ, Bool,
 use Rattle.words.proofs.Prelude.{[], _∷_, _++_, map}
 use mathlib.Core.List.{map-append}
 use Rattle.entry.specs.Guards.{Guard, refuses, first}
+use Rattle.entry.specs.declared.Compaction.the-variants.{Trim, Snapshot}
 use Rattle.model.specs.Numbers.{Numbers}
 use Rattle.model.specs.Log.{Log, numbersOf}
 use Rattle.model.specs.Append.{appendGuards, appendStopGuards, setStopGuards}
 use Rattle.model.specs.Backend.{Op, appendEntries, appendOnPrefix, setDecided, setCompacted, trim as opTrim}
 use Rattle.model.specs.Backend.{setPromise as opPromise, setRound, setSign, setSnapshot, Lent, Midst, midst, step}
 use Rattle.model.specs.Backend.{stepGuards, lastGuards, opGuards, writeGuards}
-use Rattle.model.specs.Compact.{trimGuards, snapshotGuards, createGuards}
+use Rattle.model.specs.Compact.{compactGuards, createGuards}
 use Rattle.model.specs.Diff.{diffGuards}
 use Rattle.model.specs.Sync.{partNumberGuards, partGuards, roundGuards}
 use Rattle.model.specs.Calls.{Query, read, readDecided, getSuffix, create, diff, lookup, getEntries, Call, query}
 use Rattle.model.specs.Calls.{append, appendNow, flush, flushEntries, appendStop, setStop, setPromise, decide}
-use Rattle.model.specs.Calls.{trim, snapshot, sync, reload, write, decideGuards, syncGuards, queryGuards, further}
+use Rattle.model.specs.Calls.{compact, sync, reload, write, decideGuards, syncGuards, queryGuards, further}
 use Rattle.model.specs.Calls.{guards}
 use Rattle.model.specs.Orders.{queryOrder, opOrder, opsOrder, orderOf, carriesOf}
 
@@ -71,8 +72,8 @@ call-rows (appendStop g) s = unfold appendStopGuards in refl
 call-rows (setStop g) s = unfold setStopGuards in refl
 call-rows (setPromise b) s = refl
 call-rows (decide i) s = unfold decideGuards in refl
-call-rows (trim i) s = unfold trimGuards in refl
-call-rows (snapshot i) s = unfold snapshotGuards in refl
+call-rows (compact Trim upto) s = unfold compactGuards in refl
+call-rows (compact Snapshot upto) s = unfold compactGuards in refl
 call-rows (sync b d none) s = unfold syncGuards roundGuards in refl
 call-rows (sync b d (some p)) s = unfold syncGuards partNumberGuards partGuards in refl
 call-rows reload s = refl

@@ -5,7 +5,8 @@ use Rattle.words.proofs.Prelude.{length-drop, length-take, length-append, lengt
 use lib.Seq.{take-append-le, drop-append-le, take-at, drop-at, take-take, drop-drop, take-add}
 use Rattle.words.proofs.{Tests.or-left, Tests.or-right, Tests.either, Laws.drop-take}
 use Rattle.entry.specs.{Limits.largestBatch, Change.Change, Guards.Verdict, Guards.passes, Guards.refuses, Guards.first}
-use Rattle.entry.specs.{declared.StopSign.StopSign}
+use Rattle.entry.specs.{declared.StopSign.StopSign, declared.Compaction.Compaction}
+use Rattle.entry.specs.declared.Compaction.the-variants.{Trim, Snapshot}
 use Rattle.entry.proofs.GuardLaws.{Passed, passed, Clear}
 use Rattle.snapshot.specs.Folds.{fold, merge, foldOnto}
 use Rattle.snapshot.proofs.Folds.{fold-append, merge-fold}
@@ -13,11 +14,11 @@ use Rattle.model.specs.Numbers.{Numbers, endOf, logDecided}
 use Rattle.model.specs.Log.{Run, Log, numbersOf, orEmpty, foldedTo, hole, wellFormed, waiting, withTail}
 use Rattle.model.specs.Log.{freshLog}
 use Rattle.model.specs.Append.{joined, batchWith, fills, appended, appendedNow, flushed, stopAppended, stopSet}
-use Rattle.model.specs.Compact.{target, passesStart, foldedUpto, snapshotGuards, movedTo, trimmedTo, snapshotTo}
+use Rattle.model.specs.Compact.{target, passesStart, foldedUpto, compactGuards, heldThen, compactedTo}
 use Rattle.model.specs.Diff.{Given, plain, complete, delta}
 use Rattle.model.specs.Sync.{deltaOnto, runThen, partNumberGuards, partGuards, partSynced}
 use Rattle.model.specs.Calls.{Call, query, append, appendNow, flush, flushEntries, appendStop, setStop}
-use Rattle.model.specs.Calls.{setPromise, decide, trim, snapshot, sync, reload, write, syncGuards, further}
+use Rattle.model.specs.Calls.{setPromise, decide, compact, sync, reload, write, syncGuards, further}
 use Rattle.model.specs.Calls.{guards, synced, effect, after, stateAfter}
 use Rattle.model.specs.History.{syncedHistory, grown, Stands, Truthful, Event, Told, historyAfter, next, told}
 use Rattle.model.specs.History.{AllTruthful, fresh}
@@ -109,41 +110,32 @@ part-agrees d i (delta c) es z x s h w clr t a =
     (omega (arith, a .ends, t .0, w .high, unstopped n (clr 4), ltb-false i (s .marks .decided) (clr 5))))
     (unfold deltaOnto in rw (folded-is (s .run) h a (clr 16) (logDecided n) (w .low), fold-on, t .1, merge-fold))
 
--- a trim or a snapshot, by what is held where it passes compacted
-compact-agrees : (upto : Option ℕ) (held : Option (List Change)) (s : Log) (h : List Change) → Ranges (numbersOf s)
-    → Agrees (s .run) h
-    → (passesStart upto s ≡ true
-    → hole (record { compacted = target upto (numbersOf s); retained = []; held = held }) ≡ false
-    → orEmpty held ≡ fold (take (target upto (numbersOf s)) h))
-    → Agrees (movedTo upto held s .run) h
-unfolding movedTo passesStart endOf
-compact-agrees upto held s h w a below =
+-- what is held once a compaction passes compacted: after a trim there is a hole
+held-agrees : (what : Compaction) (upto : Option ℕ) (s : Log) (h : List Change) → Agrees (s .run) h
+    → Clear (compactGuards what upto s) → passesStart upto s ≡ true
+    → hole (record { compacted = target upto (numbersOf s); retained = []; held = heldThen what upto s }) ≡ false
+    → orEmpty (heldThen what upto s) ≡ fold (take (target upto (numbersOf s)) h)
+unfolding passesStart compactGuards foldedUpto
+held-agrees Trim upto s h a clr e whole =
     let to : ℕ = target upto (numbersOf s) in
-    either (λ (t : Log). Agrees (t .run) h) (ltb (s .run .compacted) to) _ _
-    (λ e. moved-agrees (s .run) h a to held (ltb-true (s .run .compacted) to e)
-    (omega (arith, target-range upto (numbersOf s), w .high)) (below e))
-    (λ e. a)
-
--- a trim that passes leaves a hole
-trim-agrees : (upto : Option ℕ) (s : Log) (h : List Change) → Ranges (numbersOf s) → Agrees (s .run) h
-    → Agrees (trimmedTo upto s .run) h
-unfolding trimmedTo passesStart
-trim-agrees upto s h w a =
-    let to : ℕ = target upto (numbersOf s) in
-    compact-agrees upto none s h w a
-    (λ e whole. absurd (omega (arith, ltb-true (s .run .compacted) to e, ltb-false 0 to (sole (ltb 0 to) whole))))
+    absurd (omega (arith, ltb-true (s .run .compacted) to e, ltb-false 0 to (sole (ltb 0 to) whole)))
   where
     sole : (t : Bool) → (t && true) ≡ false → t ≡ false
     sole true e = e
     sole false e = refl
-
-snapshot-agrees : (upto : Option ℕ) (s : Log) (h : List Change) → Ranges (numbersOf s)
-    → Clear (snapshotGuards upto s) → Agrees (s .run) h → Agrees (snapshotTo upto s .run) h
-unfolding snapshotTo snapshotGuards foldedUpto passesStart
-snapshot-agrees upto s h w clr a =
+held-agrees Snapshot upto s h a clr e whole =
     let to : ℕ = target upto (numbersOf s) in
-    compact-agrees upto (some (foldedTo to (s .run))) s h w a
-    (λ e whole. folded-is (s .run) h a (rw e at (clr 16)) to (omega (arith, ltb-true (s .run .compacted) to e)))
+    folded-is (s .run) h a (rw e at (clr 16)) to (omega (arith, ltb-true (s .run .compacted) to e))
+
+compact-agrees : (what : Compaction) (upto : Option ℕ) (s : Log) (h : List Change) → Ranges (numbersOf s)
+    → Clear (compactGuards what upto s) → Agrees (s .run) h → Agrees (compactedTo what upto s .run) h
+unfolding compactedTo passesStart endOf
+compact-agrees what upto s h w clr a =
+    let to : ℕ = target upto (numbersOf s) in
+    either (λ (t : Log). Agrees (t .run) h) (ltb (s .run .compacted) to) _ _
+    (λ e. moved-agrees (s .run) h a to (heldThen what upto s) (ltb-true (s .run .compacted) to e)
+    (omega (arith, target-range upto (numbersOf s), w .high)) (held-agrees what upto s h a clr e))
+    (λ e. a)
 
 append-agrees : (es : List Change) (s : Log) (h : List Change) → Agrees (s .run) h
     → Agrees (appended es s .run) (if fills es s then h ++ batchWith es s else h)
@@ -169,10 +161,9 @@ stands (appendStop g) x s h w p t a = unfold stopAppended flushed in joined-agre
 stands (setStop g) x s h w p t a = unfold stopSet in a
 stands (setPromise b) x s h w p t a = a
 stands (decide i) x s h w p t a = a
-stands (trim i) x s h w p t a = trim-agrees (some i) s h (ranges (numbersOf s) (formed-of s w .numbers)) a
-stands (snapshot i) x s h w p t a =
-    snapshot-agrees i s h (ranges (numbersOf s) (formed-of s w .numbers))
-    (unfold further in cleared (snapshot i) s p) a
+stands (compact what upto) x s h w p t a =
+    compact-agrees what upto s h (ranges (numbersOf s) (formed-of s w .numbers))
+    (unfold further in cleared (compact what upto) s p) a
 stands (sync b d none) x s h w p t a = unfold synced in a
 stands (sync b d (some q)) x s h w p t a =
     unfold synced partSynced in

@@ -9,6 +9,7 @@ use Rattle.entry.specs.Change.{Change, entriesFormed}
 use Rattle.entry.specs.Sign.{signFormed}
 use Rattle.entry.specs.Guards.{Guard, guard, Verdict, passes, refuses, first, Answer, settle}
 use Rattle.entry.specs.declared.Ballot.{Ballot}
+use Rattle.entry.specs.declared.Compaction.{Compaction}
 use Rattle.entry.specs.declared.StopSign.{StopSign}
 use Rattle.model.specs.Numbers.{Numbers, acceptedOf, logDecided}
 use Rattle.model.specs.Log.{Log, given, ifGiven, numbersOf, wellFormed, deciding, promising, withMarks}
@@ -17,7 +18,7 @@ use Rattle.model.specs.Append.{stopAppended, stopSet, reloaded, Flushed,
 use Rattle.model.specs.Backend.{Op, Lent, opsFormed, writeGuards, listWritten}
 use Rattle.model.specs.Read.{Bound, startPast, stopPast, Span, Shown}
 use Rattle.model.specs.Read.{readReply, decidedSuffix, entriesBetween, suffixFrom}
-use Rattle.model.specs.Compact.{trimGuards, snapshotGuards, createGuards, created, trimmedTo, snapshotTo}
+use Rattle.model.specs.Compact.{compactGuards, createGuards, created, compactedTo}
 use Rattle.model.specs.Diff.{Given, diffOf, diffGuards}
 use Rattle.model.specs.Sync.{Part, partFormed, partGuards, roundGuards, marksThen, partSynced}
 use Rattle.model.specs.Lookup.{lookupReply}
@@ -32,8 +33,8 @@ pub data Query : Type 0 where
 
 -- the others, by the Rust's names: append_entry_with_batching and append_entries_with_batching (append),
 -- append_entries_without_batching (appendNow), flush_batch, flush_batch_and_get_entries (flushEntries),
--- append_stopsign, set_stopsign, set_promise, set_decided_idx, try_trim, try_snapshot, sync_log, load_cache (reload),
--- write_atomically (write)
+-- append_stopsign, set_stopsign, set_promise, set_decided_idx, try_trim and try_snapshot (compact), sync_log,
+-- load_cache (reload), write_atomically (write)
 pub data Call : Type 0 where
   query : Query → Call
   append appendNow : List Change → Call
@@ -41,8 +42,8 @@ pub data Call : Type 0 where
   appendStop : StopSign → Call
   setStop : Option StopSign → Call
   setPromise : Ballot → Call
-  decide trim : ℕ → Call
-  snapshot : Option ℕ → Call
+  decide : ℕ → Call
+  compact : Compaction → Option ℕ → Call
   sync : Ballot → ℕ → Option Part → Call
   reload : Call
   write : Lent → List Op → Call
@@ -71,8 +72,7 @@ Reply (appendStop g) = Option Flushed
 Reply (setStop g) = ℕ
 Reply (setPromise b) = Unit {0}
 Reply (decide i) = Unit {0}
-Reply (trim i) = Unit {0}
-Reply (snapshot i) = Unit {0}
+Reply (compact what upto) = Unit {0}
 Reply (sync b d p) = ℕ
 Reply reload = ℕ
 Reply (write l ops) = Unit {0}
@@ -97,8 +97,7 @@ malformed (appendStop g) = not (signFormed g)
 malformed (setStop g) = not (ifGiven signFormed g)
 malformed (setPromise b) = false
 malformed (decide i) = false
-malformed (trim i) = false
-malformed (snapshot i) = false
+malformed (compact what upto) = false
 malformed (sync b d p) = not (ifGiven partFormed p)
 malformed reload = false
 malformed (write l ops) = not (opsFormed l ops)
@@ -130,8 +129,7 @@ further (appendStop g) s = appendStopGuards (numbersOf s)
 further (setStop g) s = setStopGuards (given g) (numbersOf s)
 further (setPromise b) s = []
 further (decide i) s = decideGuards i (numbersOf s)
-further (trim i) s = trimGuards (some i) (numbersOf s)
-further (snapshot i) s = snapshotGuards i s
+further (compact what upto) s = compactGuards what upto s
 further (sync b d p) s = syncGuards d p s
 further reload s = []
 further (write l ops) s = writeGuards l ops s
@@ -155,8 +153,7 @@ effect (appendStop g) s = stopAppended g s
 effect (setStop g) s = stopSet g s
 effect (setPromise b) s = withMarks (promising b (s .marks)) s
 effect (decide i) s = withMarks (deciding i (s .marks)) s
-effect (trim i) s = trimmedTo (some i) s
-effect (snapshot i) s = snapshotTo i s
+effect (compact what upto) s = compactedTo what upto s
 effect (sync b d p) s = synced b d p s
 effect reload s = reloaded s
 effect (write l ops) s = listWritten l ops s
@@ -181,8 +178,7 @@ replyOf (appendStop g) s = flushReply s
 replyOf (setStop g) s = acceptedOf (numbersOf (stopSet g s))
 replyOf (setPromise b) s = tt
 replyOf (decide i) s = tt
-replyOf (trim i) s = tt
-replyOf (snapshot i) s = tt
+replyOf (compact what upto) s = tt
 replyOf (sync b d p) s = acceptedOf (numbersOf (synced b d p s))
 replyOf reload s = acceptedOf (numbersOf (reloaded s))
 replyOf (write l ops) s = tt

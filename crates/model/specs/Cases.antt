@@ -8,11 +8,12 @@ use Rattle.entry.specs.Limits.{mostMetadata}
 use Rattle.entry.specs.Change.{Change, place, removed}
 use Rattle.entry.specs.Guards.{Answer, refused, replied}
 use Rattle.entry.specs.declared.StopSign.{StopSign}
+use Rattle.entry.specs.declared.Compaction.the-variants.{Trim}
 use Rattle.snapshot.specs.Folds.{fold}
 use Rattle.model.specs.Log.{Log, noBallot, withRun, freshLog}
 use Rattle.model.specs.Append.{Flushed}
 use Rattle.model.specs.Read.{included, excluded, trimmed, span, noSpan, Shown, shown, emptyRun}
-use Rattle.model.specs.Calls.{read, query, append, trim, answerTo, stateAfter}
+use Rattle.model.specs.Calls.{read, query, append, Call, compact, answerTo, stateAfter}
 
 abbrev pub put : ℕ → ℕ → Change
 put k p = record { key = k; said = place p }
@@ -58,6 +59,9 @@ pub record Case : Type 0 where
 abbrev pub readCase : ℕ → ℕ → Option Shown → Case
 readCase a b r =
     record { seen = reads (answerTo (query (read (included a) (excluded b))) (logL 4)); due = reads (replied r) }
+
+abbrev pub trim : ℕ → Call
+trim i = compact Trim (some i)
 
 abbrev pub trimCase : ℕ → Answer (Unit {0}) → Log → Case
 trimCase i a s = record { seen = trims (answerTo (trim i) (logL 6)) (stateAfter (trim i) (logL 6)); due = trims a s }

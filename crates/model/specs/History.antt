@@ -16,7 +16,7 @@ use Rattle.model.specs.Diff.{plain, complete, delta}
 use Rattle.model.specs.Sync.{Part}
 use Rattle.model.specs.Orders.{Moving, neither, synced, movingOf}
 use Rattle.model.specs.Calls.{Call, query, append, appendNow, flush, flushEntries, appendStop, setStop}
-use Rattle.model.specs.Calls.{setPromise, decide, trim, snapshot, sync, reload, write, guards, stateAfter}
+use Rattle.model.specs.Calls.{setPromise, decide, compact, sync, reload, write, guards, stateAfter}
 
 -- "A plain sync keeps the first sync_idx and joins the suffix. A complete sync stands for a list of sync_idx entries,
 -- a delta for sync_idx less log-decided (as held before the call) of them, following our first log-decided; then the
@@ -40,8 +40,7 @@ grown (appendStop g) x s h = h ++ s .tail .batched
 grown (setStop g) x s h = h
 grown (setPromise b) x s h = h
 grown (decide i) x s h = h
-grown (trim i) x s h = h
-grown (snapshot i) x s h = h
+grown (compact what upto) x s h = h
 grown (sync b d none) x s h = h
 grown (sync b d (some p)) x s h = syncedHistory p x s h
 grown reload x s h = h
@@ -67,8 +66,7 @@ admitted (appendStop g) = true
 admitted (setStop g) = true
 admitted (setPromise b) = true
 admitted (decide i) = true
-admitted (trim i) = true
-admitted (snapshot i) = true
+admitted (compact what upto) = true
 admitted (sync b d p) = true
 admitted reload = false
 admitted (write l ops) = false

@@ -5,12 +5,13 @@ use mathlib.Core.Option.{Option, none, some}
 use lib.Dec.{eqb}
 use Rattle.words.specs.If.{if_then_else_}
 use Rattle.model.specs.Numbers.{Numbers, endOf, acceptedOf}
+use Rattle.model.specs.Compact.{snapshotsOnly}
 use Rattle.model.specs.Sync.{Part, partNumbers, decidedThen, acceptedThen}
 use Rattle.model.specs.Backend.{Op, appendEntries, appendOnPrefix, setDecided, setCompacted, trim as opTrim}
 use Rattle.model.specs.Backend.{setPromise as opPromise, setRound, setSign, setSnapshot}
 use Rattle.model.specs.Calls.{Query, read, readDecided, getSuffix, create, diff, lookup, getEntries, Call, query}
 use Rattle.model.specs.Calls.{append, appendNow, flush, flushEntries, appendStop, setStop, setPromise, decide}
-use Rattle.model.specs.Calls.{trim, snapshot, sync, reload, write}
+use Rattle.model.specs.Calls.{compact, sync, reload, write}
 
 abbrev pub queryOrder : Query → List ℕ
 queryOrder (read a b) = []
@@ -47,8 +48,7 @@ orderOf (appendStop g) = 4 ∷ 9 ∷ []
 orderOf (setStop g) = 4 ∷ 10 ∷ 9 ∷ []
 orderOf (setPromise b) = []
 orderOf (decide i) = 5 ∷ 6 ∷ []
-orderOf (trim i) = 2 ∷ []
-orderOf (snapshot i) = 2 ∷ 16 ∷ 8 ∷ []
+orderOf (compact what upto) = 2 ∷ snapshotsOnly what (16 ∷ 8 ∷ [])
 orderOf (sync b d none) = 6 ∷ []
 orderOf (sync b d (some p)) = 4 ∷ 5 ∷ 7 ∷ 10 ∷ 9 ∷ 1 ∷ 6 ∷ 2 ∷ 16 ∷ 8 ∷ []
 orderOf reload = []
@@ -69,8 +69,7 @@ movingOf (appendStop g) = neither
 movingOf (setStop g) = neither
 movingOf (setPromise b) = neither
 movingOf (decide i) = neither
-movingOf (trim i) = neither
-movingOf (snapshot i) = neither
+movingOf (compact what upto) = neither
 movingOf (sync b d p) = synced d p
 movingOf reload = neither
 movingOf (write l ops) = neither

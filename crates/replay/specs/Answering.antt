@@ -13,7 +13,7 @@ use Rattle.model.specs.Numbers.{acceptedOf}
 use Rattle.model.specs.Log.{given}
 use Rattle.model.specs.Append.{Flushed}
 use Rattle.model.specs.Read.{included, excluded, Marker, trimmed, snapshotted, span, Shown, shown}
-use Rattle.model.specs.Calls.{query, read, append, flush, appendStop, decide, trim, snapshot}
+use Rattle.model.specs.Calls.{query, read, append, flush, appendStop, decide, compact}
 use Rattle.state_cache.specs.State.{Raw, oneIf}
 use Rattle.state_cache.specs.Run.{Outcome, run, freshCall, ofNumbers}
 use Rattle.text.specs.Answers.{lineOf, entryLines}
@@ -131,7 +131,6 @@ answering (command.Del k) r = printed appendedText (run (append (one k removed))
 answering (command.Read from to) r = printed readText (run (query (read (included from) (excluded to))) true r)
 answering command.Flush r = printed acceptedText (run flush true r)
 answering (command.Decide i) r = printed settledText (run (decide i) true r)
-answering (command.Snap upto) r = printed settledText (run (snapshot (uptoOf upto)) true r)
+answering (command.Compact what upto) r = printed settledText (run (compact what (uptoOf upto)) true r)
 answering (command.Stop c) r = stoppedBy (run (appendStop (stopOf c)) true r)
-answering (command.Trim i) r = printed settledText (run (trim i) true r)
 answering command.BadLine r = printout (lineOf BadLine) r

@@ -1,5 +1,6 @@
 // What each command does to the log, and what answers it, put into out from index `at` on.
 use entry::BlockPlace;
+use entry::Compaction;
 use entry::LogIndex;
 use entry::Said;
 use entry::StopSign;
@@ -23,7 +24,7 @@ ghost use Rattle.model.specs.Calls.{append};
 ghost use Rattle.state_cache.specs.Run.{run, settled, indexSaid};
 ghost use Rattle.internal_storage.specs.Replies.{appendSaid};
 ghost use Rattle.text.specs.Answers.{lineOf};
-ghost use Rattle.text.specs.declared.Command.the-variants.{Batch, Read, Flush, Decide, Snap, Stop, Trim};
+ghost use Rattle.text.specs.declared.Command.the-variants.{Batch, Read, Flush, Decide, Compact, Stop};
 ghost use Rattle.replay.specs.Answering.{printout, settledText, acceptedText, appendedText, printed, telling};
 ghost use Rattle.replay.specs.Answering.{stopOf, stopLine, one, answering};
 ghost use Rattle.replay.specs.Feeding.{answerRoom, after};
@@ -160,11 +161,17 @@ fn decide(index: IndexRecord, log: &[u64], snapshot: &[u64], i: u64) -> Answered
     }
 }
 
-fn snap(index: IndexRecord, log: &mut [u64], snapshot: &mut [u64], upto: Upto) -> Answered
+fn compact(
+    index: IndexRecord,
+    log: &mut [u64],
+    snapshot: &mut [u64],
+    what: Compaction,
+    upto: Upto,
+) -> Answered
     ensures { λ r. ⌜ telling (r .reply) (raw (r .index) (now (log .exit)) (now (snapshot .exit)))
-        ≡ answering (Snap upto) (raw index (now (log .entry)) (now (snapshot .entry))) ⌝ }
+        ≡ answering (Compact what upto) (raw index (now (log .entry)) (now (snapshot .entry))) ⌝ }
 {
-    let to = compaction::try_snapshot(index, log, snapshot, upto);
+    let to = compaction::compact(index, log, snapshot, what, upto);
     let answer = to.answer;
     let next = to.index;
     let line = settled_line(answer);
@@ -219,20 +226,6 @@ fn stop(index: IndexRecord, log: &[u64], snapshot: &[u64], c: u32) -> Answered
     }
 }
 
-fn trim(index: IndexRecord, log: &mut [u64], snapshot: &mut [u64], i: u64) -> Answered
-    ensures { λ r. ⌜ telling (r .reply) (raw (r .index) (now (log .exit)) (now (snapshot .exit)))
-        ≡ answering (Trim i) (raw index (now (log .entry)) (now (snapshot .entry))) ⌝ }
-{
-    let to = compaction::try_trim(index, log, snapshot, LogIndex(i));
-    let answer = to.answer;
-    let next = to.index;
-    let line = settled_line(answer);
-    Answered {
-        index: next,
-        reply: Reply::Line(line),
-    }
-}
-
 // Does what a line says.
 fn carry_out(
     index: IndexRecord,
@@ -253,9 +246,8 @@ fn carry_out(
         Command::Read(from, to) => read(index, log, snapshot, from, to),
         Command::Flush => flush(index, log, snapshot),
         Command::Decide(i) => decide(index, log, snapshot, i),
-        Command::Snap(upto) => snap(index, log, snapshot, upto),
+        Command::Compact(what, upto) => compact(index, log, snapshot, what, upto),
         Command::Stop(c) => stop(index, log, snapshot, c),
-        Command::Trim(i) => trim(index, log, snapshot, i),
         Command::BadLine => Answered {
             index,
             reply: Reply::Line(Line::BadLine),

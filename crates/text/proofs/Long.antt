@@ -9,11 +9,12 @@ use Rattle.words.specs.All.{allOf}
 use Rattle.words.proofs.Tests.{Reach, reached, short, reach, and-left, and-right}
 use Rattle.words.proofs.Alls.{all-head}
 use Rattle.text.specs.{Bytes.bytes, Rooms.mostDigits, Rooms.inputLine, Number.isDigit, Number.value, Number.plain}
-use Rattle.text.specs.{Number.numeralOf, Parse._is_, Parse.words, Parse.onto, Parse.bareOf, Parse.snapOf}
+use Rattle.text.specs.{Number.numeralOf, Parse._is_, Parse.words, Parse.onto, Parse.bareOf, Parse.compactOf}
 use Rattle.text.specs.{Parse.numberedOf, Parse.withNumber, Parse.withOne, Parse.pairedOf, Parse.withNumbers}
 use Rattle.text.specs.{Parse.withTwo, Parse.commandOf, Parse.parseOf, declared.Parsed.Parsed}
 use Rattle.text.specs.{declared.Parsed.the-variants.Value, declared.Parsed.the-variants.NoNumber}
 use Rattle.text.specs.{declared.Command.the-variants.BadLine}
+use Rattle.entry.specs.declared.Compaction.the-variants.{Trim, Snapshot}
 use Rattle.text.proofs.ParseLaws.{same-lengths}
 
 -- the words of a line, each with a space after it, are as long as the line with one
@@ -53,7 +54,6 @@ module _ (w : List ℕ) (h : length (bytes "decide") < length w) where
         off w "del" (omega arith),
         off w "decide" (omega arith),
         off w "stop" (omega arith),
-        off w "trim" (omega arith),
       )
 
   long-number : (p : Parsed) → withNumber w p ≡ BadLine
@@ -117,16 +117,18 @@ second-long w (Value m) = refl
 second-long w NoNumber = refl
 
 one-long : (w a : List ℕ) → mostDigits < length a → withOne w a ≡ BadLine
-unfolding withOne snapOf
-one-long w a h = go (w is "snap")
+unfolding withOne compactOf
+one-long w a h = go (w is "snap") (w is "trim")
   where
-    go : (t : Bool) → (if t then snapOf a else withNumber w (numeralOf a)) ≡ BadLine
-    go true = rw (off a "all" (omega arith), number-long a h)
-    go false = rw (number-long a h)
+    go : (t u : Bool)
+        → (if t then compactOf Snapshot a else if u then compactOf Trim a else withNumber w (numeralOf a)) ≡ BadLine
+    go true u = rw (off a "all" (omega arith), number-long a h)
+    go false true = rw (off a "all" (omega arith), number-long a h)
+    go false false = rw (number-long a h)
 
 one-other : (w a : List ℕ) → length (bytes "decide") < length w → withOne w a ≡ BadLine
 unfolding withOne
-one-other w a h = rw (off w "snap" (omega arith)) (long-number w h (numeralOf a))
+one-other w a h = rw (off w "snap" (omega arith), off w "trim" (omega arith)) (long-number w h (numeralOf a))
 
 long-one : (w a : List ℕ) → length (bytes "decide") + 1 + mostDigits < length w + 1 + length a → withOne w a ≡ BadLine
 long-one w a h = go (reach (length w) (length (bytes "decide")))

@@ -1,19 +1,21 @@
 -- What a line means: "Commands are the nine shown, with `snap` taking an index or `all`. .. Other lines print `bad
--- line`."
+-- line`." And document 02: ""All" is now open to trimming too (`trim all`)".
 use Prim.Native.Nat.{ℕ, _^_}
 use Prim.Native.String.{String}
 use mathlib.Core.Bool.{Bool, true, false, _&&_}
 use mathlib.Core.List.{List, [], _∷_}
 use lib.Dec.{ltb, eqb}
 use Rattle.words.specs.If.{if_then_else_}
-use Rattle.entry.specs.declared.Upto.the-variants.{Decided, Index}
+use Rattle.entry.specs.declared.Compaction.{Compaction}
+use Rattle.entry.specs.declared.Compaction.the-variants.{Trim, Snapshot}
+use Rattle.entry.specs.declared.Upto.the-variants.{All, Index}
 use Rattle.text.specs.Bytes.{bytes}
 use Rattle.text.specs.Number.{numeralOf}
 use Rattle.text.specs.declared.Parsed.{Parsed}
 use Rattle.text.specs.declared.Parsed.the-variants.{Value, NoNumber}
 use Rattle.text.specs.declared.Command.{Command}
-use Rattle.text.specs.declared.Command.the-variants.{Batch, Put, Del, Read, Flush, Decide, Snap, Stop}
-use Rattle.text.specs.declared.Command.the-variants.{Trim, BadLine}
+use Rattle.text.specs.declared.Command.the-variants.{Batch, Put, Del, Read, Flush, Decide, Compact, Stop}
+use Rattle.text.specs.declared.Command.the-variants.{BadLine}
 
 -- whether two lists of bytes are one
 abbrev pub sameOf : List ℕ → List ℕ → Bool
@@ -46,22 +48,24 @@ numberedOf w n =
     else if w is "del" then Del n
     else if w is "decide" then Decide n
     else if w is "stop" then (if ltb n (2 ^ 32) then Stop n else BadLine)
-    else if w is "trim" then Trim n
     else BadLine
 
 abbrev pub withNumber : List ℕ → Parsed → Command
 withNumber w (Value n) = numberedOf w n
 withNumber w NoNumber = BadLine
 
-abbrev pub snapTo : Parsed → Command
-snapTo (Value n) = Snap (Index (record { 0 = n }))
-snapTo NoNumber = BadLine
+abbrev pub compactTo : Compaction → Parsed → Command
+compactTo what (Value n) = Compact what (Index (record { 0 = n }))
+compactTo what NoNumber = BadLine
 
-unfoldable pub snapOf : List ℕ → Command
-snapOf a = if a is "all" then Snap Decided else snapTo (numeralOf a)
+unfoldable pub compactOf : Compaction → List ℕ → Command
+compactOf what a = if a is "all" then Compact what All else compactTo what (numeralOf a)
 
 unfoldable pub withOne : List ℕ → List ℕ → Command
-withOne w a = if w is "snap" then snapOf a else withNumber w (numeralOf a)
+withOne w a =
+    if w is "snap" then compactOf Snapshot a
+    else if w is "trim" then compactOf Trim a
+    else withNumber w (numeralOf a)
 
 -- a line of three words
 unfoldable pub pairedOf : List ℕ → ℕ → ℕ → Command

@@ -1,8 +1,9 @@
 // The text of a replay: what a line of input means, and the lines that are printed.
+use entry::Compaction;
 use entry::LogIndex;
 use entry::Upto;
 ghost use mathlib.Core.Path.{_≡_};
-ghost use Rattle.text.specs.Parse.{sameOf, bareOf, snapOf, numberedOf, withOne, withTwo, parseOf};
+ghost use Rattle.text.specs.Parse.{sameOf, bareOf, compactOf, numberedOf, withOne, withTwo, parseOf};
 
 pub mod inner;
 
@@ -30,9 +31,8 @@ pub enum Command {
     Read(u64, u64),
     Flush,
     Decide(u64),
-    Snap(Upto),
+    Compact(Compaction, Upto),
     Stop(u32),
-    Trim(u64),
     BadLine,
 }
 
@@ -77,18 +77,18 @@ fn bare(w: &[u8]) -> Command
     Command::BadLine
 }
 
-// What stands after `snap`: `all`, or an index.
-fn snap(a: &[u8]) -> Command
-    ensures { λ r. ⌜ r ≡ snapOf (now (a .entry)) ⌝ }
+// What stands after `snap` or `trim`: `all`, or an index.
+fn compact(what: Compaction, a: &[u8]) -> Command
+    ensures { λ r. ⌜ r ≡ compactOf what (now (a .entry)) ⌝ }
 {
     if same(a, b"all") {
-        return Command::Snap(Upto::Decided);
+        return Command::Compact(what, Upto::All);
     }
     let Parsed::Value(n) = inner::number(a) else {
         return Command::BadLine;
     };
     let upto = Upto::Index(LogIndex(n));
-    Command::Snap(upto)
+    Command::Compact(what, upto)
 }
 
 // A word with a number after it.
@@ -110,9 +110,6 @@ fn numbered(w: &[u8], n: u64) -> Command
         }
         return Command::BadLine;
     }
-    if same(w, b"trim") {
-        return Command::Trim(n);
-    }
     Command::BadLine
 }
 
@@ -121,7 +118,10 @@ fn one(w: &[u8], a: &[u8]) -> Command
     ensures { λ r. ⌜ r ≡ withOne (now (w .entry)) (now (a .entry)) ⌝ }
 {
     if same(w, b"snap") {
-        return snap(a);
+        return compact(Compaction::Snapshot, a);
+    }
+    if same(w, b"trim") {
+        return compact(Compaction::Trim, a);
     }
     let Parsed::Value(n) = inner::number(a) else {
         return Command::BadLine;

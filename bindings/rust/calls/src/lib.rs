@@ -255,9 +255,8 @@ impl Calls {
     fn compact(&mut self, line: &[u64]) -> Option<Vec<u64>> {
         let (record, Words { log, snapshot, output, .. }) = self.lend();
         let reply = match *line {
-            [40, index] => plain::try_trim(*record, log, snapshot, LogIndex(index)),
-            [41, index] => plain::try_snapshot(*record, log, snapshot, true, LogIndex(index)),
-            [42] => plain::try_snapshot(*record, log, snapshot, false, LogIndex(0)),
+            [40, folds, index] => plain::compact(*record, log, snapshot, flag(folds)?, true, LogIndex(index)),
+            [40, folds] => plain::compact(*record, log, snapshot, flag(folds)?, false, LogIndex(0)),
             [43, index] => return Some(replies::number(plain::create_snapshot(*record, log, snapshot, LogIndex(index), output))),
             [44, from] => return Some(replies::diff(plain::create_diff_snapshot(*record, log, snapshot, LogIndex(from), output))),
             _ => return None,
@@ -287,7 +286,8 @@ impl Calls {
                 Some(replies::settled(replies::kept(record, reply)))
             }
             [48, index] => Some(replies::settled(plain::in_place_set_decided_idx(record, log, snapshot, LogIndex(index)))),
-            [49, index] => Some(replies::settled(plain::in_place_try_trim(record, log, snapshot, LogIndex(index)))),
+            [49, index] => Some(replies::settled(plain::in_place_trim(record, log, snapshot, true, LogIndex(index)))),
+            [49] => Some(replies::settled(plain::in_place_trim(record, log, snapshot, false, LogIndex(0)))),
             _ => None,
         }
     }

@@ -186,21 +186,15 @@ fn decide_in_place(turn: &mut Turn, _: &Case, dice: &mut Dice) -> Result<Answer,
     said(plain::in_place_set_decided_idx(&mut turn.record, turn.log.words(), turn.snapshot.words(), idx))
 }
 
-fn trim(turn: &mut Turn, _: &Case, dice: &mut Dice) -> Result<Answer, String> {
-    let idx = dice.index(&turn.record);
-    let made = plain::try_trim(turn.record, turn.log.words_mut(), turn.snapshot.words_mut(), idx);
+fn compact(turn: &mut Turn, dice: &mut Dice, folds: bool) -> Result<Answer, String> {
+    let (given, idx) = (!dice.one_in(3), dice.index(&turn.record));
+    let made = plain::compact(turn.record, turn.log.words_mut(), turn.snapshot.words_mut(), folds, given, idx);
     reply(turn, made)
 }
 
 fn trim_in_place(turn: &mut Turn, _: &Case, dice: &mut Dice) -> Result<Answer, String> {
-    let idx = dice.index(&turn.record);
-    said(plain::in_place_try_trim(&mut turn.record, turn.log.words_mut(), turn.snapshot.words_mut(), idx))
-}
-
-fn snapshot(turn: &mut Turn, _: &Case, dice: &mut Dice) -> Result<Answer, String> {
     let (given, idx) = (!dice.one_in(3), dice.index(&turn.record));
-    let made = plain::try_snapshot(turn.record, turn.log.words_mut(), turn.snapshot.words_mut(), given, idx);
-    reply(turn, made)
+    said(plain::in_place_trim(&mut turn.record, turn.log.words_mut(), turn.snapshot.words_mut(), given, idx))
 }
 
 fn create(turn: &mut Turn, _: &Case, dice: &mut Dice) -> Result<Answer, String> {
@@ -331,9 +325,9 @@ pub const ALL: &[Call] = &[
     }),
     Call::of("set_decided_idx", 10, &[0, 12, 5, 6], Changes::Record, decide),
     Call::of("in_place_set_decided_idx", 5, &[0, 12, 5, 6], Changes::Record, decide_in_place),
-    Call::of("try_trim", 2, &[0, 12, 2], Changes::Words, trim),
-    Call::of("in_place_try_trim", 2, &[0, 12, 2], Changes::Words, trim_in_place),
-    Call::of("try_snapshot", 4, &[0, 12, 2, 16, 8], Changes::Words, snapshot),
+    Call::of("compact, trim", 2, &[0, 12, 2], Changes::Words, |t, _, d| compact(t, d, false)),
+    Call::of("in_place_trim", 2, &[0, 12, 2], Changes::Words, trim_in_place),
+    Call::of("compact, snapshot", 4, &[0, 12, 2, 16, 8], Changes::Words, |t, _, d| compact(t, d, true)),
     Call::of("sync_log without a log part", 1, &[0, 12, 11, 6], Changes::Words, |t, c, d| {
         let kind = d.word();
         sync(t, c, d, false, kind)

@@ -15,11 +15,6 @@ noDecide : (c : tie.Else3) → (now
     (c .before .before .before .before .before .before .before .before .before .before .args .w) is "decide") ≡ false
 noDecide c = sym (c .before .same3 .ensures) ∙ c .if3 .left
 
-noStop : (c : tie.Else4) → (now
-    (c .before .before .before .before .before .before .before .before .before .before .before .before .before .args .w)
-    is "stop") ≡ false
-noStop c = sym (c .before .same4 .ensures) ∙ c .if4 .left
-
 returns : tie.Need-returns
 unfolding numberedOf
 returns c = rw (sym (c .before .same .ensures) ∙ c .if1 .taken)
@@ -56,20 +51,10 @@ returns-5 c =
 returns-6 : tie.Need-returns-6
 unfolding numberedOf
 returns-6 c =
-    let e4 = c .before .before .before in
-    let e3 = e4 .before .before .before in
+    let e3 = c .before .before .before in
     let e2 = e3 .before .before .before in
     let e1 = e2 .before .before .before in
-    rw (noBatch e1, noDel e2, noDecide e3, noStop e4, sym (c .before .same5 .ensures) ∙ c .if6 .taken)
-
-returns-7 : tie.Need-returns-7
-unfolding numberedOf
-returns-7 c =
-    let e4 = c .before .before .before in
-    let e3 = e4 .before .before .before in
-    let e2 = e3 .before .before .before in
-    let e1 = e2 .before .before .before in
-    rw (noBatch e1, noDel e2, noDecide e3, noStop e4, sym (c .before .same5 .ensures) ∙ c .if6 .left)
+    rw (noBatch e1, noDel e2, noDecide e3, sym (c .before .same4 .ensures) ∙ c .if4 .left)
 
 pub numbered-spec : {M : Type 1} → statement M
 numbered-spec =
@@ -89,7 +74,4 @@ numbered-spec =
     (λ c. search needs)
     returns-4
     returns-5
-    (λ c. search needs)
-    (λ c κs. search needs)
-    returns-6
-    returns-7)
+    returns-6)

@@ -50,7 +50,7 @@ returns-6 c =
 returns-7 : tie.Need-returns-7
 returns-7 c =
     let a = c .before .before .before .before .before .before .before .before .before .before .before .before .args in
-    c .before .before .before .before .snap .ensures
+    c .before .before .before .before .compact .ensures
     ∙ sym (ap (λ (x : Command). answering x (raw (a .index) (now (a .log)) (now (a .snapshot))))
     (c .before .before .before .before .before .before .before .before .command6 .given .1))
 
@@ -61,15 +61,8 @@ returns-8 c =
     (c .before .before .before .before .command7 .given .1))
 
 returns-9 : tie.Need-returns-9
-returns-9 c =
-    let a = c .before .before .before .before .before .before .before .before .before .before .before .before .args in
-    c .before .before .before .before .trim .ensures
-    ∙ sym (ap (λ (x : Command). answering x (raw (a .index) (now (a .log)) (now (a .snapshot))))
-    (c .before .before .before .before .before .before .before .before .command8 .given .1))
-
-returns-10 : tie.Need-returns-10
 unfolding answering
-returns-10 c =
+returns-9 c =
     let a = c .before .before .before .before .args in
     sym (ap (λ (x : Command). answering x (raw (a .index) (now (a .log)) (now (a .snapshot))))
     (c .enum-told2 .given .1))
@@ -78,8 +71,6 @@ pub carry-out-spec : {M : Type 1} → statement M
 carry-out-spec =
     tie.close
     (tie.spec
-    (λ c. search needs)
-    (λ c κs. search needs)
     (λ c. search needs)
     (λ c κs. search needs)
     (λ c. search needs)
@@ -121,7 +112,4 @@ carry-out-spec =
     (λ c. search needs)
     (λ c. search needs)
     returns-8
-    (λ c. search needs)
-    (λ c. search needs)
-    returns-9
-    returns-10)
+    returns-9)

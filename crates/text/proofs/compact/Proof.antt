@@ -1,15 +1,15 @@
--- `text::snap` meets its contract: `all`, or a number or none.
+-- `text::compact` meets its contract: `all`, or a number or none.
 use Rattle.words.proofs.Prelude.{needs, sym, _∙_}
-use Rattle.text.specs.Parse.{snapOf}
-use Rattle.text.proofs.snap.Statement.{statement}
-use Rattle.text.proofs.snap.Tie as tie
+use Rattle.text.specs.Parse.{compactOf}
+use Rattle.text.proofs.compact.Statement.{statement}
+use Rattle.text.proofs.compact.Tie as tie
 
 returns : tie.Need-returns
-unfolding snapOf
+unfolding compactOf
 returns c = rw (sym (c .before .same .ensures) ∙ c .if1 .taken)
 
 returns-2 : tie.Need-returns-2
-unfolding snapOf
+unfolding compactOf
 returns-2 c =
     let n = c .before .before in
     rw (
@@ -19,7 +19,7 @@ returns-2 c =
     )
 
 returns-3 : tie.Need-returns-3
-unfolding snapOf
+unfolding compactOf
 returns-3 c =
     let n = c .before .before .before in
     rw (
@@ -28,8 +28,8 @@ returns-3 c =
           ∙ c .before .n .given .1,
     )
 
-pub snap-spec : {M : Type 1} → statement M
-snap-spec =
+pub compact-spec : {M : Type 1} → statement M
+compact-spec =
     tie.close
     (tie.spec
     (λ c. search needs)

@@ -1,19 +1,19 @@
--- `replay::answer::snap` meets its contract: the call's outcome is what is printed.
+-- `replay::answer::compact` meets its contract: the call's outcome is what is printed.
 use Rattle.state_cache.specs.{State.raw, Run.settled}
 use Rattle.replay.specs.Answering.{settledText, answering}
-use Rattle.replay.proofs.{Telling.tells, answer.snap.Statement.statement}
+use Rattle.replay.proofs.{Telling.tells, answer.compact.Statement.statement}
 use Rattle.words.proofs.Prelude.{needs}
-use Rattle.replay.proofs.answer.snap.Tie as tie
+use Rattle.replay.proofs.answer.compact.Tie as tie
 
 returns : tie.Need-returns
 unfolding answering
 returns c =
-    let to = c .before .before .before .before .before .before .try-snapshot in
+    let to = c .before .before .before .before .before .before .compact in
     tells settledText _ (settled (to .result .answer)) (raw (to .result .index) (to .last .1 .0) (to .last .1 .1 .0)) _
     (to .ensures) (c .settled-line .ensures)
 
-pub snap-spec : {M : Type 1} → statement M
-snap-spec =
+pub compact-spec : {M : Type 1} → statement M
+compact-spec =
     tie.close
     (tie.spec
     (λ c κs. search needs)

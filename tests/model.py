@@ -102,6 +102,13 @@ class Log:
         self.compacted = to
         return "ok"
 
+    def find(self, key):
+        decided = dict(self.snapshot or {})
+        decided.update(self.retained[: self.log_decided() - self.compacted])
+        if key not in decided:
+            return "unknown"
+        return "removed" if decided[key] is None else f"place {decided[key]}"
+
     def marker(self):
         if self.snapshot is None:
             return f"trimmed {self.compacted}"
@@ -269,6 +276,8 @@ class Replay:
                 return ["ok"]
             if name == b"del":
                 return [self.log.append(n, None)]
+            if name == b"find":
+                return [self.log.find(n)]
             if name == b"decide":
                 return [self.log.decide(n)]
             if name in (b"snap", b"trim"):

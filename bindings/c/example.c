@@ -14,7 +14,8 @@ int main(void) {
     r = kotuseraw_compact(
         r.index, log, KOTUSERAW_LOG_WORDS, snapshot, KOTUSERAW_SNAPSHOT_WORDS, KOTUSERAW_SNAPSHOT, false, none);
     kotuseraw_said found = kotuseraw_lookup(r.index, log, KOTUSERAW_LOG_WORDS, snapshot, KOTUSERAW_SNAPSHOT_WORDS, 8);
-    printf("refused %d, found %d, place %d\n", (int)found.number, (int)found.told, (int)found.first);
+    if (found.told == KOTUSERAW_FOUND_PLACE)
+        printf("refused %d, place %d\n", (int)found.number, (int)found.first);
     r = kotuseraw_set_decided_idx(r.index, log, KOTUSERAW_LOG_WORDS, snapshot, KOTUSERAW_SNAPSHOT_WORDS, none);
     printf("refused %d, carrying %d\n", (int)r.said.number, (int)r.said.carried);
     kotuseraw_said wrote =

@@ -25,6 +25,9 @@ extern "C" {
 #define KOTUSERAW_TRIM false
 #define KOTUSERAW_SNAPSHOT true
 
+/* What is told of a key. On a log with a hole unknown says only that the log no longer holds it. */
+enum kotuseraw_found { KOTUSERAW_FOUND_UNKNOWN, KOTUSERAW_FOUND_PLACE, KOTUSERAW_FOUND_REMOVED };
+
 /* The number of a change in the log. */
 typedef struct {
     uint64_t value;
@@ -154,6 +157,7 @@ kotuseraw_said kotuseraw_merge(
     const uint64_t *b, size_t b_len,
     size_t m,
     uint64_t *out, size_t out_len);
+/* Told a kotuseraw_found; first the place. */
 kotuseraw_said kotuseraw_find(const uint64_t *s, size_t s_len, size_t keys, uint64_t key);
 kotuseraw_said kotuseraw_create_snapshot(
     kotuseraw_record index,
@@ -312,6 +316,7 @@ kotuseraw_said kotuseraw_in_place_trim(
     kotuseraw_index idx);
 
 /* The calls that read a log and change nothing. */
+/* Told a kotuseraw_found; first the place. */
 kotuseraw_said kotuseraw_lookup(
     kotuseraw_record index,
     const uint64_t *log, size_t log_len,

@@ -378,7 +378,7 @@ fn snapshots(meter: &mut Meter) {
         let place = meter.of("snapshot", &row("find of the last of keys"), "Rust", || {
             made.0.get(&last).copied().flatten()
         });
-        assert_eq!(found.map(|p| p.0), place);
+        assert_eq!(found.place().map(|p| p.0), place);
     }
 }
 
@@ -445,8 +445,8 @@ fn lookups(meter: &mut Meter) {
             meter.of("lookup", &row, "by halves, in the snapshot alone", || {
                 sorted.binary_search_by_key(&k, Entry::key).ok()
             });
-            let found = lent.map(|p| p.0);
-            assert_eq!((found, found, found), (owned.map(|p| p.0), scanned, map));
+            let found = lent.place().map(|p| p.0);
+            assert_eq!((lent, found, found), (owned, scanned, map));
         }
     }
 }

@@ -502,13 +502,19 @@ impl<S: Sight> Judge<S> {
     }
 }
 
+/// What is found of a key, as the port answers it.
+pub fn word(keys: &Keys, key: u64) -> Vec<u64> {
+    match keys.0.get(&key) {
+        None => vec![1],
+        Some(Some(place)) => vec![2, *place],
+        Some(None) => vec![3],
+    }
+}
+
 /// A call of which the Rust has none: what document 01 says of it.
 fn ours(call: &Call, before: &State, told: &Told) -> Result<(), String> {
     let same = |due: &[u64]| differ("the answer", due, told.answer);
-    let found = |keys: &Keys, key: &u64| match keys.0.get(key).copied().flatten() {
-        None => same(&[1]),
-        Some(place) => same(&[2, place]),
-    };
+    let found = |keys: &Keys, key: &u64| same(&word(keys, *key));
     let part = |first: u64, count: u64| {
         let mut log = before.log.clone();
         log.resize(before.lent[0], 0);

@@ -15,6 +15,7 @@ mod differences;
 mod edges;
 mod entry;
 mod figures;
+mod history;
 mod judge;
 mod limits;
 mod lines;

@@ -2,10 +2,10 @@
 //!
 //! Lines that the program refuses, or finds bad, are outside the domain in which document 01 compares the two: the Rust is not asked.
 
-use crate::backend::{Change, Shared};
+use crate::backend::{Change, Keys, Shared};
 use crate::storage::internal_storage::{InternalStorage, InternalStorageConfig};
-use crate::storage::{StopSign, Storage, StorageOp};
-use crate::util::{AcceptedMetaData, LogEntry};
+use crate::storage::{Snapshot, StopSign, Storage, StorageOp};
+use crate::util::LogEntry;
 use crate::ClusterConfig;
 use std::collections::BTreeMap;
 use std::fs;
@@ -17,17 +17,55 @@ struct Report {
     listed: BTreeMap<&'static str, u64>,
 }
 
-/// The Rust's storage, and the backend below it.
+/// The Rust's storage, and the backend below it; and what was appended to it: the history, and the entries that wait in the batch.
 struct Rust {
     shared: Shared,
     storage: InternalStorage<Shared, Change>,
+    history: Vec<Change>,
+    waiting: Vec<Change>,
+}
+
+impl Rust {
+    fn append(&mut self, key: u64, place: Option<u64>) -> Vec<String> {
+        let change = Change { key, place };
+        self.waiting.push(change);
+        let flushed = self.storage.append_entry_with_batching(change).unwrap();
+        if flushed.is_some() {
+            self.flushed();
+        }
+        vec![flushed.map_or("held".to_string(), |m| {
+            format!("accepted {}", m.accepted_idx)
+        })]
+    }
+
+    fn flushed(&mut self) {
+        self.history.append(&mut self.waiting);
+    }
+
+    /// What a map of the history's decided part says of a key; at a hole, of what is left of it.
+    fn find(&self, key: u64) -> String {
+        let start = self.storage.get_compacted_idx();
+        let hole = start > 0 && self.storage.get_snapshot().unwrap().is_none();
+        let decided = self.storage.get_decided_idx().min(self.history.len());
+        let from = if hole { start } else { 0 };
+        match Keys::create(&self.history[from..decided]).0.get(&key) {
+            None => "unknown".to_string(),
+            Some(None) => "removed".to_string(),
+            Some(Some(place)) => format!("place {place}"),
+        }
+    }
 }
 
 fn rust_of(size: usize) -> Rust {
     let shared = Shared::default();
     let config = InternalStorageConfig { batch_size: size };
     let storage = InternalStorage::with(shared.clone(), config);
-    Rust { shared, storage }
+    Rust {
+        shared,
+        storage,
+        history: vec![],
+        waiting: vec![],
+    }
 }
 
 /// After a trim from `start` on that docs/DIFFERENCES.md lists the snapshot is dropped here too. Whether it was one.
@@ -76,12 +114,6 @@ fn shown(entry_of_log: &LogEntry<Change>) -> String {
     }
 }
 
-fn appended(meta: Option<AcceptedMetaData<Change>>) -> Vec<String> {
-    vec![meta.map_or("held".to_string(), |m| {
-        format!("accepted {}", m.accepted_idx)
-    })]
-}
-
 /// What the Rust answers to a line that the program does not refuse.
 fn answer(judge: &mut Rust, line: &str) -> Vec<String> {
     let words: Vec<&str> = line.split(' ').collect();
@@ -94,21 +126,14 @@ fn answer(judge: &mut Rust, line: &str) -> Vec<String> {
             *judge = rust_of(index(1));
             done
         }
-        "put" => appended(
-            rust.append_entry_with_batching(Change {
-                key: number(1),
-                place: Some(number(2)),
-            })
-            .unwrap(),
-        ),
-        "del" => appended(
-            rust.append_entry_with_batching(Change {
-                key: number(1),
-                place: None,
-            })
-            .unwrap(),
-        ),
-        "flush" => vec![format!("accepted {}", rust.flush_batch().unwrap())],
+        "put" => judge.append(number(1), Some(number(2))),
+        "del" => judge.append(number(1), None),
+        "find" => vec![judge.find(number(1))],
+        "flush" => {
+            let accepted = rust.flush_batch().unwrap();
+            judge.flushed();
+            vec![format!("accepted {accepted}")]
+        }
         "decide" => {
             rust.set_decided_idx(index(1)).unwrap();
             done
@@ -131,7 +156,9 @@ fn answer(judge: &mut Rust, line: &str) -> Vec<String> {
                 flexible_quorum: None,
             };
             rust.append_stopsign(StopSign::with(config, None)).unwrap();
-            vec![format!("accepted {}", rust.get_accepted_idx())]
+            let accepted = rust.get_accepted_idx();
+            judge.flushed();
+            vec![format!("accepted {accepted}")]
         }
         "read" => match rust.read(index(1)..index(2)).unwrap() {
             None => vec!["none".to_string()],

@@ -89,7 +89,7 @@ pub fn merged(first: &Keys, second: &Keys) -> Keys {
 }
 
 /// Whether entries were dropped that no held snapshot has: nothing may be folded onto such a log.
-fn hole(s: &State) -> bool {
+pub fn hole(s: &State) -> bool {
     s.compacted > 0 && !s.snapshot_held
 }
 

@@ -2,6 +2,7 @@
 //! not refused its reply and the whole state after it are held to the Rust's.
 use crate::backend::Shared;
 use crate::call::Call;
+use crate::history::History;
 use crate::judge::{Judge, Told, Verdict};
 use crate::port::Port;
 use crate::rules;
@@ -17,6 +18,8 @@ pub struct Report {
     listed: BTreeMap<&'static str, u64>,
     same: u64,
     ours: u64,
+    /// Lookups that say unknown, at a hole, of a key that the history has.
+    lost: u64,
 }
 
 impl Report {
@@ -70,6 +73,10 @@ impl Report {
             "{asked} calls: {} as the Rust, {} of calls that it has not, {refused} refused as document 01 says",
             self.same, self.ours
         );
+        println!(
+            "lookups at a hole that say unknown of a key that the history has: {}",
+            self.lost
+        );
         let missing = self.missing();
         for cell in &missing {
             println!("NOT MET: {cell}");
@@ -98,6 +105,8 @@ pub struct Runner {
     judge: Judge<Shared>,
     /// The Rust over the proved library in place of our backend, where it is asked too.
     stored: Option<Judge<Stored>>,
+    /// The log's history, where the state is well formed.
+    history: History,
     /// The state that was set last, and the calls since.
     from: State,
     path: Vec<Call>,
@@ -114,6 +123,7 @@ impl Runner {
             output: vec![],
             judge: Judge::of(&fresh),
             stored: None,
+            history: History::of(&fresh),
             from: fresh.clone(),
             state: fresh,
             path: vec![],
@@ -146,6 +156,7 @@ impl Runner {
     fn stand(&mut self, state: State) {
         if state.well_formed() {
             self.judge = Judge::of(&state);
+            self.history = History::of(&state);
             if let Some(stored) = &mut self.stored {
                 *stored = Judge::of(&state);
             }
@@ -214,10 +225,25 @@ impl Runner {
             Verdict::Listed(name) => *self.report.listed.entry(name).or_default() += 1,
             Verdict::Differs(what) => return Err(self.difference(&what)),
         }
+        match self.remember(call, &answer, &after) {
+            Ok(lost) => self.report.lost += lost as u64,
+            Err(what) => return Err(self.difference(&what)),
+        }
         self.output = output;
         self.state = after;
         self.answer = answer;
         Ok(true)
+    }
+
+    /// The history beside an accepted call; one on a state that is not well formed says nothing of it.
+    fn remember(&mut self, call: &Call, answer: &[u64], after: &State) -> Result<bool, String> {
+        if let Call::Lookup(key) = call {
+            return self.history.judge(*key, &self.state, answer);
+        }
+        if after.well_formed() {
+            self.history.go_on(call, &self.state, after);
+        }
+        Ok(false)
     }
 
     fn difference(&self, what: &str) -> String {

@@ -1,8 +1,8 @@
 //! The log with its snapshot: one that a program owns, and one that it lends.
 use crate::entry::{entries, words, Entry, LOG_WORDS, SNAPSHOT_WORDS};
 use crate::image::ROOM;
-use crate::plain::{self, Ballot, BlockPlace, IndexRecord, LogIndex, Reply, Said, ShownSaid, StopSign};
-use crate::requests::{bound, Appended, Compaction, Diff, Lent, LogSync, Marker, Op, Run, Upto};
+use crate::plain::{self, Ballot, IndexRecord, LogIndex, Reply, Said, ShownSaid, StopSign};
+use crate::requests::{bound, Appended, Compaction, Diff, Found, Lent, LogSync, Marker, Op, Run, Upto};
 use crate::snapshot::Snapshot;
 use crate::{ready, Refusal};
 use std::fmt;
@@ -245,11 +245,11 @@ macro_rules! calls {
         /// All of one to [`MOST_OPS`](plain::MOST_OPS) operations, in their order, or none.
         ///
         /// ```
-        /// # use kotuseraw::{BlockPlace, Entry, Index, Lent, LogIndex, Op};
+        /// # use kotuseraw::{BlockPlace, Entry, Found, Index, Lent, LogIndex, Op};
         /// let mut index = Index::fresh(0)?;
         /// let lent = Lent { entries: &[Entry::put(7, BlockPlace(70))], ..Lent::default() };
         /// index.write_atomically(lent, &[Op::AppendEntries, Op::SetDecidedIndex(LogIndex(1))])?;
-        /// assert_eq!(index.lookup(7)?, Some(BlockPlace(70)));
+        /// assert_eq!(index.lookup(7)?, Found::Place(BlockPlace(70)));
         /// # Ok::<(), kotuseraw::Refusal>(())
         /// ```
         pub fn write_atomically(&mut self, lent: Lent<'_>, ops: &[Op]) -> Result<(), Refusal> {
@@ -260,11 +260,25 @@ macro_rules! calls {
             kept(record, reply).map(drop)
         }
 
-        /// A key's place: its newest word among the decided entries that are retained, else the snapshot's.
-        pub fn lookup(&self, key: u64) -> Result<Option<BlockPlace>, Refusal> {
+        /// What is known of a key: its newest word among the decided entries that are retained, else the snapshot's.
+        ///
+        /// ```
+        /// # use kotuseraw::{BlockPlace, Compaction, Entry, Found, Index, LogIndex, Upto};
+        /// let mut index = Index::fresh(0)?;
+        /// index.append(Entry::put(7, BlockPlace(70)))?;
+        /// assert_eq!(index.lookup(7)?, Found::Unknown);    // not decided yet
+        /// index.set_decided_idx(LogIndex(1))?;
+        /// assert_eq!(index.lookup(7)?, Found::Place(BlockPlace(70)));
+        /// index.append(Entry::removed(7))?;
+        /// index.set_decided_idx(LogIndex(2))?;
+        /// assert_eq!(index.lookup(7)?, Found::Removed);
+        /// index.compact(Compaction::Trim, Upto::All)?;
+        /// assert_eq!(index.lookup(7)?, Found::Unknown);    // no longer held
+        /// # Ok::<(), kotuseraw::Refusal>(())
+        /// ```
+        pub fn lookup(&self, key: u64) -> Result<Found, Refusal> {
             let (record, log, snapshot) = self.parts();
-            let said = $call!(lookup(*record, log, snapshot, key)).accepted()?;
-            Ok((said.told == 1).then_some(BlockPlace(said.first)))
+            $call!(lookup(*record, log, snapshot, key)).accepted().map(Found::told)
         }
 
         /// Reads a range of the log. None where it is not wholly there.

@@ -2,14 +2,14 @@
 //! both. The calls are those of a library in which every function is proved to meet its contract; this crate links its archive.
 //!
 //! ```
-//! use kotuseraw::{BlockPlace, Compaction, Entry, Index, LogIndex, Upto};
+//! use kotuseraw::{BlockPlace, Compaction, Entry, Found, Index, LogIndex, Upto};
 //!
 //! let mut index = Index::fresh(0)?;
 //! index.append(Entry::put(7, BlockPlace(70)))?;
 //! index.append(Entry::put(8, BlockPlace(80)))?;
 //! index.set_decided_idx(LogIndex(2))?;
 //! index.compact(Compaction::Snapshot, Upto::All)?;
-//! assert_eq!(index.lookup(7)?, Some(BlockPlace(70)));
+//! assert_eq!(index.lookup(7)?, Found::Place(BlockPlace(70)));
 //! let refused = index.set_decided_idx(LogIndex(9)).unwrap_err();
 //! assert_eq!((refused.number(), refused.carried()), (6, 2));
 //! assert_eq!(refused.to_string(), "refused 6: the decided index would be above the accepted index (accepted index: 2)");
@@ -35,5 +35,5 @@ pub use image::LoadError;
 pub use index::{Index, View};
 pub use plain::{Ballot, BlockPlace, IndexRecord, LogIndex, StopSign};
 pub use refusal::Refusal;
-pub use requests::{Appended, Compaction, Diff, Lent, LogSync, Marker, Op, Run, SnapshotType, Upto};
+pub use requests::{Appended, Compaction, Diff, Found, Lent, LogSync, Marker, Op, Run, SnapshotType, Upto};
 pub use snapshot::Snapshot;

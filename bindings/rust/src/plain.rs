@@ -212,6 +212,7 @@ exports! {
 
     fold(entries: &[u64], out: &mut [u64]) -> Said = "kotuseraw_fold";
     merge(a: &[u64], n: usize, b: &[u64], m: usize, out: &mut [u64]) -> Said = "kotuseraw_merge";
+    /// Told 0: the key is unknown; 1: its place, first; 2: it is removed.
     find(s: &[u64], keys: usize, key: u64) -> Said = "kotuseraw_find";
     create_snapshot(index: IndexRecord, log: &[u64], snapshot: &[u64], idx: LogIndex, out: &mut [u64]) -> Said = "kotuseraw_create_snapshot";
     /// Told 1: nothing; 2: a complete snapshot; 3: a delta. First its keys, second log-decided.
@@ -256,6 +257,7 @@ exports! {
     /// [`compact`] on a record where it stands, told to trim.
     in_place_trim(held: &mut IndexRecord, log: &mut [u64], snapshot: &mut [u64], given: bool, idx: LogIndex) -> Said = "kotuseraw_in_place_trim";
 
+    /// Told 0: the key is unknown; 1: its place, first; 2: it is removed.
     lookup(index: IndexRecord, log: &[u64], snapshot: &[u64], key: u64) -> Said = "kotuseraw_lookup";
     read(index: IndexRecord, log: &[u64], snapshot: &[u64], from: Bound, to: Bound) -> ShownSaid = "kotuseraw_read";
     read_decided_suffix(index: IndexRecord, log: &[u64], snapshot: &[u64], from: LogIndex) -> ShownSaid = "kotuseraw_read_decided_suffix";

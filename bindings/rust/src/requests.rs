@@ -1,6 +1,6 @@
 //! Requests and replies with types.
 use crate::entry::Entry;
-use crate::plain::{self, Ballot, LogIndex, StopSign};
+use crate::plain::{self, Ballot, BlockPlace, LogIndex, Said, StopSign};
 use crate::Snapshot;
 use std::cmp::Ordering;
 use std::ops;
@@ -65,6 +65,33 @@ impl Upto {
         match self {
             Upto::All => (false, LogIndex::default()),
             Upto::Index(idx) => (true, idx),
+        }
+    }
+}
+
+/// What is known of a key: what its newest word says, or that there is none.
+#[derive(Clone, Copy, Debug, PartialEq, Eq)]
+pub enum Found {
+    Place(BlockPlace),
+    Removed,
+    /// On a log with a hole it says only that the log no longer holds the key.
+    Unknown,
+}
+
+impl Found {
+    pub(crate) fn told(said: Said) -> Found {
+        match said.told {
+            1 => Found::Place(BlockPlace(said.first)),
+            2 => Found::Removed,
+            _ => Found::Unknown,
+        }
+    }
+
+    /// The key's place; None where it is removed or unknown.
+    pub const fn place(self) -> Option<BlockPlace> {
+        match self {
+            Found::Place(place) => Some(place),
+            Found::Removed | Found::Unknown => None,
         }
     }
 }

@@ -1,7 +1,7 @@
 //! Snapshots that a program owns: the last word of each key, removals kept.
 use crate::entry::{entries, words, Entry, SNAPSHOT_WORDS};
-use crate::plain::{self, BlockPlace, Said};
-use crate::Refusal;
+use crate::plain::{self, Said};
+use crate::{Found, Refusal};
 use std::fmt;
 
 /// A snapshot in form: up to [`KEYS`](crate::entry::KEYS) keys, ascending. It comes from the library's own calls and nobody else writes it.
@@ -30,11 +30,12 @@ impl Snapshot {
     /// The entries folded, the first first.
     ///
     /// ```
-    /// use kotuseraw::{BlockPlace, Entry, Snapshot};
+    /// use kotuseraw::{BlockPlace, Entry, Found, Snapshot};
     /// let folded = Snapshot::fold(&[Entry::put(7, BlockPlace(70)), Entry::put(3, BlockPlace(30)), Entry::removed(7)])?;
     /// assert_eq!(folded.entries(), [Entry::put(3, BlockPlace(30)), Entry::removed(7)]);
-    /// assert_eq!(folded.find(3), Some(BlockPlace(30)));
-    /// assert_eq!(folded.find(7), None);
+    /// assert_eq!(folded.find(3), Found::Place(BlockPlace(30)));
+    /// assert_eq!(folded.find(7), Found::Removed);
+    /// assert_eq!(folded.find(9), Found::Unknown);
     /// # Ok::<(), kotuseraw::Refusal>(())
     /// ```
     pub fn fold(run: &[Entry]) -> Result<Snapshot, Refusal> {
@@ -54,10 +55,9 @@ impl Snapshot {
         Snapshot::written(|out| plain::merge(self.words(), self.keys, delta.words(), delta.keys, out)).map(|(made, _)| made)
     }
 
-    /// A key's place: none where it is removed or not there.
-    pub fn find(&self, key: u64) -> Option<BlockPlace> {
-        let said = plain::find(self.words(), self.keys, key);
-        (said.told == 1).then_some(BlockPlace(said.first))
+    /// What it says of a key.
+    pub fn find(&self, key: u64) -> Found {
+        Found::told(plain::find(self.words(), self.keys, key))
     }
 
     /// How many keys it has, those of removals among them.

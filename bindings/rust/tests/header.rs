@@ -86,8 +86,10 @@ fn the_structs_are_the_same_to_the_byte() {
     }
     source += "printf(\"%d %d %d\\n\", KOTUSERAW_LOG_WORDS, KOTUSERAW_SNAPSHOT_WORDS, KOTUSERAW_IMAGE_ROOM);\n";
     due += &format!("{LOG_WORDS} {SNAPSHOT_WORDS} {ROOM}\n");
-    source += "printf(\"%d %d\\n\", KOTUSERAW_TRIM, KOTUSERAW_SNAPSHOT);\nreturn 0;\n}\n";
+    source += "printf(\"%d %d\\n\", KOTUSERAW_TRIM, KOTUSERAW_SNAPSHOT);\n";
     due += "0 1\n";
+    source += "printf(\"%d %d %d\\n\", KOTUSERAW_FOUND_UNKNOWN, KOTUSERAW_FOUND_PLACE, KOTUSERAW_FOUND_REMOVED);\nreturn 0;\n}\n";
+    due += "0 1 2\n";
     let file = Path::new(env!("CARGO_TARGET_TMPDIR")).join("layout.c");
     fs::write(&file, source).unwrap();
     assert_eq!(printed("layout", &file, &[]), due);
@@ -116,8 +118,5 @@ fn the_functions_are_the_same() {
 fn a_c_program_links_the_archive() {
     let source = folder().join("example.c");
     let archive = Path::new(env!("KOTUSERAW_LINKED"));
-    assert_eq!(
-        printed("example", &source, &[archive]),
-        "refused 0, found 1, place 80\nrefused 5, carrying 2\nan image of 103 bytes, accepted 2\n"
-    );
+    assert_eq!(printed("example", &source, &[archive]), "refused 0, place 80\nrefused 5, carrying 2\nan image of 103 bytes, accepted 2\n");
 }

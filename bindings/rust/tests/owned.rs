@@ -2,7 +2,7 @@
 use kotuseraw::entry::{ENTRIES, KEYS, PLACES, WIDTH};
 use kotuseraw::plain::{LARGEST_BATCH, LARGEST_INDEX, METADATA, NODES};
 use kotuseraw::{
-    plain, Ballot, BlockPlace, Compaction, Entry, Index, IndexRecord, Lent, LogIndex, LogSync, Op, Refusal, Snapshot, SnapshotType,
+    plain, Ballot, BlockPlace, Compaction, Entry, Found, Index, IndexRecord, Lent, LogIndex, LogSync, Op, Refusal, Snapshot, SnapshotType,
     StopSign, Upto, View, SNAPSHOT_WORDS,
 };
 use std::collections::BTreeMap;
@@ -249,7 +249,7 @@ fn a_complete_sync_mends_a_hole() {
     index.append(Entry::put(1, BlockPlace(10))).unwrap();
     index.set_decided_idx(LogIndex(3)).unwrap();
     index.compact(Compaction::Snapshot, Upto::All).unwrap();
-    assert_eq!(index.lookup(1).unwrap(), Some(BlockPlace(10)));
+    assert_eq!(index.lookup(1).unwrap(), Found::Place(BlockPlace(10)));
 }
 
 #[test]

@@ -40,8 +40,11 @@ fn print_found(found: Found) {
             io::write_all(1, b"place ");
             io::print_decimal(1, place.0);
         }
-        Found::Absent => {
-            io::write_all(1, b"absent");
+        Found::Removed => {
+            io::write_all(1, b"removed");
+        }
+        Found::Unknown => {
+            io::write_all(1, b"unknown");
         }
         Found::Refused(refusal) => {
             io::write_all(1, b"refused ");

@@ -4,6 +4,7 @@ use mathlib.Core.Bool.{Bool}
 use mathlib.Core.List.{List}
 use mathlib.Core.Option.{Option, none, some}
 use lib.ListN.{length}
+use Rattle.entry.specs.Change.{Said as Word, place, removed}
 use Rattle.entry.specs.Guards.{Answer, refused, replied}
 use Rattle.snapshot.specs.Calls.{Outcome as Fold}
 use Rattle.model.specs.Append.{Flushed}
@@ -36,6 +37,12 @@ aFlag b = tells 1 (oneIf b) 0
 abbrev pub maybeNumber : Option ℕ → Said
 maybeNumber none = tells 0 0 0
 maybeNumber (some n) = tells 1 n 0
+
+-- 0 unknown, 1 a place, 2 removed
+abbrev pub aWord : Option Word → Said
+aWord none = tells 0 0 0
+aWord (some (place p)) = tells 1 p 0
+aWord (some removed) = tells 2 0 0
 
 abbrev pub maybeFlushed : Option Flushed → Said
 maybeFlushed none = tells 0 0 0

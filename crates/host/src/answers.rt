@@ -33,7 +33,7 @@ ghost use Rattle.image.specs.Calls.{written};
 ghost use Rattle.diff.specs.Replies.{diffSaid};
 ghost use Rattle.reading.specs.Replies.{spanSays, markerSaid, shownSaid, readSaid};
 ghost use Rattle.host.specs.Plain.{tells, plain};
-ghost use Rattle.host.specs.Plain.{nothing, aNumber, aFlag, maybeNumber, maybeFlushed, aSpan, aDiff};
+ghost use Rattle.host.specs.Plain.{nothing, aNumber, aFlag, maybeNumber, aWord, maybeFlushed, aSpan, aDiff};
 ghost use Rattle.host.specs.Reads.{marked, noneShown, markedAs, shownAs};
 ghost use Rattle.host.specs.Requests.{orderAs};
 
@@ -152,12 +152,14 @@ pub(crate) fn accepted_idx_reply(r: MaybeIndexAt) -> Reply
     }
 }
 
+// What is known of a key: 0, nothing; 1, its place; 2, that it is removed.
 pub(crate) fn found_said(answer: Found) -> Said
-    ensures { λ s. ⌜ s ≡ plain maybeNumber (found answer) ⌝ }
+    ensures { λ s. ⌜ s ≡ plain aWord (found answer) ⌝ }
 {
     match answer {
         Found::Place(p) => tell(1, p.0, 0),
-        Found::Absent => tell(0, 0, 0),
+        Found::Removed => tell(2, 0, 0),
+        Found::Unknown => tell(0, 0, 0),
         Found::Refused(r) => refuse(r),
     }
 }

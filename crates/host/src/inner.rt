@@ -30,11 +30,12 @@ ghost use Rattle.state_cache.specs.Inner.{Ready};
 ghost use Rattle.state_cache.specs.Run.{run, ofNumbers};
 ghost use Rattle.internal_storage.specs.Replies.{asked as askedSign, withIndexOnly};
 ghost use Rattle.host.specs.Plain.{plain, left, plainly, nothing, aNumber, aFlag, maybeNumber, maybeFlushed};
-ghost use Rattle.host.specs.Plain.{aSpan};
+ghost use Rattle.host.specs.Plain.{aWord, aSpan};
 ghost use Rattle.host.specs.Requests.{endAt, ofFlag, lentSaid, whatOf};
 ghost use Rattle.host.specs.Reads.{shownAs};
 
-// A key's place: its newest word among the retained entries below log-decided, else the snapshot's.
+// A key's newest word among the retained entries below log-decided, else the snapshot's. Told 0: unknown; 1: its place,
+// first; 2: removed.
 #[no_mangle]
 pub extern "C" fn kotuseraw_inner_lookup(
     index: IndexRecord,
@@ -44,7 +45,7 @@ pub extern "C" fn kotuseraw_inner_lookup(
 ) -> Said
     requires { ⌜ Ready (raw index (now log) (now snapshot)) ⌝ }
     ensures { λ s. ⌜ s
-        ≡ plain maybeNumber
+        ≡ plain aWord
         (run (query (lookupCall key)) true (raw index (now (log .entry)) (now (snapshot .entry))) .answer) ⌝ }
 {
     answers::found_said(reading::inner::look(index, log, snapshot, key))

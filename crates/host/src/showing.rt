@@ -21,11 +21,12 @@ ghost use Rattle.state_cache.specs.State.{Raw, raw};
 ghost use Rattle.state_cache.specs.Run.{run};
 ghost use Rattle.reading.specs.Parts.{part};
 ghost use Rattle.reading.specs.Replies.{readSaid, partShown};
-ghost use Rattle.host.specs.Plain.{plain, maybeNumber, aSpan};
+ghost use Rattle.host.specs.Plain.{plain, aWord, aSpan};
 ghost use Rattle.host.specs.Requests.{endAt};
 ghost use Rattle.host.specs.Reads.{shownAs, shownBy, copied, copiedOut};
 
-// A key's place: its newest word among the retained entries below log-decided, else the snapshot's.
+// A key's newest word among the retained entries below log-decided, else the snapshot's. Told 0: unknown; 1: its place,
+// first; 2: removed.
 #[no_mangle]
 pub extern "C" fn kotuseraw_lookup(
     index: IndexRecord,
@@ -34,7 +35,7 @@ pub extern "C" fn kotuseraw_lookup(
     key: u64,
 ) -> Said
     ensures { λ s. ⌜ s
-        ≡ plain maybeNumber
+        ≡ plain aWord
         (run (query (lookupCall key)) true (raw index (now (log .entry)) (now (snapshot .entry))) .answer) ⌝ }
 {
     answers::found_said(reading::lookup(index, log, snapshot, key))

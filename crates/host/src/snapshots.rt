@@ -12,7 +12,7 @@ ghost use Rattle.model.specs.Calls.{query, create, diff as diffCall};
 ghost use Rattle.state_cache.specs.State.{raw};
 ghost use Rattle.state_cache.specs.Run.{run};
 ghost use Rattle.diff.specs.Replies.{outAfter};
-ghost use Rattle.host.specs.Plain.{plain, maybeNumber, aDiff, wrote, wroteAs};
+ghost use Rattle.host.specs.Plain.{plain, aWord, aDiff, wrote, wroteAs};
 
 // Folds a run of entries: the last one for a key wins, and a removal is kept. Tells the number of keys.
 #[no_mangle]
@@ -31,10 +31,10 @@ pub extern "C" fn kotuseraw_merge(a: &[u64], n: usize, b: &[u64], m: usize, out:
     answers::folded_said(snapshot::merge(a, n, b, m, out))
 }
 
-// A key's place in a snapshot, or that it is absent.
+// A key in a snapshot. Told 0: unknown; 1: its place, first; 2: removed.
 #[no_mangle]
 pub extern "C" fn kotuseraw_find(s: &[u64], keys: usize, key: u64) -> Said
-    ensures { λ r. ⌜ r ≡ plain maybeNumber (findCall (now (s .entry)) keys key) ⌝ }
+    ensures { λ r. ⌜ r ≡ plain aWord (findCall (now (s .entry)) keys key) ⌝ }
 {
     answers::found_said(snapshot::find(s, keys, key))
 }

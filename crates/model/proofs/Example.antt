@@ -1,16 +1,19 @@
 -- The history theorem's premise can be met: a trace with appends, a snapshot, a plain, a complete and a delta sync, a
 -- trim that makes a hole, what is refused for that, and the complete sync that mends it.
-use Rattle.words.proofs.Prelude.{arith, _≡_, refl, ℕ, true, Option, none, some, List, [], _∷_, _++_}
+use Rattle.words.proofs.Prelude.{arith, _≡_, refl, ℕ, true, Option, none, some, List, [], _∷_, _++_, take}
+use mathlib.Core.Option.{orElse}
 use Rattle.words.specs.All.{allOf}
-use Rattle.entry.specs.{Change.Change, Sign.signFormed, Guards.passes, Guards.refuses, Guards.first}
+use Rattle.entry.specs.{Change.Said, Change.place, Change.removed, Change.Change, Sign.signFormed, Guards.passes}
+use Rattle.entry.specs.{Guards.refuses, Guards.first}
 use Rattle.entry.specs.declared.Compaction.the-variants.{Snapshot}
-use Rattle.snapshot.specs.Folds.{insert, foldOnto, fold, merge, climbs, rising}
+use Rattle.snapshot.specs.Folds.{insert, foldOnto, fold, merge, climbs, rising, find, lastOf}
 use Rattle.model.specs.Numbers.{endOf, acceptedOf, stopDecided, logDecided, numbersFormed}
 use Rattle.model.specs.Log.{Run, Log, foldedTo, keysFormed, wellFormed, noBallot, freshLog}
 use Rattle.model.specs.Append.{appendGuards, fills, appended}
 use Rattle.model.specs.Backend.{opsFormed}
 use Rattle.model.specs.Compact.{target, passesStart, foldedUpto, compactGuards, compactedTo}
 use Rattle.model.specs.Diff.{Given, plain, complete, delta}
+use Rattle.model.specs.Lookup.{lookupReply}
 use Rattle.model.specs.Sync.{partFormed, deltaOnto, runThen, partNumberGuards, partGuards, partSynced}
 use Rattle.model.specs.Calls.{Call, append, decide, compact, sync, write, malformed, decideGuards}
 use Rattle.model.specs.Calls.{syncGuards, further, guards, synced, effect, stateAfter}
@@ -101,3 +104,18 @@ unfolding allOf signFormed first insert foldOnto fold merge climbs rising endOf 
     partNumberGuards partGuards partSynced malformed decideGuards syncGuards further guards synced effect stateAfter
     syncedHistory grown next told fresh
 on-the-way = (refl, refl, refl, refl, refl)
+
+-- what is looked up on the way: a key removed and one put below the decided index, and one that is not decided; at the
+-- hole one that is retained, and one that is lost, of which the history still says its place
+pub looked-up : (lookupReply 9 (after toDelta) ≡ some removed)
+    × (lookupReply 4 (after toDelta) ≡ some (place 200))
+    × (lookupReply 5 (after toDelta) ≡ none)
+    × (lookupReply 2 (after toHole) ≡ some (place 20))
+    × (lookupReply 1 (after toHole) ≡ none)
+    × (find 1 (fold (take 8 (told toHole (fresh 0) .history))) ≡ some (place 10))
+unfolding lookupReply orElse lastOf find allOf signFormed first insert foldOnto fold merge climbs rising endOf
+    acceptedOf stopDecided logDecided numbersFormed foldedTo keysFormed wellFormed freshLog appendGuards fills appended
+    target passesStart foldedUpto compactGuards compactedTo opsFormed partFormed deltaOnto runThen
+    partNumberGuards partGuards partSynced malformed decideGuards syncGuards further guards synced effect stateAfter
+    syncedHistory grown next told fresh
+looked-up = (refl, refl, refl, refl, refl, refl)

@@ -5,7 +5,7 @@ use mathlib.Core.Bool.{Bool, false, _||_, not}
 use mathlib.Core.List.{List, [], _∷_}
 use mathlib.Core.Option.{Option, none, some}
 use lib.Dec.{ltb}
-use Rattle.entry.specs.Change.{Change, entriesFormed}
+use Rattle.entry.specs.Change.{Said, Change, entriesFormed}
 use Rattle.entry.specs.Sign.{signFormed}
 use Rattle.entry.specs.Guards.{Guard, guard, Verdict, passes, refuses, first, Answer, settle}
 use Rattle.entry.specs.declared.Ballot.{Ballot}
@@ -59,7 +59,7 @@ QueryReply (readDecided i) = Option Shown
 QueryReply (getSuffix i) = Span
 QueryReply (create i) = List Change
 QueryReply (diff i) = Diff
-QueryReply (lookup k) = Option ℕ
+QueryReply (lookup k) = Option Said
 QueryReply (getEntries i j) = Span
 
 abbrev pub Reply : Call → Type 0

@@ -1,5 +1,6 @@
 pub mod Answers
 pub mod Looking
+pub mod Finding
 pub mod Showing
 pub mod Replying
 pub mod Unique

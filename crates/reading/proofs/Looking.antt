@@ -8,7 +8,11 @@ use Rattle.words.proofs.CodedLaws.{entries-length, entries-take}
 use Rattle.entry.specs.{Limits.width, Change.Said, Change.Change, Change.changeCode, Change.entriesOf, Guards.replied}
 use Rattle.entry.specs.{Inner.changeAt}
 use Rattle.entry.proofs.ChangeLaws.{entry-cons}
-use Rattle.snapshot.specs.Folds.{find, lastOf, placeOf}
+use Rattle.snapshot.specs.Folds.{find, lastOf}
+use Rattle.snapshot.specs.Calls.{found}
+use Rattle.snapshot.specs.declared.Found.{Found}
+use Rattle.snapshot.specs.declared.Found.the-variants.{Unknown}
+use Rattle.snapshot.proofs.{Finds.last-append, Unique.find-unique}
 use Rattle.model.specs.{Numbers.endOf, Numbers.logDecided, Log.numbersOf, Log.orEmpty, Lookup.lookupReply, Calls.query}
 use Rattle.model.specs.{Calls.lookup, Calls.queryReply, Calls.queryGuards}
 use Rattle.model.proofs.Forms.{log-min}
@@ -22,20 +26,7 @@ use Rattle.reading.proofs.Answers.{answer-is}
 last-snoc : (k : ℕ) (es : List Change) (c : Change)
     → lastOf k (es ++ (c ∷ [])) ≡ orElse (if eqb (c .key) k then some (c .said) else none) (lastOf k es)
 unfolding lastOf orElse
-last-snoc k [] c = go (eqb (c .key) k)
-  where
-    go : (t : Bool) → _≡_ {A = Option Said} (if t then some (c .said) else none)
-        (orElse (if t then some (c .said) else none) none)
-    go true = refl
-    go false = refl
-last-snoc k (e ∷ es) c = ap (λ (o : Option Said). orElse o (if eqb (e .key) k then some (e .said) else none))
-    (last-snoc k es c) ∙ go (eqb (c .key) k) (lastOf k es)
-  where
-    go : (t : Bool) (o : Option Said)
-        → orElse (orElse (if t then some (c .said) else none) o) (if eqb (e .key) k then some (e .said) else none)
-        ≡ orElse (if t then some (c .said) else none) (orElse o (if eqb (e .key) k then some (e .said) else none))
-    go true o = refl
-    go false o = refl
+last-snoc k es c = last-append k es (c ∷ [])
 
 entries-snoc : (i : ℕ) (ws : List ℕ) → entriesOf (i + 1) ws ≡ entriesOf i ws ++ (changeAt ws i ∷ [])
 entries-snoc i ws =
@@ -110,16 +101,16 @@ module _ (r : Raw) (g : Ready r) (k : ℕ) where
       (ap logDecided (numbers-are (logOf r) r (stands-of r (g .okay))))
       ∙ entries-take changeCode below (r .index .retained) (r .log) (decided-few r g)
 
-  pub look-answer : (y : Option ℕ)
-      → y ≡ placeOf (orElse (lastOf k (entriesOf below (r .log))) (find k (entriesOf (r .index .keys) (r .snapshot))))
+  pub look-answer : (y : Option Said)
+      → y ≡ orElse (lastOf k (entriesOf below (r .log))) (find k (entriesOf (r .index .keys) (r .snapshot)))
       → replied y ≡ run (query (lookup k)) true r .answer
   unfolding queryReply queryGuards lookupReply
   look-answer y e =
       answer-is (lookup k) r (g .okay) refl refl y
-      (e ∙ ap (λ (l : List Change). placeOf (orElse (lastOf k l) (find k (entriesOf (r .index .keys) (r .snapshot)))))
+      (e ∙ ap (λ (l : List Change). orElse (lastOf k l) (find k (entriesOf (r .index .keys) (r .snapshot))))
       (sym retained-is)
-      ∙ ap (λ (l : List Change). placeOf (orElse (lastOf k (take (logDecided (numbersOf (logOf r))
-      - logOf r .run .compacted) (logOf r .run .retained))) (find k l))) (sym snapshot))
+      ∙ ap (λ (l : List Change). orElse (lastOf k (take (logDecided (numbersOf (logOf r))
+      - logOf r .run .compacted) (logOf r .run .retained))) (find k l)) (sym snapshot))
 
   -- d is log-decided, as the code has it
   module _ (d : ℕ) (q : d ≡ logDecided (numbersIn (r .index))) where
@@ -130,16 +121,28 @@ module _ (r : Raw) (g : Ready r) (k : ℕ) where
     pub look-inside : (d - r .index .compacted .0) * width ≤ length (r .log)
     look-inside = omega (arith, q, decided-few r g, g .log .long, g .log .fits)
 
-    pub look-said : (x : Said) → some x ≡ lastOf k (entriesOf (d - r .index .compacted .0) (r .log))
-        → replied (placeOf (some x)) ≡ run (query (lookup k)) true r .answer
+    look-said : (x : Said) → lastOf k (entriesOf (d - r .index .compacted .0) (r .log)) ≡ some x
+        → replied (some x) ≡ run (query (lookup k)) true r .answer
     unfolding orElse
-    look-said x e = look-answer (placeOf (some x))
-        (ap (λ (o : Option Said). placeOf (orElse o (find k (entriesOf (r .index .keys) (r .snapshot)))))
-        (last-is (some x) e))
+    look-said x e = look-answer (some x)
+        (ap (λ (o : Option Said). orElse o (find k (entriesOf (r .index .keys) (r .snapshot))))
+        (last-is (some x) (sym e)))
 
-    pub look-snapshot : none ≡ lastOf k (entriesOf (d - r .index .compacted .0) (r .log))
-        → replied (placeOf (find k (entriesOf (r .index .keys) (r .snapshot)))) ≡ run (query (lookup k)) true r .answer
+    -- a word of the entries is told
+    pub look-told : (f : Found) → found f ≡ replied (lastOf k (entriesOf (d - r .index .compacted .0) (r .log)))
+        → (f ≡ Unknown → ⊥) → found f ≡ run (query (lookup k)) true r .answer
+    look-told f e known = go (lastOf k (entriesOf (d - r .index .compacted .0) (r .log))) refl
+      where
+        go : (o : Option Said) → lastOf k (entriesOf (d - r .index .compacted .0) (r .log)) ≡ o
+            → found f ≡ run (query (lookup k)) true r .answer
+        go none q = absurd (known (find-unique f Unknown (e ∙ ap (λ (o : Option Said). replied o) q)))
+        go (some x) q = e ∙ ap (λ (o : Option Said). replied o) q ∙ look-said x q
+
+    -- where they have none the snapshot is asked
+    pub look-snapshot : found Unknown ≡ replied (lastOf k (entriesOf (d - r .index .compacted .0) (r .log)))
+        → replied (find k (entriesOf (r .index .keys) (r .snapshot))) ≡ run (query (lookup k)) true r .answer
     unfolding orElse
-    look-snapshot e = look-answer (placeOf (find k (entriesOf (r .index .keys) (r .snapshot))))
-        (ap (λ (o : Option Said). placeOf (orElse o (find k (entriesOf (r .index .keys) (r .snapshot)))))
-        (last-is none e))
+    look-snapshot e =
+        let q : none ≡ lastOf k (entriesOf (d - r .index .compacted .0) (r .log)) = cc in
+        look-answer (find k (entriesOf (r .index .keys) (r .snapshot)))
+        (ap (λ (o : Option Said). orElse o (find k (entriesOf (r .index .keys) (r .snapshot)))) (last-is none q))

@@ -13,6 +13,9 @@ ghost use mathlib.Core.Path.{_≡_};
 ghost use mathlib.Core.Bool.{true, false};
 ghost use lib.ListN.{length};
 ghost use Rattle.entry.specs.Limits.{width};
+ghost use Rattle.entry.specs.Change.{entriesOf};
+ghost use Rattle.entry.specs.Guards.{replied};
+ghost use Rattle.snapshot.specs.Folds.{lastOf};
 ghost use Rattle.snapshot.specs.Calls.{found};
 ghost use Rattle.model.specs.Numbers.{acceptedOf};
 ghost use Rattle.model.specs.Read.{startPast, stopPast, startAt, stopAt};
@@ -82,6 +85,19 @@ pub fn newest_at(log: &[u64], n: usize, key: u64) -> Newest
     }
 }
 
+// What a key's newest entry among the first n says; unknown where it has none there.
+fn newest_word(log: &[u64], n: usize, key: u64) -> Found
+    requires { ⌜ n * width ≤ length (now log) ⌝ }
+    ensures { λ r. ⌜ found r ≡ replied (lastOf key (entriesOf n (now (log .entry)))) ⌝ }
+{
+    let newest = newest_at(log, n, key);
+    let Newest::At(i) = newest else {
+        return Found::Unknown;
+    };
+    snapshot::inner::found_of(entry::inner::said_at(log, i))
+}
+
+// A removal is a word too: where the newest entry is one, the snapshot is not asked.
 pub fn look(index: IndexRecord, log: &[u64], snapshot: &[u64], key: u64) -> Found
     requires { ⌜ Ready (raw index (now log) (now snapshot)) ⌝ }
     ensures { λ r. ⌜ found r
@@ -89,11 +105,11 @@ pub fn look(index: IndexRecord, log: &[u64], snapshot: &[u64], key: u64) -> Foun
 {
     let decided = state_cache::inner::log_decided(index);
     let n = (decided - index.compacted.0) as usize;
-    let newest = newest_at(log, n, key);
-    let Newest::At(i) = newest else {
-        return snapshot::inner::look_up(snapshot, index.keys, key);
+    let newest = newest_word(log, n, key);
+    let Found::Unknown = newest else {
+        return newest;
     };
-    snapshot::inner::found_of(entry::inner::said_at(log, i))
+    snapshot::inner::look_up(snapshot, index.keys, key)
 }
 
 // Where the entries from one index up to another stand among those retained.

@@ -58,7 +58,8 @@ pub struct Shown<'a> {
     pub reply: ReadReply,
 }
 
-// A key's place: its newest word among the decided entries that are retained, else the snapshot's.
+// Looks a key up: its newest word among the decided entries that are retained, else the snapshot's. On a log with a
+// hole unknown says only that the key is no longer held.
 pub fn lookup(index: IndexRecord, log: &[u64], snapshot: &[u64], key: u64) -> Found
     ensures { λ r. ⌜ found r
         ≡ run (query (lookupCall key)) true (raw index (now (log .entry)) (now (snapshot .entry))) .answer ⌝ }

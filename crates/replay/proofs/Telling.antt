@@ -6,7 +6,7 @@ use Rattle.words.proofs.CodedLaws.{entries-length}
 use Rattle.entry.specs.{Limits.width, Limits.largestBatch, Limits.logWords, Limits.snapshotWords, Guards.Answer}
 use Rattle.entry.specs.{Guards.refused, Guards.replied, Change.Change, Change.entriesOf, Change.changeCode}
 use Rattle.model.specs.{Append.Flushed, Read.Bound, Read.span, Read.Shown, Read.shown, Log.given, Log.freshLog}
-use Rattle.model.specs.{Numbers.acceptedOf, Calls.query, Calls.read}
+use Rattle.model.specs.{Numbers.acceptedOf, Calls.Query, Calls.QueryReply, Calls.query, Calls.read}
 use Rattle.state_cache.proofs.{Stands.given-by, Unique.apart}
 use Rattle.state_cache.specs.{State.Raw, State.raw, State.rawOf, State.indexOf, State.oneIf, Run.Outcome, Run.outcome}
 use Rattle.state_cache.specs.{Run.run, Run.freshCall, Run.ofNumbers, declared.IndexRecord.IndexRecord}
@@ -86,13 +86,19 @@ pub tells : {A : Type 0} (text : Answer A → List ℕ) (l : List ℕ) (a : Answ
     → outcome a x ≡ o → l ≡ text a → printout l x ≡ printed text o
 tells text l a x o e h = ap (λ (bs : List ℕ). printout bs x) h ∙ ap (printed text) e
 
--- a read's answer; the state stays
+-- the answer of a call that changes nothing
+pub asks : (q : Query) (text : Answer (QueryReply q) → List ℕ) (l : List ℕ) (x : Raw)
+    → l ≡ text (run (query q) true x .answer) → printout l x ≡ printed text (run (query q) true x)
+asks q text l x e = ap (λ (bs : List ℕ). printout bs x) e
+    ∙ ap (λ (s : Raw). printout (text (run (query q) true x .answer)) s) (sym (query-keeps q x))
+
+-- a read's
 pub reads : (a b : Bound) (r : ReadReply) (x : Raw) → readSaid x r ≡ run (query (read a b)) true x .answer
     → printout (readTextIn (x .log) (readSaid x r)) x ≡ printed readText (run (query (read a b)) true x)
 reads a b r x e =
-    ap (λ (y : Answer (Option Shown)). printout (readTextIn (x .log) y) x) e
-    ∙ ap (λ (bs : List ℕ). printout bs x) (lent-text (x .log) (run (query (read a b)) true x .answer) (read-lent x a b))
-    ∙ ap (λ (s : Raw). printout (readText (run (query (read a b)) true x .answer)) s) (sym (query-keeps (read a b) x))
+    asks (read a b) readText (readTextIn (x .log) (readSaid x r)) x
+    (ap (readTextIn (x .log)) e
+    ∙ lent-text (x .log) (run (query (read a b)) true x .answer) (read-lent x a b))
 
 pub stops : (l : List ℕ) (a : Answer (Option Flushed)) (last : Answer ℕ) (x : Raw) (o : Outcome (Option Flushed))
     → outcome a x ≡ o → last ≡ ofNumbers acceptedOf x → l ≡ stopLine a last → printout l x ≡ stoppedBy o

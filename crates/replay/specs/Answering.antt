@@ -13,12 +13,12 @@ use Rattle.model.specs.Numbers.{acceptedOf}
 use Rattle.model.specs.Log.{given}
 use Rattle.model.specs.Append.{Flushed}
 use Rattle.model.specs.Read.{included, excluded, Marker, trimmed, snapshotted, span, Shown, shown}
-use Rattle.model.specs.Calls.{query, read, append, flush, appendStop, decide, compact}
+use Rattle.model.specs.Calls.{query, read, lookup, append, flush, appendStop, decide, compact}
 use Rattle.state_cache.specs.State.{Raw, oneIf}
 use Rattle.state_cache.specs.Run.{Outcome, run, freshCall, ofNumbers}
 use Rattle.text.specs.Answers.{lineOf, entryLines}
 use Rattle.text.specs.declared.Line.the-variants.{Done, Held, Nothing, BadLine, Accepted, Refused, Run, Trimmed}
-use Rattle.text.specs.declared.Line.the-variants.{Snapshot, Stop}
+use Rattle.text.specs.declared.Line.the-variants.{Snapshot, Stop, Place, Removed, Unknown}
 use Rattle.text.specs.declared.Command.{Command}
 use Rattle.text.specs.declared.Command.the-variants as command
 use Rattle.reading.specs.Parts.{part}
@@ -47,6 +47,13 @@ abbrev pub appendedText : Answer (Option Flushed) → List ℕ
 appendedText (refused n k) = lineOf (Refused n)
 appendedText (replied none) = lineOf Held
 appendedText (replied (some f)) = lineOf (Accepted (f .accepted))
+
+-- document 02: "`find K` printing `place P`, `removed` or `unknown`"
+abbrev pub foundText : Answer (Option SaidOf) → List ℕ
+foundText (refused n k) = lineOf (Refused n)
+foundText (replied none) = lineOf Unknown
+foundText (replied (some (place p))) = lineOf (Place p)
+foundText (replied (some removed)) = lineOf Removed
 
 -- "index and key count after `snapshot`; `trimmed I` otherwise"
 abbrev pub markerText : Option Marker → List ℕ
@@ -133,4 +140,5 @@ answering command.Flush r = printed acceptedText (run flush true r)
 answering (command.Decide i) r = printed settledText (run (decide i) true r)
 answering (command.Compact what upto) r = printed settledText (run (compact what (uptoOf upto)) true r)
 answering (command.Stop c) r = stoppedBy (run (appendStop (stopOf c)) true r)
+answering (command.Find k) r = printed foundText (run (query (lookup k)) true r)
 answering command.BadLine r = printout (lineOf BadLine) r

@@ -8,6 +8,7 @@ use entry::Upto;
 use internal_storage::Appended;
 use reading::Bound;
 use reading::ReadReply;
+use snapshot::Found;
 use state_cache::IndexAnswer;
 use state_cache::IndexRecord;
 use state_cache::Settled;
@@ -19,14 +20,15 @@ ghost use Prim.Native.Nat.{_+_, _≤_};
 ghost use lib.ListN.{length, take};
 ghost use Rattle.entry.specs.Limits.{logWords};
 ghost use Rattle.entry.specs.Change.{saidIs};
+ghost use Rattle.snapshot.specs.Calls.{found};
 ghost use Rattle.state_cache.specs.State.{raw};
 ghost use Rattle.model.specs.Calls.{append};
 ghost use Rattle.state_cache.specs.Run.{run, settled, indexSaid};
 ghost use Rattle.internal_storage.specs.Replies.{appendSaid};
 ghost use Rattle.text.specs.Answers.{lineOf};
-ghost use Rattle.text.specs.declared.Command.the-variants.{Batch, Read, Flush, Decide, Compact, Stop};
-ghost use Rattle.replay.specs.Answering.{printout, settledText, acceptedText, appendedText, printed, telling};
-ghost use Rattle.replay.specs.Answering.{stopOf, stopLine, one, answering};
+ghost use Rattle.text.specs.declared.Command.the-variants.{Batch, Read, Flush, Decide, Compact, Stop, Find};
+ghost use Rattle.replay.specs.Answering.{printout, settledText, acceptedText, appendedText, foundText, printed};
+ghost use Rattle.replay.specs.Answering.{telling, stopOf, stopLine, one, answering};
 ghost use Rattle.replay.specs.Feeding.{answerRoom, after};
 
 // What answers a command: a line, or what a read shows.
@@ -75,6 +77,17 @@ fn appended_line(answer: Appended) -> Line
             entries: _,
         } => Line::Accepted(accepted.0),
         Appended::Refused(refusal) => Line::Refused(entry::number(refusal)),
+    }
+}
+
+fn found_line(answer: Found) -> Line
+    ensures { λ r. ⌜ lineOf r ≡ foundText (found answer) ⌝ }
+{
+    match answer {
+        Found::Place(place) => Line::Place(place.0),
+        Found::Removed => Line::Removed,
+        Found::Unknown => Line::Unknown,
+        Found::Refused(refusal) => Line::Refused(entry::number(refusal)),
     }
 }
 
@@ -226,6 +239,17 @@ fn stop(index: IndexRecord, log: &[u64], snapshot: &[u64], c: u32) -> Answered
     }
 }
 
+fn find(index: IndexRecord, log: &[u64], snapshot: &[u64], k: u64) -> Answered
+    ensures { λ r. ⌜ telling (r .reply) (raw (r .index) (now (log .entry)) (now (snapshot .entry)))
+        ≡ answering (Find k) (raw index (now (log .entry)) (now (snapshot .entry))) ⌝ }
+{
+    let line = found_line(reading::lookup(index, log, snapshot, k));
+    Answered {
+        index,
+        reply: Reply::Line(line),
+    }
+}
+
 // Does what a line says.
 fn carry_out(
     index: IndexRecord,
@@ -248,6 +272,7 @@ fn carry_out(
         Command::Decide(i) => decide(index, log, snapshot, i),
         Command::Compact(what, upto) => compact(index, log, snapshot, what, upto),
         Command::Stop(c) => stop(index, log, snapshot, c),
+        Command::Find(k) => find(index, log, snapshot, k),
         Command::BadLine => Answered {
             index,
             reply: Reply::Line(Line::BadLine),

@@ -6,7 +6,7 @@ use Rattle.words.proofs.Tests.{Reach, reached, short, reach}
 use Rattle.entry.specs.Change.{Said, removed, Change}
 use Rattle.snapshot.specs.Folds.{fold, merge, rising, find, lastOf, within}
 use Rattle.snapshot.proofs.{Folds.rising-onto, Folds.rising-fold, Folds.fold-append, Folds.merge-assoc as assoc}
-use Rattle.snapshot.proofs.{Folds.merge-nil, Folds.nil-merge, Finds.find-onto, Room.merge-first}
+use Rattle.snapshot.proofs.{Folds.merge-nil, Folds.nil-merge, Finds.find-onto, Finds.or-none, Room.merge-first}
 use Rattle.snapshot.proofs.{Room.merge-second}
 
 -- folding two runs joined is merging their folds
@@ -30,11 +30,6 @@ fold-rises r = rising-fold r
 pub merge-rises : (a b : List Change) → rising a ≡ true → rising (merge a b) ≡ true
 unfolding merge
 merge-rises a b up = rising-onto a b up
-
-or-none : (o : Option Said) → orElse o none ≡ o
-unfolding orElse
-or-none none = refl
-or-none (some x) = refl
 
 pub fold-last : (k : ℕ) (r : List Change) → find k (fold r) ≡ lastOf k r
 unfolding fold find

@@ -12,7 +12,7 @@ use Rattle.entry.specs.{declared.Refusal.Refusal, declared.Refusal.the-variants
 use Rattle.entry.specs.{declared.Refusal.the-variants.Malformed, Inner.changeAt}
 use Rattle.entry.proofs.{ChangeLaws.entry-cons, GuardLaws.first-refuses, GuardLaws.first-goes-on, SliceLaws.laid-of}
 use Rattle.entry.proofs.{SliceLaws.slice-fine, SliceLaws.stored-entries, SliceLaws.stored-laid}
-use Rattle.snapshot.specs.Folds.{rising, foldOnto, fold, merge, find, placeOf}
+use Rattle.snapshot.specs.Folds.{rising, foldOnto, fold, merge, find}
 use Rattle.snapshot.specs.Calls.{snapshotFormed, Outcome, outcome, writtenBy, foldGuards, folded, foldCall}
 use Rattle.snapshot.specs.Calls.{mergeCall, findCall}
 use Rattle.snapshot.specs.Inner.{rank, spotOf, Holds, Shows, FoldIs, Aside, foldedOut}
@@ -169,13 +169,13 @@ unfolding findCall
 find-malformed n ws k e = rw (first-refuses 11 0 (not (snapshotFormed n ws)) [] (rw e))
 
 pub find-stands : (n : ℕ) (ws : List ℕ) (k : ℕ) → snapshotFormed n ws ≡ true
-    → replied (placeOf (find k (entriesOf n ws))) ≡ findCall ws n k
+    → replied (find k (entriesOf n ws)) ≡ findCall ws n k
 unfolding findCall first
 find-stands n ws k ok = sym (rw (first-goes-on 11 0 (not (snapshotFormed n ws)) [] (rw ok)))
 
 -- a search's end, as it is told
 module _ (n : ℕ) (ws : List ℕ) (k i : ℕ) where
-  pub look-none : Before i ≡ spotOf (entriesOf n ws) k → replied none ≡ replied (placeOf (find k (entriesOf n ws)))
+  pub look-none : Before i ≡ spotOf (entriesOf n ws) k → replied none ≡ replied (find k (entriesOf n ws))
   look-none e = sym (rw (find-absent k (entriesOf n ws) (spot-before (entriesOf n ws) k i (sym e) .0)))
 
   pub look-at : At i ≡ spotOf (entriesOf n ws) k → some (changeAt ws i .said) ≡ find k (entriesOf n ws)

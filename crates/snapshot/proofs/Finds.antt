@@ -1,6 +1,7 @@
 -- What is found: in a run, after an insert, and in a fold.
-use Rattle.words.proofs.Prelude.{arith, _≡_, refl, sym, _∙_, ℕ, _<_, Bool, true, false, eqb, eq-eqb, ne-eqb, eqb-true}
-use Rattle.words.proofs.Prelude.{eqb-false, lt-ltb, le-ltb, if_then_else_, Option, none, some, List, [], _∷_, drop}
+use Rattle.words.proofs.Prelude.{arith, _≡_, refl, sym, ap, _∙_, ℕ, _<_, Bool, true, false, eqb, eq-eqb, ne-eqb}
+use Rattle.words.proofs.Prelude.{eqb-true, eqb-false, lt-ltb, le-ltb, if_then_else_, Option, none, some, List, []}
+use Rattle.words.proofs.Prelude.{_∷_, _++_, drop}
 use mathlib.Core.Option.{orElse}
 use Rattle.words.proofs.Tests.{Stand, below, same, above, stand}
 use Rattle.entry.specs.Change.{Said, Change}
@@ -107,3 +108,21 @@ find-onto k s (c ∷ r) = find-onto k (insert c s) r ∙ go (eqb (c .key) k) ref
     go t q (some x) = refl
     go true q none = let e : c .key ≡ k = eqb-true (c .key) k q in rw (← e, find-insert-same c s)
     go false q none = find-insert-other k c s (eqb-false (c .key) k q)
+
+-- in two runs joined: the second's last word, else the first's
+pub or-none : (o : Option Said) → orElse o none ≡ o
+unfolding orElse
+or-none none = refl
+or-none (some x) = refl
+
+or-or : (o p q : Option Said) → orElse (orElse o p) q ≡ orElse o (orElse p q)
+unfolding orElse
+or-or none p q = refl
+or-or (some x) p q = refl
+
+pub last-append : (k : ℕ) (r q : List Change) → lastOf k (r ++ q) ≡ orElse (lastOf k q) (lastOf k r)
+unfolding lastOf
+last-append k [] q = sym (or-none (lastOf k q))
+last-append k (c ∷ r) q =
+    ap (λ (o : Option Said). orElse o (if eqb (c .key) k then some (c .said) else none)) (last-append k r q)
+    ∙ or-or (lastOf k q) (lastOf k r) (if eqb (c .key) k then some (c .said) else none)

@@ -1,11 +1,11 @@
 -- Two replies that meet a claim, and the outputs beside them, are one.
-use Rattle.words.proofs.Prelude.{arith, _≡_, sym, ap, _∙_, ℕ, List}
-use Rattle.entry.specs.declared.BlockPlace.{BlockPlace}
+use Rattle.words.proofs.Prelude.{arith, _≡_, refl, sym, ap, _∙_, ℕ, Option, none, some, List}
+use Rattle.entry.specs.{Change.Said, Change.place, Change.removed, Guards.Answer, Guards.refused, Guards.replied}
 use Rattle.entry.proofs.RefusalLaws.{refusal-known}
 use Rattle.snapshot.specs.{Calls.Outcome, Calls.outcome, Calls.folded, Calls.found, declared.Folded.Folded}
 use Rattle.snapshot.specs.{declared.Folded.the-variants.Keys, declared.Folded.the-variants.Refused}
-use Rattle.snapshot.specs.{declared.Found.Found, declared.Found.the-variants.Place}
-use Rattle.snapshot.specs.{declared.Found.the-variants.Absent, declared.Found.the-variants.Refused as FindRefused}
+use Rattle.snapshot.specs.declared.Found.{Found}
+use Rattle.snapshot.specs.declared.Found.the-variants.{Place, Removed, Unknown, Refused as FindRefused}
 
 folded-known : (r q : Folded) → folded r ≡ folded q → r ≡ q
 folded-known (Keys n) (Keys m) e = cc
@@ -13,18 +13,26 @@ folded-known (Keys n) (Refused y) e = let z : _≡_ {A = ℕ} 0 1 = cc in absurd
 folded-known (Refused x) (Keys m) e = let z : _≡_ {A = ℕ} 0 1 = cc in absurd (omega arith)
 folded-known (Refused x) (Refused y) e = ap Refused (refusal-known x y e)
 
-place-known : (p q : BlockPlace) → p .0 ≡ q .0 → p ≡ q
-place-known p q e = λ i. record { 0 = e i }
+-- the reply that says it; of a refusal, the one given
+abbrev saying : Found → Answer (Option Said) → Found
+saying r (refused n k) = r
+saying r (replied none) = Unknown
+saying r (replied (some (place p))) = Place (record { 0 = p })
+saying r (replied (some removed)) = Removed
+
+said-back : (r : Found) → saying r (found r) ≡ r
+said-back (Place p) = refl
+said-back Removed = refl
+said-back Unknown = refl
+said-back (FindRefused x) = refl
 
 pub find-unique : (r q : Found) → found r ≡ found q → r ≡ q
-find-unique (Place p) (Place q) e = ap Place (place-known p q cc)
-find-unique (Place p) Absent e = let z : _≡_ {A = ℕ} 0 1 = cc in absurd (omega arith)
+find-unique r (Place q) e = sym (said-back r) ∙ ap (saying r) e
+find-unique r Removed e = sym (said-back r) ∙ ap (saying r) e
+find-unique r Unknown e = sym (said-back r) ∙ ap (saying r) e
 find-unique (Place p) (FindRefused y) e = let z : _≡_ {A = ℕ} 0 1 = cc in absurd (omega arith)
-find-unique Absent (Place q) e = let z : _≡_ {A = ℕ} 0 1 = cc in absurd (omega arith)
-find-unique Absent Absent e = cc
-find-unique Absent (FindRefused y) e = let z : _≡_ {A = ℕ} 0 1 = cc in absurd (omega arith)
-find-unique (FindRefused x) (Place q) e = let z : _≡_ {A = ℕ} 0 1 = cc in absurd (omega arith)
-find-unique (FindRefused x) Absent e = let z : _≡_ {A = ℕ} 0 1 = cc in absurd (omega arith)
+find-unique Removed (FindRefused y) e = let z : _≡_ {A = ℕ} 0 1 = cc in absurd (omega arith)
+find-unique Unknown (FindRefused y) e = let z : _≡_ {A = ℕ} 0 1 = cc in absurd (omega arith)
 find-unique (FindRefused x) (FindRefused y) e = ap FindRefused (refusal-known x y e)
 
 -- of `fold` and of `merge`, whatever the claim's right side

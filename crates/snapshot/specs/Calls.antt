@@ -7,14 +7,14 @@ use mathlib.Core.Option.{Option, none, some}
 use lib.Dec.{ltb, eqb}
 use lib.ListN.{length}
 use Rattle.entry.specs.Limits.{keyRoom, snapshotWords}
-use Rattle.entry.specs.Change.{Change, entriesOf, entriesIn, sliceFormed, stored, storedIn}
+use Rattle.entry.specs.Change.{Said, place, removed, Change, entriesOf, entriesIn, sliceFormed, stored, storedIn}
 use Rattle.entry.specs.Guards.{Guard, guard, Verdict, first, Answer, refused, replied, refusedBy}
 use Rattle.entry.specs.Guards.{settle}
-use Rattle.snapshot.specs.Folds.{fold, merge, rising, find, placeOf}
+use Rattle.snapshot.specs.Folds.{fold, merge, rising, find}
 use Rattle.snapshot.specs.declared.Folded.{Folded}
 use Rattle.snapshot.specs.declared.Folded.the-variants.{Keys, Refused}
 use Rattle.snapshot.specs.declared.Found.{Found}
-use Rattle.snapshot.specs.declared.Found.the-variants.{Place, Absent, Refused as FindRefused}
+use Rattle.snapshot.specs.declared.Found.the-variants.{Place, Removed, Unknown, Refused as FindRefused}
 
 -- a lent snapshot in form: its slice's length, its places and zeros, and the order of its n keys
 unfoldable pub snapshotFormed : ℕ → List ℕ → Bool
@@ -52,17 +52,19 @@ mergeCall a n b m out =
     let fine : Bool = snapshotFormed n a && (snapshotFormed m b && eqb (length out) snapshotWords) in
     writtenBy (first (guard 11 0 (not fine) ∷ foldGuards s)) s out
 
-unfoldable pub findCall : List ℕ → ℕ → ℕ → Answer (Option ℕ)
-findCall ws n k = settle (first (guard 11 0 (not (snapshotFormed n ws)) ∷ [])) (placeOf (find k (entriesOf n ws)))
+-- document 02: "must reply place, removed or unknown"; none is unknown
+unfoldable pub findCall : List ℕ → ℕ → ℕ → Answer (Option Said)
+findCall ws n k = settle (first (guard 11 0 (not (snapshotFormed n ws)) ∷ [])) (find k (entriesOf n ws))
 
 -- what the replies say
 abbrev pub folded : Folded → Answer ℕ
 folded (Keys n) = replied n
 folded (Refused r) = refusedBy r
 
-abbrev pub found : Found → Answer (Option ℕ)
-found (Place p) = replied (some (p .0))
-found Absent = replied none
+abbrev pub found : Found → Answer (Option Said)
+found (Place p) = replied (some (place (p .0)))
+found Removed = replied (some removed)
+found Unknown = replied none
 found (FindRefused r) = refusedBy r
 
 -- one call after another, on the snapshot that the first wrote; where the first is refused, so is the whole

@@ -6,7 +6,7 @@ use mathlib.Core.Option.{Option, none, some, orElse}
 use lib.Dec.{ltb, leb, eqb}
 use lib.ListN.{length}
 use Rattle.words.specs.If.{if_then_else_}
-use Rattle.entry.specs.Change.{Said, place, removed, Change}
+use Rattle.entry.specs.Change.{Said, Change}
 
 -- a change put at its key: in the place of an equal one, else before the first larger one
 unfoldable pub insert : Change → List Change → List Change
@@ -37,19 +37,13 @@ unfoldable pub rising : List Change → Bool
 rising [] = true
 rising (d ∷ s) = climbs (d .key) s
 
--- "a search that stops at the first key not below the one asked for"
+-- "a search that stops at the first key not below the one asked for": what is said of the key, none where nothing is
 unfoldable pub find : ℕ → List Change → Option Said
 find k [] = none
 find k (d ∷ s) =
     if ltb (d .key) k then find k s
     else if eqb (d .key) k then some (d .said)
     else none
-
--- "its place or absence": a removed key is absent
-abbrev pub placeOf : Option Said → Option ℕ
-placeOf none = none
-placeOf (some (place p)) = some p
-placeOf (some removed) = none
 
 -- what the last entry of a run for a key says, none if it has none
 unfoldable pub lastOf : ℕ → List Change → Option Said

@@ -11,7 +11,7 @@ ghost use lib.ListN.{length};
 ghost use Rattle.entry.specs.Limits.{width};
 ghost use Rattle.entry.specs.Change.{saidIs, changeCode, entriesOf};
 ghost use Rattle.entry.specs.Guards.{replied};
-ghost use Rattle.snapshot.specs.Folds.{rising, insert, foldOnto, find, placeOf};
+ghost use Rattle.snapshot.specs.Folds.{rising, insert, foldOnto, find};
 ghost use Rattle.snapshot.specs.Calls.{outcome, folded, found};
 ghost use Rattle.snapshot.specs.Inner.{spotOf, Passed, Holds, Shows, FoldIs, Aside, foldWritten, foldedOut};
 
@@ -77,24 +77,24 @@ pub fn search(s: &[u64], n: usize, key: u64) -> Spot
     }
 }
 
-// What is found of a key where an entry says this of it: a removed key is absent.
+// What is found of a key where an entry says this of it.
 pub fn found_of(said: Said) -> Found
-    ensures { λ r. ⌜ found r ≡ replied (placeOf (some (saidIs said))) ⌝ }
+    ensures { λ r. ⌜ found r ≡ replied (some (saidIs said)) ⌝ }
 {
     match said {
         Said::Place(place) => Found::Place(place),
-        Said::Removed => Found::Absent,
+        Said::Removed => Found::Removed,
     }
 }
 
-// Finds a key's place in a snapshot.
+// Finds a key in a snapshot.
 pub fn look_up(s: &[u64], n: usize, key: u64) -> Found
     requires { ⌜ Holds (length (now s)) n (now s) ⌝ }
-    ensures { λ r. ⌜ found r ≡ replied (placeOf (find key (entriesOf n (now (s .entry))))) ⌝ }
+    ensures { λ r. ⌜ found r ≡ replied (find key (entriesOf n (now (s .entry)))) ⌝ }
 {
     let spot = search(s, n, key);
     let Spot::At(i) = spot else {
-        return Found::Absent;
+        return Found::Unknown;
     };
     found_of(entry::inner::said_at(s, i))
 }

@@ -13,10 +13,11 @@ pub enum Folded {
     Refused(Refusal),
 }
 
-// What a search comes to; a removed key is absent.
+// What a search comes to: what the newest word on a key says, or that there is none.
 pub enum Found {
     Place(BlockPlace),
-    Absent,
+    Removed,
+    Unknown,
     Refused(Refusal),
 }
 
@@ -57,7 +58,7 @@ pub fn merge(a: &[u64], n: usize, b: &[u64], m: usize, out: &mut [u64]) -> Folde
     inner::fold_aside(a, n, b, m, out)
 }
 
-// Finds a key's place.
+// Finds a key: its place, that it is removed, or that it is unknown.
 pub fn find(s: &[u64], keys: usize, key: u64) -> Found
     ensures { λ r. ⌜ found r ≡ findCall (now (s .entry)) keys key ⌝ }
 {

@@ -46,7 +46,7 @@ runs-told (a ∷ qs) r h ok = step (a .whole)
         ∙ ap (λ (x : Raw). told (events qs) (record { log = logOf x; history = h }) .log) (left (a .call) r ok)
 
 -- a fresh state stands for a fresh log
-runs-fresh : (n : ℕ) → n ≤ largestBatch → (qs : List Asked)
+pub runs-fresh : (n : ℕ) → n ≤ largestBatch → (qs : List Asked)
     → logOf (runs qs (rawOf (freshLog n))) ≡ told (events qs) (fresh n) .log
 unfolding fresh
 runs-fresh n h qs =

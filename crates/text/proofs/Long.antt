@@ -53,6 +53,7 @@ module _ (w : List ℕ) (h : length (bytes "decide") < length w) where
         off w "batch" (omega arith),
         off w "del" (omega arith),
         off w "decide" (omega arith),
+        off w "find" (omega arith),
         off w "stop" (omega arith),
       )
 
@@ -111,7 +112,7 @@ number-long xs h = go (plain xs) (value-long xs h)
     go false f = refl
     go true f = rw (le-ltb (value 0 xs) (2 ^ 64) (f refl))
 
--- so a line of more bytes than such a name, two numbers and two spaces is none of the nine
+-- so a line of more bytes than such a name, two numbers and two spaces is none of the ten
 second-long : (w : List ℕ) (p : Parsed) → withNumbers w p NoNumber ≡ BadLine
 second-long w (Value m) = refl
 second-long w NoNumber = refl

@@ -1,4 +1,5 @@
--- What the program prints, as bytes: the lines of document 01's replay.
+-- What the program prints, as bytes: the lines of document 01's replay, and document 02's `place P`, `removed` and
+-- `unknown`.
 use Prim.Native.Nat.{ℕ, zero, suc, _-_, _/_}
 use mathlib.Core.Bool.{Bool}
 use mathlib.Core.List.{List, [], _∷_, _++_}
@@ -10,7 +11,7 @@ use Rattle.text.specs.Bytes.{bytes}
 use Rattle.text.specs.Rooms.{mostDigits}
 use Rattle.text.specs.declared.Line.{Line}
 use Rattle.text.specs.declared.Line.the-variants.{Done, Held, Nothing, BadLine, Accepted, Refused, Run, Trimmed}
-use Rattle.text.specs.declared.Line.the-variants.{Snapshot, Stop}
+use Rattle.text.specs.declared.Line.the-variants.{Snapshot, Stop, Place, Removed, Unknown}
 
 -- how many digits n has, counted up to one more than fuel
 abbrev pub digitsUpTo : ℕ → ℕ → ℕ
@@ -32,6 +33,9 @@ lineOf (Run n) = bytes "run " ++ decimalOf n ++ bytes "\n"
 lineOf (Trimmed i) = bytes "trimmed " ++ decimalOf i ++ bytes "\n"
 lineOf (Snapshot i keys) = bytes "snapshot " ++ decimalOf i ++ bytes " " ++ decimalOf keys ++ bytes "\n"
 lineOf (Stop c decided) = bytes "stop " ++ decimalOf c ++ (if decided then bytes " yes\n" else bytes " no\n")
+lineOf (Place p) = bytes "place " ++ decimalOf p ++ bytes "\n"
+lineOf Removed = bytes "removed\n"
+lineOf Unknown = bytes "unknown\n"
 
 -- an entry's key, and its place or `-`
 abbrev pub saidText : Said → List ℕ

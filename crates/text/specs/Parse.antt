@@ -1,5 +1,5 @@
 -- What a line means: "Commands are the nine shown, with `snap` taking an index or `all`. .. Other lines print `bad
--- line`." And document 02: ""All" is now open to trimming too (`trim all`)".
+-- line`." And document 02: ""All" is now open to trimming too (`trim all`)", and the program "gains `find K`".
 use Prim.Native.Nat.{ℕ, _^_}
 use Prim.Native.String.{String}
 use mathlib.Core.Bool.{Bool, true, false, _&&_}
@@ -15,7 +15,7 @@ use Rattle.text.specs.declared.Parsed.{Parsed}
 use Rattle.text.specs.declared.Parsed.the-variants.{Value, NoNumber}
 use Rattle.text.specs.declared.Command.{Command}
 use Rattle.text.specs.declared.Command.the-variants.{Batch, Put, Del, Read, Flush, Decide, Compact, Stop}
-use Rattle.text.specs.declared.Command.the-variants.{BadLine}
+use Rattle.text.specs.declared.Command.the-variants.{Find, BadLine}
 
 -- whether two lists of bytes are one
 abbrev pub sameOf : List ℕ → List ℕ → Bool
@@ -47,6 +47,7 @@ numberedOf w n =
     if w is "batch" then Batch n
     else if w is "del" then Del n
     else if w is "decide" then Decide n
+    else if w is "find" then Find n
     else if w is "stop" then (if ltb n (2 ^ 32) then Stop n else BadLine)
     else BadLine
 

@@ -154,6 +154,9 @@ pub fn put_line(out: &mut [u8], at: usize, line: Line) -> usize
         Line::Trimmed(i) => put_count(out, at, b"trimmed ", i),
         Line::Snapshot(i, keys) => put_two(out, at, b"snapshot ", i, keys),
         Line::Stop(c, decided) => put_stop(out, at, c, decided),
+        Line::Place(p) => put_count(out, at, b"place ", p),
+        Line::Removed => put(out, at, b"removed\n"),
+        Line::Unknown => put(out, at, b"unknown\n"),
     }
 }
 

@@ -33,6 +33,7 @@ pub enum Command {
     Decide(u64),
     Compact(Compaction, Upto),
     Stop(u32),
+    Find(u64),
     BadLine,
 }
 
@@ -48,6 +49,9 @@ pub enum Line {
     Trimmed(u64),
     Snapshot(u64, u64),
     Stop(u32, bool),
+    Place(u64),
+    Removed,
+    Unknown,
 }
 
 // Whether two slices hold the same bytes.
@@ -103,6 +107,9 @@ fn numbered(w: &[u8], n: u64) -> Command
     }
     if same(w, b"decide") {
         return Command::Decide(n);
+    }
+    if same(w, b"find") {
+        return Command::Find(n);
     }
     if same(w, b"stop") {
         if n < 0x1_0000_0000 {

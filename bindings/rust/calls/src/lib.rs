@@ -236,7 +236,7 @@ impl Calls {
             [31, from] => Some(replies::shown(plain::read_decided_suffix(*record, log, snapshot, LogIndex(from)))),
             [32, from, to] => Some(replies::span(plain::get_entries(*record, log, snapshot, LogIndex(from), LogIndex(to)))),
             [33, from] => Some(replies::span(plain::get_suffix(*record, log, snapshot, LogIndex(from)))),
-            [34, key] => Some(replies::maybe_number(plain::lookup(*record, log, snapshot, key))),
+            [34, key] => Some(replies::word(plain::lookup(*record, log, snapshot, key))),
             [35, a, from, b, to] => {
                 let (from, to) = (bound(a, from)?, bound(b, to)?);
                 let shown = plain::read(*record, log, snapshot, from, to);
@@ -298,7 +298,7 @@ impl Calls {
         Some(match *line {
             [50] => replies::number(plain::fold(entries, output)),
             [51, n, m] => replies::number(plain::merge(snapshot, n as usize, second, m as usize, output)),
-            [52, n, key] => replies::maybe_number(plain::find(second, n as usize, key)),
+            [52, n, key] => replies::word(plain::find(second, n as usize, key)),
             [53, n] => replies::flag(plain::snapshot_formed(second, n as usize)),
             [54] => replies::flag(plain::entries_formed(entries)),
             [55, word] => replies::flag(plain::place_formed(word)),

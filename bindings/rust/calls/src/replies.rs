@@ -41,6 +41,15 @@ pub fn maybe_number(said: Said) -> Vec<u64> {
     }
 }
 
+/// What is known of a key.
+pub fn word(said: Said) -> Vec<u64> {
+    match said.told {
+        0 => answer(said, &[1]),
+        1 => answer(said, &[2, said.first]),
+        _ => answer(said, &[3]),
+    }
+}
+
 /// What was flushed, or that it is held.
 pub fn maybe_flushed(said: Said) -> Vec<u64> {
     match said.told {

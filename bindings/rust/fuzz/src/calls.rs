@@ -6,6 +6,7 @@ use crate::images;
 use crate::states::Case;
 use kotuseraw::entry::{entries, words, ENTRIES, KEYS};
 use kotuseraw::plain::{self, BlockPlace, Bound, IndexRecord, Lent, LogSync, Ops, Reply, Said, ShownSaid, LARGEST_BATCH};
+use kotuseraw::Entry;
 
 /// What an accepted call may change.
 #[derive(Clone, Copy)]
@@ -97,6 +98,33 @@ fn shown(record: IndexRecord, of: ShownSaid) -> Result<Answer, String> {
         hold(of.marker < 3 && of.decided <= of.count && (of.stop || !of.stop_decided), format_args!("it says {of:?}"))?;
     }
     Ok(Answer { number: of.number, wrote: None })
+}
+
+/// What is told of a key is what the last of its entries says.
+fn found<'a>(of: Said, key: u64, held: impl DoubleEndedIterator<Item = &'a Entry>) -> Result<Answer, String> {
+    let last = held.rev().find(|entry| entry.key() == key);
+    let due = match last.map(Entry::place) {
+        None => (0, 0),
+        Some(Some(place)) => (1, place.0),
+        Some(None) => (2, 0),
+    };
+    hold(of.number != 0 || (of.told, of.first) == due, format_args!("of {key} {due:?} is due: it says {of:?}"))?;
+    said(of)
+}
+
+fn find(turn: &mut Turn, case: &Case, dice: &mut Dice) -> Result<Answer, String> {
+    let key = dice.key();
+    let held = entries(&case.second).get(..case.keys).unwrap_or_default();
+    found(plain::find(turn.second.words(), case.keys, key), key, held.iter())
+}
+
+fn lookup(turn: &mut Turn, case: &Case, dice: &mut Dice) -> Result<Answer, String> {
+    let (key, record) = (dice.key(), turn.record);
+    let held = entries(&case.state.snapshot).get(..record.keys).unwrap_or_default();
+    // A stop-sign that is decided is no entry.
+    let decided = record.decided.0.wrapping_sub(record.compacted.0).min(record.retained as u64);
+    let log = entries(&case.state.log).get(..decided as usize).unwrap_or_default();
+    found(plain::lookup(record, turn.log.words(), turn.snapshot.words(), key), key, held.iter().chain(log))
 }
 
 /// So many words said to be copied: those due, at the front of the output where they fit, which is else as it was.
@@ -271,7 +299,7 @@ pub const ALL: &[Call] = &[
         let made = plain::merge(a, n, t.second.words(), c.keys, t.out.words_mut());
         wrote(made, made.first)
     }),
-    Call::of("find", 1, &[0, 11], Changes::Nothing, |t, c, d| said(plain::find(t.second.words(), c.keys, d.key()))),
+    Call::of("find", 1, &[0, 11], Changes::Nothing, find),
     Call::of("create_snapshot", 3, &[0, 12, 11, 3, 2, 16, 8], Changes::Output, create),
     Call::of("create_diff_snapshot", 3, &[0, 12, 11, 16, 8], Changes::Output, diff),
     Call::of("well_formed", 2, &[0], Changes::Nothing, |t, c, _| {
@@ -344,7 +372,7 @@ pub const ALL: &[Call] = &[
         lists: true,
         ..Call::of("write_atomically", 3, &[0, 12, 11, 7, 1, 9], Changes::Words, |t, c, d| list(plain::write_atomically, t, c, d))
     },
-    Call::of("lookup", 2, &[0, 12], Changes::Nothing, |t, _, d| said(plain::lookup(t.record, t.log.words(), t.snapshot.words(), d.key()))),
+    Call::of("lookup", 2, &[0, 12], Changes::Nothing, lookup),
     Call::of("read", 5, &[0, 12, 11], Changes::Nothing, |t, _, d| {
         let (from, to) = bounds(&t.record, d);
         let answer = shown(t.record, plain::read(t.record, t.log.words(), t.snapshot.words(), from, to));

@@ -1,7 +1,7 @@
 //! Calls at random through the boundary, on states that calls reached, on such states with something broken, and on noise. After each it
 //! is held that the call left alone what it may not touch, that a refusal is one of its own and changed nothing, and that what it
-//! accepted is well formed by the library's test and by another reading of document 01. An image that is written is read back, whole and with
-//! bytes changed; what is read is written again.
+//! accepted is well formed by the library's test and by another reading of document 01. What is told of a key is what the last of its entries
+//! says. An image that is written is read back, whole and with bytes changed; what is read is written again.
 //!
 //! A run is the same for the same seed: a call on which the process dies is found by running it again in a debugger.
 use check::Turn;

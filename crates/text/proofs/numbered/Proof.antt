@@ -15,6 +15,10 @@ noDecide : (c : tie.Else3) → (now
     (c .before .before .before .before .before .before .before .before .before .before .args .w) is "decide") ≡ false
 noDecide c = sym (c .before .same3 .ensures) ∙ c .if3 .left
 
+noFind : (c : tie.Else4) → (now
+    (c .before .before .before .before .before .before .before .before .before .before .before .before .before .args .w) is "find") ≡ false
+noFind c = sym (c .before .same4 .ensures) ∙ c .if4 .left
+
 returns : tie.Need-returns
 unfolding numberedOf
 returns c = rw (sym (c .before .same .ensures) ∙ c .if1 .taken)
@@ -35,26 +39,37 @@ returns-3 c =
 returns-4 : tie.Need-returns-4
 unfolding numberedOf
 returns-4 c =
-    let e3 = c .before .before .before .before in
+    let e3 = c .before .before .before in
     let e2 = e3 .before .before .before in
     let e1 = e2 .before .before .before in
-    rw (noBatch e1, noDel e2, noDecide e3, sym (c .before .before .same4 .ensures) ∙ c .before .if4 .taken, lt-ltb _ _ (c .if5 .taken))
+    rw (noBatch e1, noDel e2, noDecide e3, sym (c .before .same4 .ensures) ∙ c .if4 .taken)
 
 returns-5 : tie.Need-returns-5
 unfolding numberedOf
 returns-5 c =
-    let e3 = c .before .before .before .before in
+    let e4 = c .before .before .before .before in
+    let e3 = e4 .before .before .before in
     let e2 = e3 .before .before .before in
     let e1 = e2 .before .before .before in
-    rw (noBatch e1, noDel e2, noDecide e3, sym (c .before .before .same4 .ensures) ∙ c .before .if4 .taken, le-ltb _ _ (c .if5 .left))
+    rw (noBatch e1, noDel e2, noDecide e3, noFind e4, sym (c .before .before .same5 .ensures) ∙ c .before .if5 .taken, lt-ltb _ _ (c .if6 .taken))
 
 returns-6 : tie.Need-returns-6
 unfolding numberedOf
 returns-6 c =
-    let e3 = c .before .before .before in
+    let e4 = c .before .before .before .before in
+    let e3 = e4 .before .before .before in
     let e2 = e3 .before .before .before in
     let e1 = e2 .before .before .before in
-    rw (noBatch e1, noDel e2, noDecide e3, sym (c .before .same4 .ensures) ∙ c .if4 .left)
+    rw (noBatch e1, noDel e2, noDecide e3, noFind e4, sym (c .before .before .same5 .ensures) ∙ c .before .if5 .taken, le-ltb _ _ (c .if6 .left))
+
+returns-7 : tie.Need-returns-7
+unfolding numberedOf
+returns-7 c =
+    let e4 = c .before .before .before in
+    let e3 = e4 .before .before .before in
+    let e2 = e3 .before .before .before in
+    let e1 = e2 .before .before .before in
+    rw (noBatch e1, noDel e2, noDecide e3, noFind e4, sym (c .before .same5 .ensures) ∙ c .if5 .left)
 
 pub numbered-spec : {M : Type 1} → statement M
 numbered-spec =
@@ -71,7 +86,10 @@ numbered-spec =
     returns-3
     (λ c. search needs)
     (λ c κs. search needs)
-    (λ c. search needs)
     returns-4
+    (λ c. search needs)
+    (λ c κs. search needs)
+    (λ c. search needs)
     returns-5
-    returns-6)
+    returns-6
+    returns-7)

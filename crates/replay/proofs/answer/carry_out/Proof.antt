@@ -61,8 +61,14 @@ returns-8 c =
     (c .before .before .before .before .command7 .given .1))
 
 returns-9 : tie.Need-returns-9
-unfolding answering
 returns-9 c =
+    let a = c .before .before .before .before .before .before .before .before .args in
+    c .find .ensures ∙ sym (ap (λ (x : Command). answering x (raw (a .index) (now (a .log)) (now (a .snapshot))))
+    (c .before .before .before .before .command8 .given .1))
+
+returns-10 : tie.Need-returns-10
+unfolding answering
+returns-10 c =
     let a = c .before .before .before .before .args in
     sym (ap (λ (x : Command). answering x (raw (a .index) (now (a .log)) (now (a .snapshot))))
     (c .enum-told2 .given .1))
@@ -71,6 +77,8 @@ pub carry-out-spec : {M : Type 1} → statement M
 carry-out-spec =
     tie.close
     (tie.spec
+    (λ c. search needs)
+    (λ c κs. search needs)
     (λ c. search needs)
     (λ c κs. search needs)
     (λ c. search needs)
@@ -112,4 +120,7 @@ carry-out-spec =
     (λ c. search needs)
     (λ c. search needs)
     returns-8
-    returns-9)
+    (λ c. search needs)
+    (λ c. search needs)
+    returns-9
+    returns-10)

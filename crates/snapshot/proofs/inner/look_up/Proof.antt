@@ -1,7 +1,6 @@
 -- `snapshot::inner::look_up` meets its contract: by where the search ended.
 use Rattle.words.proofs.Prelude.{needs, arith, now, sym, ap, _∙_, Option, some}
 use Rattle.entry.specs.{Change.Said, Guards.replied}
-use Rattle.snapshot.specs.Folds.{placeOf}
 use Rattle.snapshot.proofs.{Searching.spot-inside, Calling.look-none, Calling.look-at}
 use Rattle.snapshot.proofs.{inner.look_up.Statement.statement}
 use Rattle.snapshot.proofs.inner.look_up.Tie as tie
@@ -29,8 +28,8 @@ returns-2 c =
     let f = e .before .before .before in
     let st = f .before .before in
     c .found-of .ensures
-    ∙ ap (λ (x : Said). replied (placeOf (some x))) (c .before .said-at .ensures)
-    ∙ ap (λ (o : Option Said). replied (placeOf o))
+    ∙ ap (λ (x : Said). replied (some x)) (c .before .said-at .ensures)
+    ∙ ap (λ (o : Option Said). replied o)
     (look-at (st .args .n) (now (st .args .s)) (st .args .key) _ (sym (e .before .spot .given .1) ∙ f .search .ensures))
 
 pub look-up-spec : {M : Type 1} → statement M

@@ -73,6 +73,27 @@ returns-10 c = (
   rw (c .before .before .before .before .before .line6 .given .1) (c .before .before .put-stop .ensures .1),
 )
 
+returns-11 : tie.Need-returns-11
+unfolding lineOf
+returns-11 c = (
+  search needs,
+  rw (c .before .before .before .before .before .before .line7 .given .1) (c .before .before .put-count5 .ensures .1),
+)
+
+returns-12 : tie.Need-returns-12
+unfolding lineOf
+returns-12 c = (
+  search needs,
+  rw (c .before .before .before .before .before .enum-told5 .given .1) (c .before .before .put5 .ensures .1),
+)
+
+returns-13 : tie.Need-returns-13
+unfolding lineOf
+returns-13 c = (
+  search needs,
+  rw (c .before .before .before .before .before .enum-told6 .given .1) (c .before .before .put6 .ensures .1),
+)
+
 pub put-line-spec : {M : Type 1} → statement M
 put-line-spec =
     tie.close
@@ -107,6 +128,15 @@ put-line-spec =
     (λ c. search needs)
     (λ c κs. search needs)
     (λ c. search needs)
+    (λ c. search needs)
+    (λ c κs. search needs)
+    (λ c. search needs)
+    (λ c. search needs)
+    (λ c κs. search needs)
+    (λ c. search needs)
+    (λ c. search needs)
+    (λ c κs. search needs)
+    (λ c. search needs)
     returns
     (λ c. search needs)
     returns-2
@@ -125,4 +155,10 @@ put-line-spec =
     (λ c. search needs)
     returns-9
     (λ c. search needs)
-    returns-10)
+    returns-10
+    (λ c. search needs)
+    returns-11
+    (λ c. search needs)
+    returns-12
+    (λ c. search needs)
+    returns-13)

@@ -3,7 +3,7 @@
 use Rattle.words.proofs.Prelude.{arith, _≡_, refl, ℕ, true, Option, none, some, List, [], _∷_, _++_, take}
 use mathlib.Core.Option.{orElse}
 use Rattle.words.specs.All.{allOf}
-use Rattle.entry.specs.{Change.Said, Change.place, Change.removed, Change.Change, Sign.signFormed, Guards.passes}
+use Rattle.entry.specs.{Change.place, Change.removed, Change.Change, Sign.signFormed, Guards.passes}
 use Rattle.entry.specs.{Guards.refuses, Guards.first}
 use Rattle.entry.specs.declared.Compaction.the-variants.{Snapshot}
 use Rattle.snapshot.specs.Folds.{insert, foldOnto, fold, merge, climbs, rising, find, lastOf}

@@ -1,7 +1,7 @@
 -- What a lookup tells is what the fold of the history's decided part says: place and removed in every state, unknown on
 -- a log without a hole.
-use Rattle.words.proofs.Prelude.{arith, _≡_, sym, ap, _∙_, ℕ, _+_, _-_, _≤_, Bool, true, false, not, ltb, Option, none}
-use Rattle.words.proofs.Prelude.{some, List, [], take, drop, refl}
+use Rattle.words.proofs.Prelude.{arith, _≡_, refl, sym, ap, _∙_, ℕ, _+_, _-_, _≤_, Bool, true, false, not, ltb, Option}
+use Rattle.words.proofs.Prelude.{none, some, List, [], take, drop}
 use mathlib.Core.Option.{orElse}
 use lib.Seq.{take-add}
 use Rattle.words.proofs.Tests.{and-right}

@@ -1,6 +1,6 @@
 -- A walk back through entries for the newest one of a key, and the whole lookup.
-use Rattle.words.proofs.Prelude.{arith, _≡_, refl, sym, ap, _∙_, ℕ, suc, _+_, _-_, _*_, _≤_, Bool, true, false, eqb}
-use Rattle.words.proofs.Prelude.{eq-eqb, ne-eqb, if_then_else_, Option, none, some, List, [], _∷_, _++_}
+use Rattle.words.proofs.Prelude.{arith, _≡_, refl, sym, ap, ap₂, _∙_, ℕ, suc, _+_, _-_, _*_, _≤_, Bool, true, false}
+use Rattle.words.proofs.Prelude.{eqb, eq-eqb, ne-eqb, if_then_else_, Option, none, some, List, [], _∷_, _++_}
 use Rattle.words.proofs.Prelude.{drop-of-length-le, take-append-drop, length, take, drop}
 use mathlib.Core.Option.{orElse}
 use Rattle.words.specs.Coded.{entriesAt}
@@ -88,7 +88,10 @@ module _ (r : Raw) (g : Ready r) (k : ℕ) where
   abbrev below : ℕ
   below = logDecided (numbersIn (r .index)) - r .index .compacted .0
 
-  snapshot : orEmpty (logOf r .run .held) ≡ entriesOf (r .index .keys) (r .snapshot)
+  abbrev held : List Change
+  held = entriesOf (r .index .keys) (r .snapshot)
+
+  snapshot : orEmpty (logOf r .run .held) ≡ held
   unfolding logOf
   snapshot = snapshot-by (r .index .«snapshot_held») (r .index .keys) (r .snapshot)
       (stands-of r (g .okay) .run .snapshot-keys)
@@ -101,48 +104,40 @@ module _ (r : Raw) (g : Ready r) (k : ℕ) where
       (ap logDecided (numbers-are (logOf r) r (stands-of r (g .okay))))
       ∙ entries-take changeCode below (r .index .retained) (r .log) (decided-few r g)
 
-  pub look-answer : (y : Option Said)
-      → y ≡ orElse (lastOf k (entriesOf below (r .log))) (find k (entriesOf (r .index .keys) (r .snapshot)))
-      → replied y ≡ run (query (lookup k)) true r .answer
+  look-answer : replied (orElse (lastOf k (entriesOf below (r .log))) (find k held))
+      ≡ run (query (lookup k)) true r .answer
   unfolding queryReply queryGuards lookupReply
-  look-answer y e =
-      answer-is (lookup k) r (g .okay) refl refl y
-      (e ∙ ap (λ (l : List Change). orElse (lastOf k l) (find k (entriesOf (r .index .keys) (r .snapshot))))
-      (sym retained-is)
-      ∙ ap (λ (l : List Change). orElse (lastOf k (take (logDecided (numbersOf (logOf r))
-      - logOf r .run .compacted) (logOf r .run .retained))) (find k l)) (sym snapshot))
+  look-answer =
+      answer-is (lookup k) r (g .okay) refl refl (orElse (lastOf k (entriesOf below (r .log))) (find k held))
+      (ap₂ (λ (l m : List Change). orElse (lastOf k l) (find k m)) (sym retained-is) (sym snapshot))
 
   -- d is log-decided, as the code has it
   module _ (d : ℕ) (q : d ≡ logDecided (numbersIn (r .index))) where
-    last-is : (o : Option Said) → o ≡ lastOf k (entriesOf (d - r .index .compacted .0) (r .log))
-        → o ≡ lastOf k (entriesOf below (r .log))
-    last-is o e = e ∙ ap (λ (j : ℕ). lastOf k (entriesOf (j - r .index .compacted .0) (r .log))) q
+    abbrev newest : Option Said
+    newest = lastOf k (entriesOf (d - r .index .compacted .0) (r .log))
 
     pub look-inside : (d - r .index .compacted .0) * width ≤ length (r .log)
     look-inside = omega (arith, q, decided-few r g, g .log .long, g .log .fits)
 
-    look-said : (x : Said) → lastOf k (entriesOf (d - r .index .compacted .0) (r .log)) ≡ some x
-        → replied (some x) ≡ run (query (lookup k)) true r .answer
-    unfolding orElse
-    look-said x e = look-answer (some x)
-        (ap (λ (o : Option Said). orElse o (find k (entriesOf (r .index .keys) (r .snapshot))))
-        (last-is (some x) (sym e)))
+    look-with : (o : Option Said) → newest ≡ o
+        → replied (orElse o (find k held)) ≡ run (query (lookup k)) true r .answer
+    look-with o e =
+        ap (λ (p : Option Said). replied (orElse p (find k held)))
+        (sym e ∙ ap (λ (j : ℕ). lastOf k (entriesOf (j - r .index .compacted .0) (r .log))) q)
+        ∙ look-answer
 
     -- a word of the entries is told
-    pub look-told : (f : Found) → found f ≡ replied (lastOf k (entriesOf (d - r .index .compacted .0) (r .log)))
-        → (f ≡ Unknown → ⊥) → found f ≡ run (query (lookup k)) true r .answer
-    look-told f e known = go (lastOf k (entriesOf (d - r .index .compacted .0) (r .log))) refl
+    pub look-told : (f : Found) → found f ≡ replied newest → (f ≡ Unknown → ⊥)
+        → found f ≡ run (query (lookup k)) true r .answer
+    unfolding orElse
+    look-told f e known = go newest refl
       where
-        go : (o : Option Said) → lastOf k (entriesOf (d - r .index .compacted .0) (r .log)) ≡ o
-            → found f ≡ run (query (lookup k)) true r .answer
-        go none q = absurd (known (find-unique f Unknown (e ∙ ap (λ (o : Option Said). replied o) q)))
-        go (some x) q = e ∙ ap (λ (o : Option Said). replied o) q ∙ look-said x q
+        go : (o : Option Said) → newest ≡ o → found f ≡ run (query (lookup k)) true r .answer
+        go none p = absurd (known (find-unique f Unknown (e ∙ ap (λ (o : Option Said). replied o) p)))
+        go (some x) p = e ∙ ap (λ (o : Option Said). replied o) p ∙ look-with (some x) p
 
     -- where they have none the snapshot is asked
-    pub look-snapshot : found Unknown ≡ replied (lastOf k (entriesOf (d - r .index .compacted .0) (r .log)))
-        → replied (find k (entriesOf (r .index .keys) (r .snapshot))) ≡ run (query (lookup k)) true r .answer
+    pub look-snapshot : found Unknown ≡ replied newest
+        → replied (find k held) ≡ run (query (lookup k)) true r .answer
     unfolding orElse
-    look-snapshot e =
-        let q : none ≡ lastOf k (entriesOf (d - r .index .compacted .0) (r .log)) = cc in
-        look-answer (find k (entriesOf (r .index .keys) (r .snapshot)))
-        (ap (λ (o : Option Said). orElse o (find k (entriesOf (r .index .keys) (r .snapshot)))) (last-is none q))
+    look-snapshot e = let p : newest ≡ none = cc in look-with none p

@@ -1,5 +1,5 @@
 -- Demand 3, its first sentence, for snapshots without words: folds and merges, at any capacity.
-use Rattle.words.proofs.Prelude.{arith, _≡_, refl, sym, ap, _∙_, ℕ, _≤_, _<_, true, le-leb, lt-leb, Option, none, some}
+use Rattle.words.proofs.Prelude.{arith, _≡_, sym, ap, _∙_, ℕ, _≤_, _<_, true, le-leb, lt-leb, Option, none, some}
 use Rattle.words.proofs.Prelude.{List, [], _++_, length}
 use mathlib.Core.Option.{bind, orElse}
 use Rattle.words.proofs.Tests.{Reach, reached, short, reach}

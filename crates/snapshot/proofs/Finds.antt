@@ -109,7 +109,6 @@ find-onto k s (c ∷ r) = find-onto k (insert c s) r ∙ go (eqb (c .key) k) ref
     go true q none = let e : c .key ≡ k = eqb-true (c .key) k q in rw (← e, find-insert-same c s)
     go false q none = find-insert-other k c s (eqb-false (c .key) k q)
 
--- in two runs joined: the second's last word, else the first's
 pub or-none : (o : Option Said) → orElse o none ≡ o
 unfolding orElse
 or-none none = refl
@@ -120,6 +119,7 @@ unfolding orElse
 or-or none p q = refl
 or-or (some x) p q = refl
 
+-- in two runs joined: the second's last word, else the first's
 pub last-append : (k : ℕ) (r q : List Change) → lastOf k (r ++ q) ≡ orElse (lastOf k q) (lastOf k r)
 unfolding lastOf
 last-append k [] q = sym (or-none (lastOf k q))

@@ -1,9 +1,8 @@
 -- `reading::inner::look` meets its contract: what the newest of the entries says, or what the snapshot does.
-use Rattle.words.proofs.Prelude.{needs, arith, now, _≡_, sym, ap, _∙_, ℕ, [], _∷_}
-use mathlib.Core.Logic.{_⊎_, inl, inr}
+use Rattle.words.proofs.Prelude.{needs, arith, now, _≡_, sym, ap, _∙_, [], _∷_}
+use mathlib.Core.Logic.{inl, inr}
 use types.Run.{OneOf}
 use denote.Enum.Declared.{tagOf}
-use Rattle.entry.specs.Guards.{replied}
 use Rattle.snapshot.specs.Calls.{found}
 use Rattle.snapshot.specs.declared.Found.{Found}
 use Rattle.snapshot.specs.declared.Found.the-variants.{Unknown}

@@ -3,7 +3,7 @@
 use crate::backend::{Backend, Change, Keys, Shared, Sight};
 use crate::ballot_leader_election::Ballot as RustBallot;
 use crate::limits::{ENTRIES, KEYS};
-use crate::shown::{self, ADDED, FRESH, LARGEST, STATES};
+use crate::shown::{self, ABOVE, ADDED, FRESH, LARGEST, STATES};
 use crate::storage::internal_storage::{InternalStorage, InternalStorageConfig};
 use crate::storage::{
     Snapshot as _, SnapshotType as RustType, StopSign as RustStop, Storage, StorageOp,
@@ -338,47 +338,101 @@ fn starts(meter: &mut Meter) {
     }
 }
 
-/// Folds, merges and finds, beside the Rust's snapshot, which is a BTreeMap.
+fn changes_of(run: &[Entry]) -> Vec<Change> {
+    run.iter().map(changed).collect()
+}
+
+/// A snapshot that a Rust program would keep in a sorted `Vec`: each entry over its key's, or where it belongs.
+fn put_sorted(held: &mut Vec<Entry>, run: &[Entry]) {
+    for entry in run {
+        match held.binary_search_by_key(&entry.key(), Entry::key) {
+            Ok(at) => held[at] = *entry,
+            Err(at) => held.insert(at, *entry),
+        }
+    }
+}
+
+/// A fold onto ascending keys by sorted runs: all merged in order of their keys, then the last of each key.
+fn by_runs(held: &[Entry], run: &[Entry]) -> Vec<Entry> {
+    let mut all = [held, run].concat();
+    all.sort_by_key(Entry::key);
+    let mut kept: Vec<Entry> = Vec::with_capacity(all.len());
+    for entry in all {
+        match kept.last_mut().filter(|last| last.key() == entry.key()) {
+            Some(last) => *last = entry,
+            None => kept.push(entry),
+        }
+    }
+    kept
+}
+
+/// Folds, merges and finds, beside the Rust's snapshot, which is a BTreeMap, and beside a sorted `Vec`.
 fn snapshots(meter: &mut Meter) {
-    for n in [0, KEYS / 8, KEYS] {
-        let row = |what: &str| format!("{what}, {n}");
+    for (state, n, _) in STATES {
+        let row = |what: &str| format!("{state}: {what}");
+        let (ours, rusts, halves) = ("ours", "Rust: one BTreeMap", "Rust: by halves in a Vec");
         let run: Vec<Entry> = (0..n).map(|i| Entry::put(key(i), BlockPlace(i))).collect();
-        let changes: Vec<Change> = run.iter().map(changed).collect();
-        let folded = meter.of("snapshot", &row("fold of entries"), "ours", || {
-            Snapshot::fold(&run)
-        });
-        let made = meter.of("snapshot", &row("fold of entries"), "Rust", || {
-            Keys::create(&changes)
-        });
-        let (folded, later) = (
-            folded.unwrap(),
-            Snapshot::fold(&run[..run.len() / 2]).unwrap(),
+        let (changes, half) = (changes_of(&run), run.len() / 2);
+        let mut sorted = Vec::with_capacity(KEYS as usize);
+        let mut fold = |what: &str, run: &[Entry], changes: &[Change]| {
+            let what = row(what);
+            sorted.clear();
+            let folded = meter.of("snapshot", &what, ours, || Snapshot::fold(run));
+            let made = meter.of("snapshot", &what, rusts, || Keys::create(changes));
+            meter.of("snapshot", &what, halves, || put_sorted(&mut sorted, run));
+            let runs = meter.of("snapshot", &what, "Rust: by sorted runs", || {
+                by_runs(&[], run)
+            });
+            let folded = folded.unwrap();
+            assert_eq!((folded.entries(), &runs), (&sorted[..], &sorted));
+            (folded, made)
+        };
+        let (folded, made) = fold("fold of its keys, scattered", &run, &changes);
+        let ascending = folded.entries();
+        fold(
+            "fold of its keys, ascending",
+            ascending,
+            &changes_of(ascending),
         );
-        let mut both = made.clone();
-        let delta = Keys::create(&changes[..changes.len() / 2]);
-        let merged = meter.of("snapshot", &row("merge of half onto keys"), "ours", || {
-            folded.merge(&later)
+        let later = Snapshot::fold(&run[..half]).unwrap();
+        let (mut both, delta) = (made.clone(), Keys::create(&changes[..half]));
+        let what = row("merge of half the keys onto all");
+        let merged = meter.of("snapshot", &what, ours, || folded.merge(&later));
+        meter.of("snapshot", &what, rusts, || both.merge(delta));
+        meter.of("snapshot", &what, halves, || {
+            put_sorted(&mut sorted, later.entries())
         });
-        meter.of("snapshot", &row("merge of half onto keys"), "Rust", || {
-            both.merge(delta)
-        });
-        assert_eq!(
-            merged
-                .unwrap()
-                .entries()
-                .iter()
-                .map(changed)
-                .collect::<Vec<_>>(),
-            both.entries()
-        );
-        let last = black_box(folded.entries().last().map_or(1, Entry::key));
-        let found = meter.of("snapshot", &row("find of the last of keys"), "ours", || {
-            folded.find(last)
-        });
-        let place = meter.of("snapshot", &row("find of the last of keys"), "Rust", || {
-            made.0.get(&last).copied().flatten()
-        });
-        assert_eq!(found.place().map(|p| p.0), place);
+        let merged = merged.unwrap();
+        assert_eq!(merged.entries(), sorted);
+        assert_eq!(changes_of(&sorted), both.entries());
+        let keys: Vec<u64> = sorted.iter().map(Entry::key).collect();
+        for (at, k) in standing(&keys) {
+            let (what, k) = (row(&format!("find, {at}")), black_box(k));
+            let found = meter.of("snapshot", &what, ours, || folded.find(k));
+            let place = meter.of("snapshot", &what, rusts, || {
+                made.0.get(&k).copied().flatten()
+            });
+            let spot = meter.of("snapshot", &what, halves, || {
+                sorted.binary_search_by_key(&k, Entry::key)
+            });
+            let there = spot.ok().and_then(|at| sorted[at].place());
+            assert_eq!((found.place(), place), (there, there.map(|p| p.0)));
+        }
+    }
+}
+
+/// Keys that stand where a search may end, of so many ascending ones.
+fn standing(keys: &[u64]) -> Vec<(&'static str, u64)> {
+    match keys {
+        [first, .., last] => vec![
+            ("the first", *first),
+            ("half way", keys[keys.len() / 2]),
+            ("the last", *last),
+            ("nowhere, below all", 0),
+            ("nowhere, between", keys[keys.len() / 2] + 1),
+            ("nowhere, above all", u64::MAX),
+        ],
+        _ => vec![("nowhere", 3)],
     }
 }
 
@@ -519,12 +573,7 @@ fn growth(meter: &mut Meter) {
             })
             .unwrap();
         meter
-            .of(
-                "growth",
-                &row,
-                "lookup of a last key that is nowhere, owned",
-                || index.lookup(u64::MAX),
-            )
+            .of("growth", &row, ABOVE, || index.lookup(u64::MAX))
             .unwrap();
         let mut i = index.clone();
         meter
@@ -538,6 +587,12 @@ fn growth(meter: &mut Meter) {
                 rust.try_snapshot(None)
             })
             .unwrap();
+        let (held, decided) = (index.snapshot().unwrap_or(&[]), record.decided);
+        let run = index.get_entries(record.compacted, decided).unwrap();
+        let runs = meter.of("growth", &row, "its fold by sorted runs, in Rust", || {
+            by_runs(held, run)
+        });
+        assert_eq!(i.snapshot().unwrap_or(&[]), runs);
     }
 }
 
@@ -569,10 +624,13 @@ pub fn run(words: &[String]) -> Result<bool, String> {
                 }
             }
         }
-        Some("show") if words.len() > 2 => shown::run(&words[1], &words[2], words.get(3)),
+        Some("show") if words.len() > 3 => {
+            shown::run(&words[1], &words[2], &words[3], words.get(4))
+        }
         _ => {
             return Err(
-                "usage: oracle figures count | time | show BEFORE COUNTS [TIMES]".to_string(),
+                "usage: oracle figures count | time | show BEFORE WALKED COUNTS [TIMES]"
+                    .to_string(),
             )
         }
     }

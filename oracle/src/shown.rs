@@ -19,6 +19,9 @@ pub const ADDED: u64 = 16;
 pub const FRESH: &str = "a fresh log's";
 pub const LARGEST: &str = "the largest";
 
+/// The column of the lookup whose search passes every key.
+pub const ABOVE: &str = "lookup of a last key that is nowhere, owned";
+
 /// In the time, or the instructions, of so many lent calls the largest image is to be written, and to be read: "a few hundred".
 const FEW_HUNDRED: u64 = 200;
 
@@ -26,6 +29,7 @@ const FEW_HUNDRED: u64 = 200;
 const WORDS: u64 = (LOG_WORDS + SNAPSHOT_WORDS) as u64;
 
 /// A number, and what was measured: a table, a row of it and a column.
+#[derive(Clone)]
 struct Figure {
     number: u64,
     table: String,
@@ -144,6 +148,13 @@ fn print_images(order: &[Figure], times: &[Figure]) {
     println!();
 }
 
+/// What a column takes on a full snapshot more than on an empty one, with no entry after it.
+fn grown(figures: &[Figure], column: &str) -> u64 {
+    let row = |keys: u64| format!("{keys} keys, 0 entries");
+    let on = |keys| number(figures, "growth", &row(keys), column).unwrap();
+    on(KEYS) - on(0)
+}
+
 /// A bar: a figure, with what it may cost at most.
 fn print_bars(before: &[Figure], now: &[Figure]) {
     let full = |figures: &[Figure], row, way| number(figures, "call", row, &format!("{way}, full"));
@@ -197,6 +208,15 @@ fn print_bars(before: &[Figure], now: &[Figure]) {
         full(now, append, "Rust"),
         "the Rust's",
     );
+    // The owned lookup judged the keys then, too.
+    let search = grown(before, ABOVE) - grown(before, "well_formed");
+    row(
+        &format!("a search of {KEYS} keys, for one above all"),
+        Some(search),
+        Some(grown(now, ABOVE)),
+        Some(search / 20),
+        "a twentieth",
+    );
     let newest = "the newest entry";
     let ten = look(now, newest, scan).map(|n| 10 * n);
     row(
@@ -243,6 +263,9 @@ fn head() -> String {
 same on every machine; the turns of repeated string instructions, by which libc copies, are left out. Times are the least of 200 rounds of
 one call, the clock's own 20 to 50 ns within, where the machine is x86-64.
 
+*Walked* is what it was before the search was by halves, as `oracle/walk.counts` keeps it: the search walked the keys from the front then,
+four a step.
+
 An empty state has no key and no entry. A half one has {} keys in its snapshot and {} entries after it, a full one {} and {} ({room}
 where the call adds sixteen), over half of the keys; all but the last entry are decided. *Lent* is a call on a record and words that the
 caller lends, whose form is judged first; *owned* one through the crate's `Index`, which is not judged again where the boundary has an
@@ -260,15 +283,26 @@ them is libc's of so many bytes. What a file costs beyond them is the device's.
     )
 }
 
+fn bars(walked: &[Figure]) -> String {
+    format!(
+        "## Bars of speed
+
+Instructions; before: as `oracle/before.counts` keeps them, when every call judged its state, one test a place, and a search took one key a
+step. A search is what a lookup takes on {KEYS} keys and no entry, less what it takes on none; with four keys a step it took {}.
+",
+        written(grown(walked, ABOVE))
+    )
+}
+
 fn slower() -> String {
     format!(
         "## Where we are slower, and why
 
 - A call on lent words judges all {} of them first: that is most of what a lent call costs, and why an owned state is not judged again.
-- Folding (a snapshot, `create_snapshot`, a delta, `sync_log` with one) finds each key's place in the sorted words by a walk from the
-  front, four keys a step, and moves what follows; the Rust inserts into a tree.
-- A lookup walks the decided entries backwards and then the snapshot's keys from the front; a `BTreeMap` of everything, which nobody has to
-  keep beside a log and a snapshot, answers in a hundred instructions.
+- Folding (a snapshot, `create_snapshot`, a delta, `sync_log` with one) finds each key's place in the sorted words by halves, and moves all
+  that follows where the key is new; the Rust inserts into a tree.
+- A lookup walks the decided entries backwards before it searches the snapshot; a `BTreeMap` of everything, which nobody has to keep beside a
+  log and a snapshot, answers in a hundred or two hundred instructions.
 - Of an image every byte is put or looked at, and summed; a copy moves many bytes an instruction and looks at none.
 - An operation list runs on a copy of all words, judged before it and by its numbers after it; the oracle's backend copies everything too.
 - We are faster where the Rust builds what a reader did not ask for: a read shows a part of the log where the Rust copies entries out, and
@@ -278,28 +312,33 @@ fn slower() -> String {
     )
 }
 
-/// Prints the file: the figures before the calls were made fast are kept in a file of their own.
-pub fn run(before: &str, counts: &str, times: Option<&String>) {
-    let (before, counts) = (figures(before), figures(counts));
+/// Prints the file: the figures before the calls were made fast are kept in a file of their own, and those before the search was by halves.
+pub fn run(before: &str, walked: &str, counts: &str, times: Option<&String>) {
+    let (before, walked, counts) = (figures(before), figures(walked), figures(counts));
+    let was = |f: &Figure| Figure {
+        column: format!("{}, walked", f.column),
+        ..f.clone()
+    };
+    let beside: Vec<Figure> = walked.iter().map(was).chain(counts.clone()).collect();
     println!("{}", head());
-    println!("## Bars of speed\n\nInstructions; before: as `oracle/before.counts` keeps them, when every call judged its state, one test a place.\n");
+    println!("{}", bars(&walked));
     print_bars(&before, &counts);
     println!("## Each call: instructions\n");
     print_calls(&counts, &counts);
     println!("## Snapshots: instructions\n");
-    print_whole(&counts, &counts, "snapshot", "what, and of how many");
+    print_whole(&beside, &beside, "snapshot", "what is done");
     println!("## Lookup: instructions\n");
-    print_whole(&counts, &counts, "lookup", "the key is");
+    print_whole(&beside, &beside, "lookup", "the key is");
     println!("## Images: instructions\n");
     print_whole(&counts, &counts, "image", "what is done");
     println!("## How cost grows: instructions\n");
-    print_whole(&counts, &counts, "growth", "state");
+    print_whole(&beside, &beside, "growth", "state");
     if let Some(times) = times {
         let times = figures(times);
         println!("## Each call: nanoseconds\n");
         print_calls(&counts, &times);
         println!("## Snapshots: nanoseconds\n");
-        print_whole(&counts, &times, "snapshot", "what, and of how many");
+        print_whole(&counts, &times, "snapshot", "what is done");
         println!("## Lookup: nanoseconds\n");
         print_whole(&counts, &times, "lookup", "the key is");
         println!("## Images: nanoseconds\n");

@@ -1,6 +1,7 @@
 pub mod Folds
 pub mod Forming
 pub mod Rising
+pub mod Halving
 pub mod Searching
 pub mod Finds
 pub mod Putting

@@ -1,14 +1,14 @@
--- How a search walks the entries, and what an insert does at the spot that it finds.
-use Rattle.words.proofs.Prelude.{arith, _≡_, refl, sym, ap, _∙_, ℕ, suc, _+_, _*_, _≤_, _<_, add-one, Bool, true, false}
-use Rattle.words.proofs.Prelude.{eqb, ltb, eq-eqb, ne-eqb, eqb-true, lt-ltb, le-ltb, if_then_else_, List, [], _∷_}
-use Rattle.words.proofs.Prelude.{drop-of-length-le, length, drop, getD}
+-- How a search halves the entries, and what an insert does at the spot that it finds.
+use Rattle.words.proofs.Prelude.{arith, _≡_, refl, sym, ap, _∙_, ℕ, zero, suc, _+_, _*_, _≤_, _<_, add-one, Bool, true}
+use Rattle.words.proofs.Prelude.{false, true≢false, eqb, eq-eqb, ne-eqb, eqb-true, lt-ltb, le-ltb, if_then_else_}
+use Rattle.words.proofs.Prelude.{List, [], _∷_, drop-of-length-le, length, drop, getD}
 use native.Mathlib.Nat.{suc-add}
 use Rattle.words.specs.Words.{spliced}
-use Rattle.words.proofs.{Tests.Stand, Tests.below, Tests.same, Tests.above, Tests.stand, CodedLaws.entries-length}
-use Rattle.entry.specs.{Limits.width, Change.Change, Change.removed, Change.changeCode, Change.entriesOf}
-use Rattle.entry.specs.{Inner.changeAt}
+use Rattle.words.proofs.{Tests.Stand, Tests.below, Tests.same, Tests.above, Tests.stand, Tests.Reach, Tests.reached}
+use Rattle.words.proofs.{Tests.short, Tests.reach, CodedLaws.entries-length}
+use Rattle.entry.specs.{Limits.width, Change.Change, Change.changeCode, Change.entriesOf, Inner.changeAt}
 use Rattle.entry.proofs.ChangeLaws.{entry-cons}
-use Rattle.snapshot.specs.{Folds.insert, Folds.rising, Inner.rank, Inner.here, Inner.spotOf, Inner.Passed}
+use Rattle.snapshot.specs.{Folds.insert, Folds.rising, Inner.rank, Inner.here, Inner.spotOf}
 use Rattle.snapshot.specs.{declared.inner.Spot.the-variants.At, declared.inner.Spot.the-variants.Before}
 use Rattle.snapshot.proofs.{Folds.insert-below, Folds.insert-same, Folds.insert-above, Rising.keys-climb}
 
@@ -33,73 +33,112 @@ pub here-nil : (k : ℕ) → here [] k ≡ false
 unfolding here
 here-nil k = refl
 
-pub passed-none : (es : List Change) (k : ℕ) → Passed es k 0
-passed-none es k = record { placed = omega arith; found = refl }
+-- i entries are passed: the answer for all is the answer for the rest
+record Passed (es : List Change) (k i : ℕ) : Type 0 where
+  pub placed : rank es k ≡ i + rank (drop i es) k
+  pub found : here es k ≡ here (drop i es) k
 
-module _ (n : ℕ) (ws : List ℕ) (k i : ℕ) (p : Passed (entriesOf n ws) k i) where
+-- the spot is from low to high, and before high where the key is there
+pub record Within (es : List Change) (k low high : ℕ) : Type 0 where
+  pub from : low ≤ rank es k
+  pub to : rank es k ≤ high
+  pub inside : here es k ≡ true → rank es k < high
+
+-- where the entry at i is above a key, or there is none, the key's spot is up to i
+before : (es : List Change) (k i : ℕ) → rank (drop i es) k ≡ 0 → here (drop i es) k ≡ false → Within es k 0 i
+unfolding rank here
+before es k zero r h = record {
+  from = omega arith;
+  to = omega (arith, r);
+  inside = λ t. absurd (true≢false (sym t ∙ h));
+}
+before [] k (suc i) r h = record { from = omega arith; to = omega arith; inside = λ t. absurd (true≢false (sym t)) }
+before (e ∷ es) k (suc i) r h = go (before es k i r h) (reach k (e .key))
+  where
+    go : Within es k 0 i → Reach k (e .key) → Within (e ∷ es) k 0 (suc i)
+    go w (reached l) =
+        let z = rank-stop e es k l in
+        record { from = omega arith; to = omega (arith, z); inside = λ t. omega (arith, z) }
+    go w (short l) =
+        let s = rank-below e es k l in
+        record {
+          from = omega arith;
+          to = omega (arith, w .to, s);
+          inside = λ t. omega (arith, w .inside (sym (here-below e es k l) ∙ t), s);
+        }
+
+module _ (n : ℕ) (ws : List ℕ) (k : ℕ) where
   spot-is : (t : Bool) (j : ℕ) → here (entriesOf n ws) k ≡ t → rank (entriesOf n ws) k ≡ j
       → (if t then At j else Before j) ≡ spotOf (entriesOf n ws) k
   unfolding spotOf
   spot-is t j e q = rw (e, q)
 
-  pub search-end : n ≤ i → i ≤ n → Before i ≡ spotOf (entriesOf n ws) k
+  pub search-all : Within (entriesOf n ws) k 0 n
   unfolding rank here
-  search-end h le =
-      let z : drop i (entriesOf n ws)
-      ≡ [] = drop-of-length-le (entriesOf n ws) {i = i} (omega (arith, entries-length changeCode n ws)) in
-      let a : here (entriesOf n ws) k ≡ false = p .found ∙ rw z in
-      let b : rank (drop i (entriesOf n ws)) k ≡ 0 = rw z in
-      spot-is false i a (omega (arith, p .placed))
+  search-all =
+      let z : drop n (entriesOf n ws)
+      ≡ [] = drop-of-length-le (entriesOf n ws) {i = n} (omega (arith, entries-length changeCode n ws)) in
+      before (entriesOf n ws) k n (rw z) (rw z)
 
-  module _ (h : i < n) where
+  pub search-end : (low high : ℕ) → Within (entriesOf n ws) k low high → high ≤ low
+      → Before low ≡ spotOf (entriesOf n ws) k
+  search-end low high w h = go (here (entriesOf n ws) k) refl
+    where
+      go : (t : Bool) → here (entriesOf n ws) k ≡ t → Before low ≡ spotOf (entriesOf n ws) k
+      go false q = spot-is false low q (omega (arith, w .from, w .to))
+      go true q = absurd (omega (arith, w .from, w .inside q))
+
+  module _ (i : ℕ) (h : i < n) where
     at : drop i (entriesOf n ws) ≡ changeAt ws i ∷ drop (suc i) (entriesOf n ws)
     at = entry-cons i n ws h
 
-    pub search-more : getD ws (i * width) 0 < k → Passed (entriesOf n ws) k (i + 1)
-    search-more l =
+    passed-more : Passed (entriesOf n ws) k i → getD ws (i * width) 0 < k → Passed (entriesOf n ws) k (suc i)
+    passed-more p l =
         let a : rank (drop i (entriesOf n ws)) k
         ≡ suc (rank (drop (suc i) (entriesOf n ws)) k) =
         rw at (rank-below (changeAt ws i) (drop (suc i) (entriesOf n ws)) k l) in
         let b : here (drop i (entriesOf n ws)) k
         ≡ here (drop (suc i) (entriesOf n ws)) k =
         rw at (here-below (changeAt ws i) (drop (suc i) (entriesOf n ws)) k l) in
-        record { placed = rw (add-one i) (omega (arith, p .placed)); found = rw (add-one i) (p .found ∙ b) }
+        record { placed = omega (arith, p .placed); found = p .found ∙ b }
 
     module _ (l : k ≤ getD ws (i * width) 0) where
-      stops : rank (entriesOf n ws) k ≡ i
-      stops =
-          let a : rank (drop i (entriesOf n ws)) k
-          ≡ 0 = rw at (rank-stop (changeAt ws i) (drop (suc i) (entriesOf n ws)) k l) in
-          omega (arith, p .placed)
+      stops : rank (drop i (entriesOf n ws)) k ≡ 0
+      stops = rw at (rank-stop (changeAt ws i) (drop (suc i) (entriesOf n ws)) k l)
 
-      tests : here (entriesOf n ws) k ≡ eqb (getD ws (i * width) 0) k
-      tests = p .found ∙ rw at (here-stop (changeAt ws i) (drop (suc i) (entriesOf n ws)) k l)
+      tests : here (drop i (entriesOf n ws)) k ≡ eqb (getD ws (i * width) 0) k
+      tests = rw at (here-stop (changeAt ws i) (drop (suc i) (entriesOf n ws)) k l)
 
+  -- among ascending keys those before one that is not above k are below k
+  module _ (up : rising (entriesOf n ws) ≡ true) where
+    passed : (i : ℕ) → i < n → getD ws (i * width) 0 ≤ k → Passed (entriesOf n ws) k i
+    passed zero h l = record { placed = omega arith; found = refl }
+    passed (suc i) h l =
+        let c : getD ws (i * width) 0 < getD ws (suc i * width) 0 =
+        rw (add-one i) at (keys-climb n ws up i (omega arith)) in
+        passed-more i (omega arith) (passed i (omega arith) (omega arith)) (omega arith)
+
+    module _ (i : ℕ) (h : i < n) where
       pub search-at : getD ws (i * width) 0 ≡ k → At i ≡ spotOf (entriesOf n ws) k
-      search-at e = spot-is true i (tests ∙ eq-eqb (getD ws (i * width) 0) k e) stops
+      search-at e =
+          let p = passed i h (omega arith) in
+          spot-is true i
+          (p .found ∙ tests i h (omega arith) ∙ eq-eqb (getD ws (i * width) 0) k e)
+          (omega (arith, p .placed, stops i h (omega arith)))
 
-      pub search-before : (getD ws (i * width) 0 ≡ k → ⊥) → Before i ≡ spotOf (entriesOf n ws) k
-      search-before e = spot-is false i (tests ∙ ne-eqb (getD ws (i * width) 0) k e) stops
+      module _ (low high : ℕ) (w : Within (entriesOf n ws) k low high) where
+        pub search-above : getD ws (i * width) 0 < k → Within (entriesOf n ws) k (i + 1) high
+        search-above l = record {
+          from = omega (arith, passed-more i h (passed i h (omega arith)) l .placed);
+          to = w .to;
+          inside = w .inside;
+        }
 
--- four entries are below a key where the last of them is
-pub pass-four : (n : ℕ) (ws : List ℕ) (k i : ℕ) → rising (entriesOf n ws) ≡ true → Passed (entriesOf n ws) k i
-    → i + 4 ≤ n → getD ws ((i + 3) * width) 0 < k → Passed (entriesOf n ws) k (i + 4)
-pass-four n ws k i up p h l =
-    let c : getD ws ((i + 1 + 1 + 1) * width) 0 < k = rw (three i) at l in
-    let b₂ : getD ws ((i + 1 + 1) * width) 0 < getD ws ((i + 1 + 1 + 1) * width) 0 =
-    keys-climb n ws up (i + 1 + 1) (omega arith) in
-    let b₁ : getD ws ((i + 1) * width) 0 < getD ws ((i + 1 + 1) * width) 0 = keys-climb n ws up (i + 1) (omega arith) in
-    let b₀ : getD ws (i * width) 0 < getD ws ((i + 1) * width) 0 = keys-climb n ws up i (omega arith) in
-    let p₁ = search-more n ws k i p (omega arith) (omega arith) in
-    let p₂ = search-more n ws k (i + 1) p₁ (omega arith) (omega arith) in
-    let p₃ = search-more n ws k (i + 1 + 1) p₂ (omega arith) (omega arith) in
-    rw (four i) (search-more n ws k (i + 1 + 1 + 1) p₃ (omega arith) c)
-  where
-    three : (j : ℕ) → j + 3 ≡ j + 1 + 1 + 1
-    three j = omega arith
-
-    four : (j : ℕ) → j + 4 ≡ j + 1 + 1 + 1 + 1
-    four j = omega arith
+        pub search-below : k < getD ws (i * width) 0 → Within (entriesOf n ws) k low i
+        search-below l =
+            let b = before (entriesOf n ws) k i (stops i h (omega arith))
+            (tests i h (omega arith) ∙ ne-eqb (getD ws (i * width) 0) k (λ e. omega arith)) in
+            record { from = w .from; to = b .to; inside = b .inside }
 
 -- what a spot says
 pub spot-at : (es : List Change) (k i : ℕ) → spotOf es k ≡ At i → (here es k ≡ true) × (rank es k ≡ i)
@@ -117,15 +156,6 @@ spot-before es k i e = go (here es k) refl
     go : (t : Bool) → here es k ≡ t → (here es k ≡ false) × (rank es k ≡ i)
     go false q = let e' : Before (rank es k) ≡ Before i = rw q at e in (q, cc)
     go true q = let e' : At (rank es k) ≡ Before i = rw q at e in let z : _≡_ {A = ℕ} 0 1 = cc in absurd (omega arith)
-
-pub rank-le : (es : List Change) (k : ℕ) → rank es k ≤ length es
-unfolding rank
-rank-le [] k = omega arith
-rank-le (e ∷ es) k = go (ltb (e .key) k) (rank-le es k)
-  where
-    go : (t : Bool) → rank es k ≤ length es → (if t then suc (rank es k) else 0) ≤ suc (length es)
-    go true h = omega arith
-    go false h = omega arith
 
 no-other : (a b : ℕ) → (a ≡ b → ⊥) → eqb a b ≡ true → ⊥
 no-other a b d e = d (eqb-true a b e)
@@ -203,4 +233,4 @@ insert-grows c es = go (here es (c .key)) refl
 pub spot-inside : (n : ℕ) (ws : List ℕ) (k i : ℕ) → At i ≡ spotOf (entriesOf n ws) k → i < n
 spot-inside n ws k i e =
     let at = spot-at (entriesOf n ws) k i (sym e) in
-    omega (arith, insert-over (record { key = k; said = removed }) (entriesOf n ws) (at .0) .inside, at .1, entries-length changeCode n ws)
+    omega (arith, search-all n ws k .inside (at .0), at .1)

@@ -1,10 +1,10 @@
 -- What the inner functions say: a search among ascending keys, and a fold in so many words.
-use Prim.Native.Nat.{ℕ, suc, _+_, _*_, _≤_}
+use Prim.Native.Nat.{ℕ, suc, _*_, _≤_}
 use mathlib.Core.Path.{_≡_}
 use mathlib.Core.Bool.{Bool, true, false}
 use mathlib.Core.List.{List, [], _∷_}
 use lib.Dec.{ltb, leb, eqb}
-use lib.ListN.{length, drop}
+use lib.ListN.{length}
 use Rattle.words.specs.If.{if_then_else_}
 use Rattle.entry.specs.Limits.{width, snapshotWords}
 use Rattle.entry.specs.Change.{Change, entriesFormed, entriesOf, stored, Laid}
@@ -28,11 +28,6 @@ here (e ∷ es) k = if ltb (e .key) k then here es k else eqb (e .key) k
 
 unfoldable pub spotOf : List Change → ℕ → Spot
 spotOf es k = if here es k then At (rank es k) else Before (rank es k)
-
--- i entries are passed: the answer for all is the answer for the rest
-pub record Passed (es : List Change) (k i : ℕ) : Type 0 where
-  pub placed : rank es k ≡ i + rank (drop i es) k
-  pub found : here es k ≡ here (drop i es) k
 
 -- entries in so many words: their count, where they fit
 unfoldable pub foldedIn : ℕ → List Change → Folded

@@ -13,7 +13,7 @@ ghost use Rattle.entry.specs.Change.{saidIs, changeCode, entriesOf};
 ghost use Rattle.entry.specs.Guards.{replied};
 ghost use Rattle.snapshot.specs.Folds.{rising, insert, foldOnto, find};
 ghost use Rattle.snapshot.specs.Calls.{outcome, folded, found};
-ghost use Rattle.snapshot.specs.Inner.{spotOf, Passed, Holds, Shows, FoldIs, Aside, foldWritten, foldedOut};
+ghost use Rattle.snapshot.specs.Inner.{spotOf, Holds, Shows, FoldIs, Aside, foldWritten, foldedOut};
 
 // Whether the keys of the first n entries ascend strictly.
 pub fn keys_ascend(s: &[u64], n: usize) -> bool
@@ -37,43 +37,28 @@ pub enum Spot {
     Before(usize),
 }
 
-// How many entries a search may pass: four at a time, while the last of them, and so each, is below the key.
-fn pass_fours(s: &[u64], n: usize, key: u64) -> usize
-    requires { ⌜ Holds (length (now s)) n (now s) ⌝ }
-    ensures { λ i. ⌜ (i ≤ n) × Passed (entriesOf n (now (s .entry))) key i ⌝ }
-{
-    let mut i = 0;
-    loop {
-        if n - i < 4 {
-            break i;
-        }
-        let at = (i + 3) * entry::WIDTH;
-        if key <= s[at] {
-            break i;
-        }
-        i += 4;
-    }
-}
-
-// A search that stops at the first key not below the one asked for.
+// A search by halves: where the key stands, or would, is from `low` to `high`.
 pub fn search(s: &[u64], n: usize, key: u64) -> Spot
     requires { ⌜ Holds (length (now s)) n (now s) ⌝ }
     ensures { λ r. ⌜ r ≡ spotOf (entriesOf n (now (s .entry))) key ⌝ }
 {
-    let mut i = pass_fours(s, n, key);
+    let mut low = 0;
+    let mut high = n;
     loop {
-        if n <= i {
-            break Spot::Before(i);
+        if high <= low {
+            break Spot::Before(low);
         }
-        let at = i * entry::WIDTH;
+        let mid = (low + high) / 2;
+        let at = mid * entry::WIDTH;
         let k = s[at];
-        if key <= k {
+        if k < key {
+            low = mid + 1;
+        } else {
             if k == key {
-                break Spot::At(i);
+                break Spot::At(mid);
             }
-            break Spot::Before(i);
+            high = mid;
         }
-        i += 1;
     }
 }
 

@@ -1,48 +1,51 @@
--- `snapshot::inner::search` meets its contract: the answer for all entries is the answer for those that are left.
+-- `snapshot::inner::search` meets its contract: the spot stays from low to high.
 use Rattle.words.proofs.Prelude.{arith, now, _-_, _≤_}
 use Rattle.entry.specs.Change.{entriesOf}
-use Rattle.snapshot.specs.Inner.{Passed}
-use Rattle.snapshot.proofs.Searching.{search-end, search-more, search-at, search-before}
-use Rattle.snapshot.proofs.inner.search.Statement.{statement}
+use Rattle.snapshot.proofs.Searching.{Within, search-all, search-end, search-at, search-above, search-below}
+use Rattle.snapshot.proofs.{Halving.halvings, Halving.halved, inner.search.Statement.statement}
 use Rattle.snapshot.proofs.inner.search.Tie as tie
 
 abbrev Inv-loop : tie.InvT-loop
-Inv-loop s n key i₀ i = (i ≤ n) × Passed (entriesOf n s) key i
+Inv-loop s n key low₀ high₀ low high = (high ≤ n) × Within (entriesOf n s) key low high
 
 abbrev μ-loop : tie.MeasureT-loop
-μ-loop s n key i₀ i = n - i
-
-pass-fours-requires : tie.Need-pass-fours-requires Inv-loop μ-loop
-pass-fours-requires c κs = c .before .pre
+μ-loop s n key low₀ high₀ low high = halvings n (high - low)
 
 loop-holds : tie.Need-loop-holds Inv-loop μ-loop
-loop-holds c = c .pass-fours .ensures
+loop-holds c = (omega arith, search-all _ _ _)
+
+loop-less : tie.Need-loop-less Inv-loop μ-loop
+loop-less c = halved _ _ _ (omega arith) (omega arith) (omega arith)
 
 loop-again : tie.Need-loop-again Inv-loop μ-loop
 loop-again c =
     let l = c .before .before .before in
-    let a = l .before .before .before .args in
-    (omega arith, search-more (a .n) (now (a .s)) (a .key) (l .loop .i) (l .loop .inv .1) (omega arith) (c .if2 .left))
+    let a = l .before in (
+      l .loop .inv .0,
+      search-above (a .args .n) (now (a .args .s)) (a .args .key) (a .pre .rises) _ (omega arith) _ _ (l .loop .inv .1)
+          (c .if2 .taken),
+    )
+
+loop-less-2 : tie.Need-loop-less-2 Inv-loop μ-loop
+loop-less-2 c = halved _ _ _ (omega arith) (omega arith) (omega arith)
+
+loop-again-2 : tie.Need-loop-again-2 Inv-loop μ-loop
+loop-again-2 c =
+    let l = c .before .before .before .before in
+    let a = l .before in (
+      omega arith,
+      search-below (a .args .n) (now (a .args .s)) (a .args .key) (a .pre .rises) _ (omega arith) _ _ (l .loop .inv .1)
+          (omega arith),
+    )
 
 returns : tie.Need-returns Inv-loop μ-loop
-returns c =
-    let l = c .before in
-    let a = l .before .before .before .args in
-    search-end (a .n) (now (a .s)) (a .key) (l .loop .i) (l .loop .inv .1) (c .if1 .taken) (l .loop .inv .0)
+returns c = search-end _ _ _ _ _ (c .before .loop .inv .1) (c .if1 .taken)
 
 returns-2 : tie.Need-returns-2 Inv-loop μ-loop
 returns-2 c =
     let l = c .before .before .before .before in
-    let a = l .before .before .before .args in
-    search-at (a .n) (now (a .s)) (a .key) (l .loop .i) (l .loop .inv .1) (omega arith)
-    (c .before .if2 .taken) (c .if3 .taken)
-
-returns-3 : tie.Need-returns-3 Inv-loop μ-loop
-returns-3 c =
-    let l = c .before .before .before .before in
-    let a = l .before .before .before .args in
-    search-before (a .n) (now (a .s)) (a .key) (l .loop .i) (l .loop .inv .1) (omega arith)
-    (c .before .if2 .taken) (c .if3 .left)
+    let a = l .before in
+    search-at (a .args .n) (now (a .args .s)) (a .args .key) (a .pre .rises) _ (omega arith) (c .if3 .taken)
 
 pub search-spec : {M : Type 1} → statement M
 search-spec =
@@ -50,14 +53,15 @@ search-spec =
     (tie.spec
     Inv-loop
     μ-loop
-    pass-fours-requires
     loop-holds
     (λ c. omega arith)
     (λ c. omega arith)
     (λ c. omega arith)
     (λ c. omega arith)
     (λ c. omega arith)
+    loop-less
     loop-again
+    loop-less-2
+    loop-again-2
     returns
-    returns-2
-    returns-3)
+    returns-2)

@@ -156,7 +156,7 @@ fn grown(figures: &[Figure], column: &str) -> u64 {
 }
 
 /// A bar: a figure, with what it may cost at most.
-fn print_bars(before: &[Figure], now: &[Figure]) {
+fn print_bars(before: &[Figure], walked: &[Figure], now: &[Figure]) {
     let full = |figures: &[Figure], row, way| number(figures, "call", row, &format!("{way}, full"));
     let look = |figures: &[Figure], row: &str, way| {
         number(figures, "lookup", &format!("full: {row}"), way)
@@ -208,15 +208,17 @@ fn print_bars(before: &[Figure], now: &[Figure]) {
         full(now, append, "Rust"),
         "the Rust's",
     );
-    // The owned lookup judged the keys then, too.
-    let search = grown(before, ABOVE) - grown(before, "well_formed");
-    row(
-        &format!("a search of {KEYS} keys, for one above all"),
-        Some(search),
-        Some(grown(now, ABOVE)),
-        Some(search / 20),
-        "a twentieth",
-    );
+    // At one key a step the owned lookup judged the keys, too.
+    let by_one = grown(before, ABOVE) - grown(before, "well_formed");
+    for (step, was) in [("four keys", grown(walked, ABOVE)), ("one key", by_one)] {
+        row(
+            &format!("a search of {KEYS} keys; before, {step} a step"),
+            Some(was),
+            Some(grown(now, ABOVE)),
+            Some(was / 20),
+            "a twentieth",
+        );
+    }
     let newest = "the newest entry";
     let ten = look(now, newest, scan).map(|n| 10 * n);
     row(
@@ -283,14 +285,14 @@ them is libc's of so many bytes. What a file costs beyond them is the device's.
     )
 }
 
-fn bars(walked: &[Figure]) -> String {
+fn bars() -> String {
     format!(
         "## Bars of speed
 
 Instructions; before: as `oracle/before.counts` keeps them, when every call judged its state, one test a place, and a search took one key a
-step. A search is what a lookup takes on {KEYS} keys and no entry, less what it takes on none; with four keys a step it took {}.
-",
-        written(grown(walked, ABOVE))
+step; four keys a step are as `oracle/walk.counts` keeps them, and are what the search by halves came after. A search is what the lookup of a
+key above all takes on {KEYS} keys and no entry, less what it takes on none.
+"
     )
 }
 
@@ -321,8 +323,8 @@ pub fn run(before: &str, walked: &str, counts: &str, times: Option<&String>) {
     };
     let beside: Vec<Figure> = walked.iter().map(was).chain(counts.clone()).collect();
     println!("{}", head());
-    println!("{}", bars(&walked));
-    print_bars(&before, &counts);
+    println!("{}", bars());
+    print_bars(&before, &walked, &counts);
     println!("## Each call: instructions\n");
     print_calls(&counts, &counts);
     println!("## Snapshots: instructions\n");

@@ -1,4 +1,5 @@
-/* Puts two keys, decides them, folds them into the snapshot, and looks one up; then writes the log's image, and reads it back. */
+/* Puts two keys, decides them, folds them into the snapshot, looks one up, and then two in one call; then writes the log's image, and
+ * reads it back. */
 #include "kotuseraw.h"
 #include <stdio.h>
 
@@ -6,6 +7,8 @@ int main(void) {
     static uint64_t log[KOTUSERAW_LOG_WORDS], snapshot[KOTUSERAW_SNAPSHOT_WORDS];
     static uint8_t image[KOTUSERAW_IMAGE_ROOM];
     const uint64_t entries[] = {7, 70, 8, 80};
+    const uint64_t keys[] = {9, 7};
+    uint64_t replies[2 * KOTUSERAW_REPLY_WIDTH];
     kotuseraw_index none = {0}, two = {2};
 
     kotuseraw_reply r = kotuseraw_fresh(0, log, KOTUSERAW_LOG_WORDS, snapshot, KOTUSERAW_SNAPSHOT_WORDS);
@@ -16,6 +19,11 @@ int main(void) {
     kotuseraw_said found = kotuseraw_lookup(r.index, log, KOTUSERAW_LOG_WORDS, snapshot, KOTUSERAW_SNAPSHOT_WORDS, 8);
     if (found.told == KOTUSERAW_FOUND_PLACE)
         printf("refused %d, place %d\n", (int)found.number, (int)found.first);
+    kotuseraw_lookup_many(
+        r.index, log, KOTUSERAW_LOG_WORDS, snapshot, KOTUSERAW_SNAPSHOT_WORDS, keys, 2, replies, 2 * KOTUSERAW_REPLY_WIDTH);
+    for (size_t i = 0; i < 2; i++)
+        printf("%d is told %d%s", (int)keys[i],
+               (int)kotuseraw_reply_at(replies, 2 * KOTUSERAW_REPLY_WIDTH, i).told, i == 0 ? ", " : "\n");
     r = kotuseraw_set_decided_idx(r.index, log, KOTUSERAW_LOG_WORDS, snapshot, KOTUSERAW_SNAPSHOT_WORDS, none);
     printf("refused %d, carrying %d\n", (int)r.said.number, (int)r.said.carried);
     kotuseraw_said wrote =

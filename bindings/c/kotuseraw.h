@@ -19,6 +19,9 @@ extern "C" {
 #define KOTUSERAW_SNAPSHOT_WORDS 1024
 /* Bytes of the largest image. */
 #define KOTUSERAW_IMAGE_ROOM 30881
+/* Keys that one lookup may ask for, and the words of each reply. */
+#define KOTUSERAW_MOST_ASKED 64
+#define KOTUSERAW_REPLY_WIDTH 1
 /* The second word of an entry whose key is removed. */
 #define KOTUSERAW_REMOVED UINT64_MAX
 /* Whether a compaction folds. */
@@ -322,6 +325,16 @@ kotuseraw_said kotuseraw_lookup(
     const uint64_t *log, size_t log_len,
     const uint64_t *snapshot, size_t snapshot_len,
     uint64_t key);
+/* What kotuseraw_lookup says of each of at most KOTUSERAW_MOST_ASKED keys, KOTUSERAW_REPLY_WIDTH words a key, to the front of
+ * `replies`; the words after them stay. */
+kotuseraw_said kotuseraw_lookup_many(
+    kotuseraw_record index,
+    const uint64_t *log, size_t log_len,
+    const uint64_t *snapshot, size_t snapshot_len,
+    const uint64_t *keys, size_t keys_len,
+    uint64_t *replies, size_t replies_len);
+/* The i-th of those replies, told as kotuseraw_lookup tells it; unknown where there are not so many. */
+kotuseraw_said kotuseraw_reply_at(const uint64_t *replies, size_t replies_len, size_t i);
 kotuseraw_shown kotuseraw_read(
     kotuseraw_record index,
     const uint64_t *log, size_t log_len,

@@ -98,6 +98,8 @@ pub enum Call {
     Entries(u64, u64),
     Suffix(u64),
     Lookup(u64),
+    /// Of keys, into so many words of the output.
+    LookupMany(Vec<u64>, usize),
     /// To an index or, as the next, over all that is log-decided.
     Trim(Form, Option<u64>),
     Snapshot(Option<u64>),
@@ -114,6 +116,8 @@ pub enum Call {
     PlaceFormed(u64),
     SignFormed(Sign),
     Compare(Ballot, Ballot),
+    /// Of so many words of the output.
+    ReplyAt(usize, u64),
     EntriesOf(u64, u64),
     /// Of a reply: 0 nothing, 1 a refusal, 2 a run.
     EntriesShown(u64, u64, u64),
@@ -181,6 +185,7 @@ impl Call {
             Call::Entries(..) => "get_entries_reply",
             Call::Suffix(_) => "get_suffix_reply",
             Call::Lookup(_) => "lookup",
+            Call::LookupMany(..) => "lookup_many",
             Call::Trim(Covered, _) => "compact, trim",
             Call::Trim(ByHand, _) => "in_place::trim",
             Call::Snapshot(_) => "compact, snapshot",
@@ -202,6 +207,7 @@ impl Call {
             Call::PlaceFormed(_) => "entry::place_formed",
             Call::SignFormed(_) => "entry::sign_formed",
             Call::Compare(..) => "Ballot::cmp and eq",
+            Call::ReplyAt(..) => "entry::reply_at",
             Call::EntriesOf(..) => "reading::entries_of",
             Call::EntriesShown(..) => "reading::entries_shown",
         }
@@ -231,6 +237,7 @@ impl Call {
             ("get_entries_reply", &[]),
             ("get_suffix_reply", &[]),
             ("lookup", &[]),
+            ("lookup_many", &[11]),
             ("compact, trim", &[2]),
             ("in_place::trim", &[2]),
             ("compact, snapshot", &[2, 16, 8]),
@@ -254,6 +261,7 @@ impl Call {
             ("entry::place_formed", &[]),
             ("entry::sign_formed", &[]),
             ("Ballot::cmp and eq", &[]),
+            ("entry::reply_at", &[]),
             ("reading::entries_of", &[]),
             ("reading::entries_shown", &[]),
         ];
@@ -266,7 +274,11 @@ impl Call {
     pub fn writes(&self) -> bool {
         matches!(
             self,
-            Call::Create(..) | Call::Diff(..) | Call::Fold(..) | Call::Merge(..)
+            Call::LookupMany(..)
+                | Call::Create(..)
+                | Call::Diff(..)
+                | Call::Fold(..)
+                | Call::Merge(..)
         )
     }
 
@@ -316,6 +328,15 @@ impl Call {
             Call::Entries(a, b) => vec![32, *a, *b],
             Call::Suffix(a) => vec![33, *a],
             Call::Lookup(k) => vec![34, *k],
+            Call::LookupMany(keys, out) => {
+                lines = lend(2, keys);
+                lines.push(vec![3, 4, *out as u64]);
+                vec![36]
+            }
+            Call::ReplyAt(out, i) => {
+                lines.push(vec![3, 4, *out as u64]);
+                vec![37, *i]
+            }
             Call::Trim(Form::Covered, i) => [40, 0].into_iter().chain(*i).collect(),
             Call::Trim(Form::ByHand, i) => [49].into_iter().chain(*i).collect(),
             Call::Snapshot(i) => [40, 1].into_iter().chain(*i).collect(),

@@ -2,8 +2,10 @@
 use crate::backend::{Change, Keys};
 use crate::ballot_leader_election::Ballot;
 use crate::call::{Call, Form, Kind, List, Op, OpKind, Part, OP_KINDS};
-use crate::entry::{at, count, place_at, words, LOG_WORDS, REMOVED, SNAPSHOT_WORDS};
-use crate::limits::{ENTRIES, KEYS, LARGEST, LARGEST_BATCH, METADATA, MOST_OPS, NODES, PLACES};
+use crate::entry::{at, count, place_at, replies_at, words, LOG_WORDS, REMOVED, SNAPSHOT_WORDS};
+use crate::limits::{
+    ENTRIES, KEYS, LARGEST, LARGEST_BATCH, METADATA, MOST_ASKED, MOST_OPS, NODES, PLACES,
+};
 use crate::state::{largest, LentSnapshot, Sign, State};
 use std::ops::Bound;
 
@@ -257,10 +259,30 @@ impl Dice {
         }
     }
 
+    /// Keys of one lookup, and the words that are lent for the replies: now and then too many, or too few.
+    fn many(&mut self, wide: bool) -> Call {
+        let n = self.pick(&[
+            0,
+            1,
+            2,
+            5,
+            MOST_ASKED - 1,
+            MOST_ASKED,
+            MOST_ASKED,
+            MOST_ASKED + 1,
+        ]);
+        let keys = (0..n).map(|_| self.key(wide)).collect();
+        let need = replies_at(n);
+        Call::LookupMany(
+            keys,
+            self.pick(&[need, SNAPSHOT_WORDS, SNAPSHOT_WORDS, need.saturating_sub(1)]),
+        )
+    }
+
     fn plain(&mut self, s: &State, wide: bool) -> Call {
         let count = self.pick(&[0, 1, 2, s.retained, ENTRIES - 1, ENTRIES, u64::MAX]);
         let first = self.pick(&[0, 1, s.retained, ENTRIES - 1, ENTRIES, 1 << 63, u64::MAX]);
-        match self.below(14) {
+        match self.below(15) {
             0..=2 => Call::Fold(self.entries(wide), self.output()),
             3..=5 => {
                 let keys = self.pick(&[s.keys, s.keys, s.keys, s.keys + 1]);
@@ -273,12 +295,17 @@ impl Dice {
             10 => Call::SignFormed(self.sign()),
             11 => Call::Compare(self.ballot(), self.ballot()),
             12 => Call::EntriesOf(first, count),
+            13 => {
+                let out = self.pick(&[0, 1, replies_at(MOST_ASKED), SNAPSHOT_WORDS]);
+                let i = self.pick(&[0, 1, MOST_ASKED as u64 - 1, MOST_ASKED as u64, u64::MAX]);
+                Call::ReplyAt(out, i)
+            }
             _ => Call::EntriesShown(self.below(3), first, count),
         }
     }
 
     pub fn call(&mut self, s: &State, wide: bool) -> Call {
-        match self.below(110) {
+        match self.below(113) {
             0..=15 => {
                 let c = self.change(wide);
                 let place = if self.one_in(50) {
@@ -316,7 +343,8 @@ impl Dice {
                 Call::WellFormed,
             ]),
             100..=104 => self.plain(s, wide),
-            105 if self.one_in(20) => Call::Fresh(self.pick(&[
+            105..=107 => self.many(wide),
+            108 if self.one_in(20) => Call::Fresh(self.pick(&[
                 0,
                 1,
                 2,

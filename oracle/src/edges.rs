@@ -3,8 +3,10 @@
 use crate::backend::Change;
 use crate::ballot_leader_election::Ballot;
 use crate::call::{Call, Form, Kind, List, Op, OpKind, Part};
-use crate::entry::{at, place_at, words, LOG_WORDS, REMOVED, SNAPSHOT_WORDS};
-use crate::limits::{ENTRIES, KEYS, LARGEST, LARGEST_BATCH, METADATA, MOST_OPS, NODES, PLACES};
+use crate::entry::{at, place_at, replies_at, words, LOG_WORDS, REMOVED, SNAPSHOT_WORDS};
+use crate::limits::{
+    ENTRIES, KEYS, LARGEST, LARGEST_BATCH, METADATA, MOST_ASKED, MOST_OPS, NODES, PLACES,
+};
 use crate::runner::Runner;
 use crate::state::{largest, LentSnapshot, Sign, State};
 use std::collections::BTreeSet;
@@ -281,6 +283,8 @@ fn one_of_each(s: &State) -> Vec<Call> {
         Call::Entries(0, 1),
         Call::Suffix(0),
         Call::Lookup(1),
+        Call::LookupMany(vec![], 0),
+        Call::LookupMany(vec![1; MOST_ASKED + 1], 0),
         Call::Trim(Form::Covered, None),
         Call::Trim(Form::ByHand, None),
         Call::Snapshot(None),
@@ -401,6 +405,20 @@ fn sized(s: &State) -> Vec<Call> {
             Call::AppendIdx(es.clone()),
             Call::AppendNow(es),
         ]);
+    }
+    let most = MOST_ASKED;
+    for n in [0, 1, most - 1, most, most + 1] {
+        // Half as many keys, each asked for twice.
+        let keys: Vec<u64> = (0..n as u64).map(|i| i / 2).collect();
+        for out in [
+            replies_at(n),
+            replies_at(n) + 1,
+            replies_at(n).saturating_sub(1),
+        ] {
+            calls.push(Call::LookupMany(keys.clone(), out));
+        }
+        calls.push(Call::ReplyAt(replies_at(n), n as u64));
+        calls.push(Call::ReplyAt(replies_at(most), n as u64));
     }
     let beside = ENTRIES - MOST_BATCHED;
     for n in [beside, beside + 1, ENTRIES - 1, ENTRIES] {

@@ -1,4 +1,4 @@
-//! How entries lie in words: no other file knows how many words an entry has, and which of them says what.
+//! How entries and replies lie in words: no other file knows how many words each has, and which of them says what.
 use crate::backend::Change;
 use crate::limits::{ENTRIES, KEYS, PLACES};
 
@@ -6,6 +6,10 @@ use crate::limits::{ENTRIES, KEYS, PLACES};
 const WIDTH: usize = 2;
 /// The word of a removed key in place of a place.
 pub const REMOVED: u64 = u64::MAX;
+/// Words a reply.
+const REPLY_WIDTH: usize = 1;
+/// The word of an unknown key in a reply.
+const UNKNOWN: u64 = u64::MAX - 1;
 /// Words of a log's slice, and of a snapshot's.
 pub const LOG_WORDS: usize = at(ENTRIES);
 pub const SNAPSHOT_WORDS: usize = at(KEYS);
@@ -74,4 +78,20 @@ pub fn formed(entry: &Change) -> bool {
 /// An entry slice in form.
 pub fn entries_formed(words: &[u64]) -> bool {
     whole(words) && changes(words).iter().all(formed)
+}
+
+/// How many words so many replies have.
+pub const fn replies_at(n: usize) -> usize {
+    n * REPLY_WIDTH
+}
+
+/// The words of a reply: what is said of a key, or nothing.
+pub fn reply(said: Option<Option<u64>>) -> [u64; REPLY_WIDTH] {
+    [said.map_or(UNKNOWN, |place| place.unwrap_or(REMOVED))]
+}
+
+/// The i-th reply of some words.
+pub fn reply_at(words: &[u64], i: u64) -> Option<Option<u64>> {
+    let word = *words.get(usize::try_from(i).ok()?)?;
+    (word != UNKNOWN).then_some((word != REMOVED).then_some(word))
 }

@@ -12,10 +12,10 @@ use crate::store::change as changed;
 use crate::util::LogSync as RustSync;
 use crate::ClusterConfig;
 use kotuseraw::image::ROOM;
-use kotuseraw::plain::{METADATA, NODES};
+use kotuseraw::plain::{METADATA, MOST_ASKED, NODES};
 use kotuseraw::{
-    plain, Ballot, BlockPlace, Compaction, Entry, Index, Lent, LogIndex, LogSync, Op, Snapshot,
-    SnapshotType, StopSign, Upto, View,
+    plain, Ballot, BlockPlace, Compaction, Entry, Found, Index, Lent, LogIndex, LogSync, Op,
+    Snapshot, SnapshotType, StopSign, Upto, View,
 };
 use std::collections::BTreeMap;
 use std::hint::black_box;
@@ -505,6 +505,83 @@ fn lookups(meter: &mut Meter) {
     }
 }
 
+/// As many keys as a lookup may ask for: those of the last decided entries, the snapshot's first alone, and some that are nowhere.
+fn asked(both: &Both) -> Vec<(&'static str, [u64; MOST_ASKED])> {
+    let (log, keys) = (&both.held.log, both.index.snapshot().unwrap_or(&[]));
+    let mut newest = log[..both.held.decided - both.held.start]
+        .iter()
+        .rev()
+        .map(|e| e.key);
+    let mut alone = keys
+        .iter()
+        .map(Entry::key)
+        .filter(|key| log.iter().all(|e| e.key != *key));
+    let first = |keys: &mut dyn Iterator<Item = u64>| {
+        let keys: Vec<u64> = keys.take(MOST_ASKED).collect();
+        keys.try_into().ok()
+    };
+    let nowhere = std::array::from_fn(|i| u64::MAX - i as u64);
+    [
+        ("of the newest entries", first(&mut newest)),
+        ("the snapshot's alone", first(&mut alone)),
+        ("nowhere", Some(nowhere)),
+    ]
+    .into_iter()
+    .filter_map(|(at, keys)| Some((at, keys?)))
+    .collect()
+}
+
+/// The replies to as many keys, of one call.
+fn at_once(found: impl Iterator<Item = Found>) -> [Found; MOST_ASKED] {
+    let mut all = [Found::Unknown; MOST_ASKED];
+    for (to, one) in all.iter_mut().zip(found) {
+        *to = one;
+    }
+    all
+}
+
+/// Many keys in one call, beside as many calls.
+fn many(meter: &mut Meter) {
+    for (state, keys, entries) in STATES {
+        let both = Both::with(keys, entries);
+        let (mut record, mut log, mut snapshot) = both.lent();
+        let view = View {
+            record: &mut record,
+            log: &mut log,
+            snapshot: &mut snapshot,
+        };
+        for (at, keys) in asked(&both) {
+            let row = format!("{state}: {at}");
+            let keys = black_box(keys);
+            let mut of = |column: &str, call: &mut dyn FnMut() -> [Found; MOST_ASKED]| {
+                meter.of("many", &row, column, call)
+            };
+            let all = [
+                of("lent, a call a key", &mut || {
+                    keys.map(|key| view.lookup(key).unwrap())
+                }),
+                of("lent, one call", &mut || {
+                    at_once(view.lookup_many(&keys).unwrap())
+                }),
+                of("owned, a call a key", &mut || {
+                    keys.map(|key| both.index.lookup(key).unwrap())
+                }),
+                of("owned, one call", &mut || {
+                    at_once(both.index.lookup_many(&keys).unwrap())
+                }),
+            ];
+            let scanned = meter.of(
+                "many",
+                &row,
+                "Rust: entries backwards, then the map, a key after the other",
+                || keys.map(|key| scan(&both.held, key)),
+            );
+            assert!(all.iter().all(|found| *found == all[0]));
+            assert_eq!(all[0].map(|found| found.place().map(|p| p.0)), scanned);
+        }
+    }
+}
+
 /// The smallest image and the largest, beside a copy of as many bytes.
 fn images(meter: &mut Meter) {
     let sign = StopSign::new(1, &[1; NODES], Some(&[1; METADATA])).unwrap();
@@ -601,6 +678,7 @@ fn measure(meter: &mut Meter) {
     starts(meter);
     snapshots(meter);
     lookups(meter);
+    many(meter);
     images(meter);
     growth(meter);
 }

@@ -2,7 +2,7 @@
 use crate::backend::{Backend, Change, Keys, Sight};
 use crate::ballot_leader_election::Ballot;
 use crate::call::{Call, Form, Kind, List, Op, OpKind, Part};
-use crate::entry::{self, changes, entries_formed, place_formed, words};
+use crate::entry::{self, changes, entries_formed, place_formed, reply, reply_at, words};
 use crate::rules::{folded, held_with, merged, target};
 use crate::state::{used, State};
 use crate::storage::internal_storage::{InternalStorage, InternalStorageConfig};
@@ -13,10 +13,11 @@ use std::fmt::Debug;
 use std::ops::Bound;
 use std::panic::{catch_unwind, AssertUnwindSafe};
 
-/// What the port shows after a call: its answer, the output area, and the state.
+/// What the port shows after a call: its answer, the output area, beside what that held before, and the state.
 pub struct Told<'a> {
     pub answer: &'a [u64],
     pub out: &'a [u64],
+    pub out_before: &'a [u64],
     pub after: &'a State,
 }
 
@@ -502,13 +503,28 @@ impl<S: Sight> Judge<S> {
     }
 }
 
-/// What is found of a key, as the port answers it.
-pub fn word(keys: &Keys, key: u64) -> Vec<u64> {
-    match keys.0.get(&key) {
+/// What is said of a key, or nothing, as the port answers it.
+pub fn known(said: Option<Option<u64>>) -> Vec<u64> {
+    match said {
         None => vec![1],
-        Some(Some(place)) => vec![2, *place],
+        Some(Some(place)) => vec![2, place],
         Some(None) => vec![3],
     }
+}
+
+/// What is found of a key.
+pub fn word(keys: &Keys, key: u64) -> Vec<u64> {
+    known(keys.0.get(&key).copied())
+}
+
+/// The replies to some keys over the front of the output; what was after them stays.
+fn replied(keys: &Keys, asked: &[u64], told: &Told) -> Result<(), String> {
+    let mut due: Vec<u64> = asked
+        .iter()
+        .flat_map(|key| reply(keys.0.get(key).copied()))
+        .collect();
+    due.extend(told.out_before.iter().skip(due.len()));
+    differ("the replies", &area(&due), &area(told.out))
 }
 
 /// A call of which the Rust has none: what document 01 says of it.
@@ -525,6 +541,10 @@ fn ours(call: &Call, before: &State, told: &Told) -> Result<(), String> {
         Call::WellFormed => same(&[1, before.well_formed() as u64]),
         Call::GetLogDecided => same(&[1, before.log_decided()]),
         Call::Lookup(key) => found(&folded(before, before.log_decided()), key),
+        Call::LookupMany(asked, _) => {
+            same(&[1])?;
+            replied(&folded(before, before.log_decided()), asked, told)
+        }
         Call::Fold(es, _) => written(1, &[], &Keys::create(&changes(es)), told),
         Call::Merge(n, snapshot, _) => {
             let made = merged(&held_with(before, *n).held(), &snapshot.held());
@@ -535,6 +555,11 @@ fn ours(call: &Call, before: &State, told: &Told) -> Result<(), String> {
         Call::EntriesFormed(es) => same(&[1, entries_formed(es) as u64]),
         Call::PlaceFormed(word) => same(&[1, place_formed(*word) as u64]),
         Call::SignFormed(sign) => same(&[1, sign.formed() as u64]),
+        Call::ReplyAt(out, i) => {
+            let mut lent = told.out.to_vec();
+            lent.resize(*out, 0);
+            same(&known(reply_at(&lent, *i)))
+        }
         Call::EntriesOf(first, count) => part(*first, *count),
         Call::EntriesShown(2, first, count) => part(*first, *count),
         Call::EntriesShown(..) => same(&[1, 0]),

@@ -1,4 +1,4 @@
-//! Document 01's numbers, from its text: the port's own are not looked at.
+//! The numbers of documents 01 and 02, from their text: the port's own are not looked at.
 
 /// Entries that a log has room for, retained and batched.
 pub const ENTRIES: u64 = 1024;
@@ -14,3 +14,5 @@ pub const NODES: usize = 7;
 pub const METADATA: usize = 32;
 /// Operations of a list.
 pub const MOST_OPS: usize = 8;
+/// Keys that one lookup may ask for.
+pub const MOST_ASKED: usize = 64;

@@ -1,8 +1,10 @@
 //! The refusals of document 01, and of document 02 where it has landed: which number a call is answered on a state, and what it carries. All numbers are judged as numbers.
 use crate::backend::{Change, Keys};
 use crate::call::{Call, Kind, List, OpKind, Part};
-use crate::entry::{self, changes, count, entries_formed, whole, LOG_WORDS, SNAPSHOT_WORDS};
-use crate::limits::{ENTRIES, KEYS, LARGEST, LARGEST_BATCH, MOST_OPS};
+use crate::entry::{
+    self, changes, count, entries_formed, replies_at, whole, LOG_WORDS, SNAPSHOT_WORDS,
+};
+use crate::limits::{ENTRIES, KEYS, LARGEST, LARGEST_BATCH, MOST_ASKED, MOST_OPS};
 use crate::state::{trimmed, LentSnapshot, Sign, State};
 use crate::storage::Snapshot;
 use std::ops::Bound;
@@ -29,6 +31,7 @@ fn formed(call: &Call, s: &State) -> bool {
         Call::Append(es) | Call::AppendIdx(es) | Call::AppendNow(es) => entries_formed(es),
         Call::AppendStop(sign) | Call::SetStop(Some(sign)) => sign.formed(),
         Call::Read(_, a, b) => *a != Bound::Excluded(u64::MAX) && *b != Bound::Included(u64::MAX),
+        Call::LookupMany(keys, n) => keys.len() <= MOST_ASKED && replies_at(keys.len()) <= *n,
         Call::Create(_, n) | Call::Diff(_, n) => output(n),
         Call::Sync(_, _, p) => {
             whole(&p.suffix)
@@ -266,6 +269,7 @@ fn on_state(call: &Call) -> bool {
             | Call::PlaceFormed(_)
             | Call::SignFormed(_)
             | Call::Compare(..)
+            | Call::ReplyAt(..)
             | Call::EntriesOf(..)
             | Call::EntriesShown(..)
     )

@@ -2,14 +2,16 @@
 //! not refused its reply and the whole state after it are held to the Rust's.
 use crate::backend::Shared;
 use crate::call::Call;
+use crate::entry::reply_at;
 use crate::history::History;
-use crate::judge::{Judge, Told, Verdict};
+use crate::judge::{known, Judge, Told, Verdict};
 use crate::port::Port;
 use crate::rules;
 use crate::sample::Sample;
 use crate::state::State;
 use crate::store::Stored;
 use std::collections::BTreeMap;
+use std::mem;
 
 #[derive(Default)]
 pub struct Report {
@@ -209,9 +211,11 @@ impl Runner {
             }
             return Ok(false);
         }
+        let out_before = mem::take(&mut self.output);
         let told = Told {
             answer: &answer,
             out: &output,
+            out_before: &out_before,
             after: &after,
         };
         if let Some(stored) = &mut self.stored {
@@ -225,8 +229,8 @@ impl Runner {
             Verdict::Listed(name) => *self.report.listed.entry(name).or_default() += 1,
             Verdict::Differs(what) => return Err(self.difference(&what)),
         }
-        match self.remember(call, &answer, &after) {
-            Ok(lost) => self.report.lost += lost as u64,
+        match self.remember(call, &told) {
+            Ok(lost) => self.report.lost += lost,
             Err(what) => return Err(self.difference(&what)),
         }
         self.output = output;
@@ -235,15 +239,26 @@ impl Runner {
         Ok(true)
     }
 
-    /// The history beside an accepted call; one on a state that is not well formed says nothing of it.
-    fn remember(&mut self, call: &Call, answer: &[u64], after: &State) -> Result<bool, String> {
-        if let Call::Lookup(key) = call {
-            return self.history.judge(*key, &self.state, answer);
+    /// The history beside an accepted call; one on a state that is not well formed says nothing of it. How many keys of it a lookup
+    /// says unknown of.
+    fn remember(&mut self, call: &Call, told: &Told) -> Result<u64, String> {
+        let judge = |key: u64, answer: &[u64]| self.history.judge(key, &self.state, answer);
+        match call {
+            Call::Lookup(key) => return judge(*key, told.answer).map(u64::from),
+            Call::LookupMany(keys, out) => {
+                let mut replies = told.out.to_vec();
+                replies.resize(*out, 0);
+                let lost = (0..)
+                    .zip(keys)
+                    .map(|(i, key)| judge(*key, &known(reply_at(&replies, i))).map(u64::from));
+                return lost.sum();
+            }
+            _ => (),
         }
-        if after.well_formed() {
-            self.history.go_on(call, &self.state, after);
+        if told.after.well_formed() {
+            self.history.go_on(call, &self.state, told.after);
         }
-        Ok(false)
+        Ok(0)
     }
 
     fn difference(&self, what: &str) -> String {

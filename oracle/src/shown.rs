@@ -2,7 +2,7 @@
 use crate::entry::{LOG_WORDS, SNAPSHOT_WORDS};
 use crate::limits::{ENTRIES, KEYS};
 use kotuseraw::image::{HEAD, ROOM};
-use kotuseraw::plain::{METADATA, NODES};
+use kotuseraw::plain::{METADATA, MOST_ASKED, NODES};
 use std::fs;
 
 /// The states of the tables: a name, the snapshot's keys, the entries.
@@ -305,6 +305,8 @@ fn slower() -> String {
   that follows where the key is new; the Rust inserts into a tree.
 - A lookup walks the decided entries backwards before it searches the snapshot; a `BTreeMap` of everything, which nobody has to keep beside a
   log and a snapshot, answers in a hundred or two hundred instructions.
+- A lookup of many keys judges a lent state once, which is what it saves, and walks the entries for each key anew. As it is compiled that walk
+  takes an instruction a turn more than the single lookup's, and no more time.
 - Of an image every byte is put or looked at, and summed; a copy moves many bytes an instruction and looks at none.
 - An operation list runs on a copy of all words, judged before it and by its numbers after it; the oracle's backend copies everything too.
 - We are faster where the Rust builds what a reader did not ask for: a read shows a part of the log where the Rust copies entries out, and
@@ -331,6 +333,8 @@ pub fn run(before: &str, walked: &str, counts: &str, times: Option<&String>) {
     print_whole(&beside, &beside, "snapshot", "what is done");
     println!("## Lookup: instructions\n");
     print_whole(&beside, &beside, "lookup", "the key is");
+    println!("## {MOST_ASKED} keys: instructions\n");
+    print_whole(&counts, &counts, "many", "the keys are");
     println!("## Images: instructions\n");
     print_whole(&counts, &counts, "image", "what is done");
     println!("## How cost grows: instructions\n");
@@ -343,6 +347,8 @@ pub fn run(before: &str, walked: &str, counts: &str, times: Option<&String>) {
         print_whole(&counts, &times, "snapshot", "what is done");
         println!("## Lookup: nanoseconds\n");
         print_whole(&counts, &times, "lookup", "the key is");
+        println!("## {MOST_ASKED} keys: nanoseconds\n");
+        print_whole(&counts, &times, "many", "the keys are");
         println!("## Images: nanoseconds\n");
         print_images(&counts, &times);
         println!("## How cost grows: nanoseconds\n");

@@ -167,6 +167,8 @@ fn queries() -> Vec<Call> {
         Call::GetLogDecided,
         Call::StopIsDecided,
         Call::Read(Form::Covered, Bound::Unbounded, Bound::Unbounded),
+        Call::LookupMany(vec![], 0),
+        Call::LookupMany(vec![2, 1, 0, 1], SNAPSHOT_WORDS),
     ];
     for i in 0..=TOP + 1 {
         calls.extend([

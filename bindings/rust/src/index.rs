@@ -281,6 +281,26 @@ macro_rules! calls {
             $call!(lookup(*record, log, snapshot, key)).accepted().map(Found::told)
         }
 
+        /// What is known of each of at most [`MOST_ASKED`](plain::MOST_ASKED) keys, in their order: of each what [`lookup`](Self::lookup)
+        /// says. More keys are refused with 11. A state that is lent is judged once for all of them. Nothing is allocated.
+        ///
+        /// ```
+        /// # use kotuseraw::{BlockPlace, Entry, Found, Index, LogIndex};
+        /// let mut index = Index::fresh(0)?;
+        /// index.append_entries_with_batching(&[Entry::put(7, BlockPlace(70)), Entry::removed(8)])?;
+        /// index.set_decided_idx(LogIndex(2))?;
+        /// let found: Vec<Found> = index.lookup_many(&[9, 8, 7, 7])?.collect();
+        /// assert_eq!(found, [Found::Unknown, Found::Removed, Found::Place(BlockPlace(70)), Found::Place(BlockPlace(70))]);
+        /// assert_eq!(index.lookup_many(&[7; 65]).err().map(|refused| refused.number()), Some(11));
+        /// # Ok::<(), kotuseraw::Refusal>(())
+        /// ```
+        pub fn lookup_many(&self, keys: &[u64]) -> Result<impl ExactSizeIterator<Item = Found>, Refusal> {
+            let (record, log, snapshot) = self.parts();
+            let mut replies = [0; plain::MOST_ASKED * plain::REPLY_WIDTH];
+            $call!(lookup_many(*record, log, snapshot, keys, &mut replies)).accepted()?;
+            Ok((0..keys.len()).map(move |i| Found::told(plain::reply_at(&replies, i))))
+        }
+
         /// Reads a range of the log. None where it is not wholly there.
         ///
         /// ```

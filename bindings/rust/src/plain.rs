@@ -13,6 +13,10 @@ pub const NODES: usize = 7;
 pub const METADATA: usize = 32;
 /// Operations of a list.
 pub const MOST_OPS: usize = 8;
+/// Keys that one lookup may ask for.
+pub const MOST_ASKED: usize = 64;
+/// Words of each of its replies.
+pub const REPLY_WIDTH: usize = 1;
 
 #[repr(C)]
 #[derive(Clone, Copy, Debug, Default, PartialEq, Eq, PartialOrd, Ord, Hash)]
@@ -259,6 +263,11 @@ exports! {
 
     /// Told 0: the key is unknown; 1: its place, first; 2: it is removed.
     lookup(index: IndexRecord, log: &[u64], snapshot: &[u64], key: u64) -> Said = "kotuseraw_lookup";
+    /// What [`lookup`] says of each of at most [`MOST_ASKED`] keys, [`REPLY_WIDTH`] words a key, to the front of `replies`; the words after
+    /// them stay. [`reply_at`] reads them.
+    lookup_many(index: IndexRecord, log: &[u64], snapshot: &[u64], keys: &[u64], replies: &mut [u64]) -> Said = "kotuseraw_lookup_many";
+    /// The i-th of the replies that some words are, told as [`lookup`] tells it; unknown where there are not so many.
+    reply_at(replies: &[u64], i: usize) -> Said = "kotuseraw_reply_at";
     read(index: IndexRecord, log: &[u64], snapshot: &[u64], from: Bound, to: Bound) -> ShownSaid = "kotuseraw_read";
     read_decided_suffix(index: IndexRecord, log: &[u64], snapshot: &[u64], from: LogIndex) -> ShownSaid = "kotuseraw_read_decided_suffix";
     get_entries(index: IndexRecord, log: &[u64], snapshot: &[u64], from: LogIndex, to: LogIndex) -> Said = "kotuseraw_get_entries";

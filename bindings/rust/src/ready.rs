@@ -13,6 +13,7 @@ macro_rules! exports {
 
 exports! {
     lookup(index: IndexRecord, log: &[u64], snapshot: &[u64], key: u64) -> Said = "kotuseraw_inner_lookup";
+    lookup_many(index: IndexRecord, log: &[u64], snapshot: &[u64], keys: &[u64], replies: &mut [u64]) -> Said = "kotuseraw_inner_lookup_many";
     read(index: IndexRecord, log: &[u64], snapshot: &[u64], from: Bound, to: Bound) -> ShownSaid = "kotuseraw_inner_read";
     read_decided_suffix(index: IndexRecord, log: &[u64], snapshot: &[u64], from: LogIndex) -> ShownSaid = "kotuseraw_inner_read_decided_suffix";
     get_entries(index: IndexRecord, log: &[u64], snapshot: &[u64], from: LogIndex, to: LogIndex) -> Said = "kotuseraw_inner_get_entries";

@@ -86,6 +86,8 @@ fn the_structs_are_the_same_to_the_byte() {
     }
     source += "printf(\"%d %d %d\\n\", KOTUSERAW_LOG_WORDS, KOTUSERAW_SNAPSHOT_WORDS, KOTUSERAW_IMAGE_ROOM);\n";
     due += &format!("{LOG_WORDS} {SNAPSHOT_WORDS} {ROOM}\n");
+    source += "printf(\"%d %d\\n\", KOTUSERAW_MOST_ASKED, KOTUSERAW_REPLY_WIDTH);\n";
+    due += &format!("{MOST_ASKED} {REPLY_WIDTH}\n");
     source += "printf(\"%d %d\\n\", KOTUSERAW_TRIM, KOTUSERAW_SNAPSHOT);\n";
     due += "0 1\n";
     source += "printf(\"%d %d %d\\n\", KOTUSERAW_FOUND_UNKNOWN, KOTUSERAW_FOUND_PLACE, KOTUSERAW_FOUND_REMOVED);\nreturn 0;\n}\n";
@@ -111,12 +113,15 @@ fn the_functions_are_the_same() {
     let rust = fs::read_to_string(Path::new(env!("CARGO_MANIFEST_DIR")).join("src/plain.rs")).unwrap();
     let declared = functions(&header, '(');
     assert_eq!(declared, functions(&rust, '"'));
-    assert_eq!(declared.len(), 43);
+    assert_eq!(declared.len(), 45);
 }
 
 #[test]
 fn a_c_program_links_the_archive() {
     let source = folder().join("example.c");
     let archive = Path::new(env!("KOTUSERAW_LINKED"));
-    assert_eq!(printed("example", &source, &[archive]), "refused 0, place 80\nrefused 5, carrying 2\nan image of 103 bytes, accepted 2\n");
+    assert_eq!(
+        printed("example", &source, &[archive]),
+        "refused 0, place 80\n9 is told 0, 7 is told 1\nrefused 5, carrying 2\nan image of 103 bytes, accepted 2\n"
+    );
 }

@@ -18,14 +18,14 @@ said-formed w = go (eqb w lastWord)
     go false = refl
 
 -- every word says something, and what is said in form is known by its word
-word-said : (w : ℕ) → wordOf (saidOf w) ≡ w
+pub word-said : (w : ℕ) → wordOf (saidOf w) ≡ w
 word-said w = go (eqb w lastWord) refl
   where
     go : (t : Bool) → eqb w lastWord ≡ t → wordOf (if t then removed else place w) ≡ w
     go true e = sym (eqb-true w lastWord e)
     go false e = refl
 
-said-word : (x : Said) → saidFormed x ≡ true → saidOf (wordOf x) ≡ x
+pub said-word : (x : Said) → saidFormed x ≡ true → saidOf (wordOf x) ≡ x
 said-word (place p) e =
     let h : p < places = ltb-true p places e in
     rw (ne-eqb p lastWord (omega arith))

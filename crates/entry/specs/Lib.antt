@@ -1,5 +1,6 @@
 pub mod Limits
 pub mod Change
+pub mod Reply
 pub mod Inner
 pub mod Upto
 pub mod Sign

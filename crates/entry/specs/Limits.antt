@@ -1,4 +1,4 @@
--- The bounds of document 01, each as a number in this one place; src/lib.rt has the same as constants.
+-- The bounds of documents 01 and 02, each as a number in this one place; src/lib.rt has the same as constants.
 use Prim.Native.Nat.{ℕ, _*_, _^_}
 
 -- words an entry
@@ -33,6 +33,13 @@ mostMetadata = 32
 abbrev pub mostOps : ℕ
 mostOps = 8
 
+-- keys that one lookup may ask for, and the words of each reply
+abbrev pub mostAsked : ℕ
+mostAsked = 64
+
+abbrev pub replyWidth : ℕ
+replyWidth = 1
+
 -- a block place is below this
 abbrev pub places : ℕ
 places = 2 ^ 48
@@ -40,3 +47,7 @@ places = 2 ^ 48
 -- the largest word: a removed key's
 abbrev pub lastWord : ℕ
 lastWord = 0xffff_ffff_ffff_ffff
+
+-- a word that is no place and not a removed key's: an unknown key's, in a reply
+abbrev pub unknownWord : ℕ
+unknownWord = 0xffff_ffff_ffff_fffe

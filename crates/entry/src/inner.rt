@@ -1,5 +1,6 @@
 // What the crates above need of forms and layouts: not for a user, whose calls are in lib.rt.
 use super::BlockPlace;
+use super::Known;
 use super::Said;
 use super::StopSign;
 ghost use mathlib.Core.Path.{_≡_};
@@ -7,10 +8,22 @@ ghost use mathlib.Core.Bool.{true};
 ghost use Prim.Native.Nat.{_+_, _*_, _≤_, _<_};
 ghost use lib.ListN.{length, drop};
 ghost use Rattle.words.specs.Words.{allZero};
-ghost use Rattle.entry.specs.Change.{saidIs, wordFormed, entriesFormed, entriesOf, storedIn};
+ghost use Rattle.entry.specs.Change.{saidIs, saidOf, wordFormed, entriesFormed, entriesOf, storedIn};
+ghost use Rattle.entry.specs.Reply.{knownIs, replyCode};
 ghost use Rattle.entry.specs.Inner.{changeAt, LentAs};
 ghost use Rattle.entry.specs.Limits.{width, places};
 ghost use Rattle.entry.specs.Sign.{noSign, signIf, signBlank};
+
+// What an entry's second word says.
+pub fn said_of(word: u64) -> Said
+    ensures { λ r. ⌜ saidIs r ≡ saidOf word ⌝ }
+{
+    if word == super::REMOVED {
+        return Said::Removed;
+    }
+    let place = BlockPlace(word);
+    Said::Place(place)
+}
 
 // What the entry at i says of its key.
 pub fn said_at(s: &[u64], i: usize) -> Said
@@ -18,12 +31,20 @@ pub fn said_at(s: &[u64], i: usize) -> Said
     ensures { λ r. ⌜ saidIs r ≡ changeAt (now (s .entry)) i .said ⌝ }
 {
     let at = i * super::WIDTH + 1;
-    let word = s[at];
-    if word == super::REMOVED {
-        return Said::Removed;
+    said_of(s[at])
+}
+
+// The words of a reply.
+pub fn reply(known: Known) -> [u64; super::REPLY_WIDTH]
+    ensures { λ ws. ⌜ ws ≡ replyCode .enc (knownIs known) ⌝ }
+{
+    let Known::Says(said) = known else {
+        return [super::UNKNOWN];
+    };
+    match said {
+        Said::Place(place) => [place.0],
+        Said::Removed => [super::REMOVED],
     }
-    let place = BlockPlace(word);
-    Said::Place(place)
 }
 
 // The words of an entry. Those of a place of 2^48 or more break the form too, so that 2^64-1 never means removed.

@@ -1,6 +1,7 @@
-// Entries, ballots, stop-signs and refusals: module 1 of document 01, and its table of refusals.
+// Entries, replies on their keys, ballots, stop-signs and refusals: module 1 of document 01, and its table of refusals.
 ghost use mathlib.Core.Path.{_≡_};
 ghost use Rattle.entry.specs.Change.{wordFormed, sliceFormed};
+ghost use Rattle.entry.specs.Reply.{knownIs, replyAt};
 ghost use Rattle.entry.specs.Sign.{signFormed};
 ghost use Rattle.entry.specs.Order.{compareOf, thenBy, ballotOrder, sameBallot};
 ghost use Rattle.entry.specs.Refusals.{numberOf, carriedOf};
@@ -29,9 +30,16 @@ pub const NODES: usize = 7;
 
 pub const METADATA: usize = 32;
 
+// Keys that one lookup may ask for, and the words of each reply.
+pub const MOST_ASKED: usize = 64;
+
+pub const REPLY_WIDTH: usize = 1;
+
 pub const PLACES: u64 = 0x1_0000_0000_0000;
 
 pub const REMOVED: u64 = 0xffff_ffff_ffff_ffff;
+
+pub const UNKNOWN: u64 = 0xffff_ffff_ffff_fffe;
 
 // The number of a change in the log.
 #[repr(C)]
@@ -45,6 +53,12 @@ pub struct BlockPlace(pub u64);
 pub enum Said {
     Place(BlockPlace),
     Removed,
+}
+
+// What is known of a key: what an entry says of it, or nothing.
+pub enum Known {
+    Says(Said),
+    Unknown,
 }
 
 // What a compaction does with the entries that leave the log: a trim drops them, and the held snapshot, which then
@@ -211,6 +225,21 @@ pub fn entries_formed(s: &[u64]) -> bool
     let whole = words % WIDTH == 0;
     let fine = inner::places_formed(s, words / WIDTH);
     whole & fine
+}
+
+// The i-th of the replies that some words are; unknown where there are not so many.
+pub fn reply_at(replies: &[u64], i: usize) -> Known
+    ensures { λ r. ⌜ knownIs r ≡ replyAt (now (replies .entry)) i ⌝ }
+{
+    if replies.len() / REPLY_WIDTH <= i {
+        return Known::Unknown;
+    }
+    let word = replies[i * REPLY_WIDTH];
+    if word == UNKNOWN {
+        return Known::Unknown;
+    }
+    let said = inner::said_of(word);
+    Known::Says(said)
 }
 
 // Whether a stop-sign is in form: at least one node, and a length only where metadata is held.

@@ -1,12 +1,14 @@
 // The library from a program: the entries of two logs are folded, the folds are merged, and keys are looked up; then
-// a log takes an entry, which is decided and looked up.
+// a log takes an entry, which is decided and looked up, alone and with another key in one call.
 use entry::BlockPlace;
+use entry::Known;
 use entry::LogIndex;
 use entry::Said;
 use reading::Bound;
 use snapshot::Folded;
 use snapshot::Found;
 use state_cache::IndexRecord;
+use state_cache::Settled;
 
 type LogWords = [u64; entry::LOG_WORDS];
 
@@ -113,6 +115,31 @@ fn print_lookup(index: IndexRecord, log: &LogWords, held: &SnapshotWords, key: u
     print_found(reading::lookup(index, log, held, key));
 }
 
+fn print_known(known: Known) {
+    let Known::Says(said) = known else {
+        print_found(Found::Unknown);
+        return;
+    };
+    match said {
+        Said::Place(place) => print_found(Found::Place(place)),
+        Said::Removed => print_found(Found::Removed),
+    }
+}
+
+// Two keys in one call.
+fn print_both(index: IndexRecord, log: &LogWords, held: &SnapshotWords, a: u64, b: u64) {
+    let keys = [a, b];
+    let mut replies = [0u64; 2 * entry::REPLY_WIDTH];
+    let asked = reading::lookup_many(index, log, held, &keys, &mut replies);
+    match asked {
+        Settled::Done => {
+            print_known(entry::reply_at(&replies, 0));
+            print_known(entry::reply_at(&replies, 1));
+        }
+        Settled::Refused(refusal) => print_found(Found::Refused(refusal)),
+    }
+}
+
 fn main() {
     let mut log = [0u64; entry::LOG_WORDS];
     let mut held = [0u64; entry::SNAPSHOT_WORDS];
@@ -145,4 +172,5 @@ fn main() {
     print_lookup(index, &log, &held, 9);
     index = decided(index, &log, &held, LogIndex(1));
     print_lookup(index, &log, &held, 9);
+    print_both(index, &log, &held, 4, 9);
 }

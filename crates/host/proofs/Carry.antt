@@ -4,7 +4,7 @@ use Rattle.entry.specs.Guards.{Answer}
 use Rattle.snapshot.specs.Calls.{Outcome as Fold, outcome as fold}
 use Rattle.state_cache.specs.{State.raw, declared.IndexRecord.IndexRecord, Run.Outcome, Run.outcome}
 use Rattle.host.specs.{declared.Said.Said, declared.Reply.Reply, Plain.plain, Plain.aNumber, Plain.left}
-use Rattle.host.specs.{Plain.plainly, Plain.wrote, Plain.wroteAs}
+use Rattle.host.specs.{Plain.nothing, Plain.plainly, Plain.wrote, Plain.wroteAs, Plain.filledAs}
 
 pub carry : {A : Type 0} (f : A → Said) {p : Reply} {a : Answer A} {i : IndexRecord} {l s : List ℕ} {o : Outcome A}
     → (p .said ≡ plain f a) × (p .index ≡ i)
@@ -16,3 +16,8 @@ carry f {p} {a} {i} {l} {s} {o} e q =
 pub carry-out : {s : Said} {a : Answer ℕ} {out : List ℕ} {o : Fold} → s ≡ plain aNumber a → fold a out ≡ o
     → wrote s out ≡ wroteAs o
 carry-out {s} {a} {out} {o} e q = ap (λ t. wrote t out) e ∙ ap wroteAs q
+
+-- and of replies that are filled
+pub carry-filled : {s : Said} {a : Answer (Unit {0})} {out : List ℕ} {o : Answer (Unit {0}) × List ℕ}
+    → s ≡ plain nothing a → (a, out) ≡ o → wrote s out ≡ filledAs o
+carry-filled {s} {a} {out} {o} e q = ap (λ t. wrote t out) e ∙ ap filledAs q

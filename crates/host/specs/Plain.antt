@@ -81,3 +81,7 @@ wrote s out = record { said = s; output = out }
 
 abbrev pub wroteAs : Fold → Wrote
 wroteAs o = wrote (plain aNumber (o .answer)) (o .output)
+
+-- and of one that fills replies
+abbrev pub filledAs : Answer (Unit {0}) × List ℕ → Wrote
+filledAs o = wrote (plain nothing (o .0)) (o .1)

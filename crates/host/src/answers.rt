@@ -3,6 +3,7 @@ use super::Reply;
 use super::Said;
 use super::ShownSaid;
 use diff::Diff;
+use entry::Known;
 use entry::Ordering;
 use entry::Refusal;
 use image::Written;
@@ -24,6 +25,7 @@ use state_cache::SettledAt;
 ghost use mathlib.Core.Path.{_≡_};
 ghost use mathlib.Core.List.{List};
 ghost use Prim.Native.Nat.{ℕ};
+ghost use Rattle.entry.specs.Reply.{knownIs};
 ghost use Rattle.entry.specs.Guards.{refusedBy};
 ghost use Rattle.snapshot.specs.Calls.{found, folded};
 ghost use Rattle.state_cache.specs.State.{Raw};
@@ -162,6 +164,15 @@ pub(crate) fn found_said(answer: Found) -> Said
         Found::Unknown => tell(0, 0, 0),
         Found::Refused(r) => refuse(r),
     }
+}
+
+pub(crate) fn known_said(known: Known) -> Said
+    ensures { λ s. ⌜ s ≡ aWord (knownIs known) ⌝ }
+{
+    let Known::Says(said) = known else {
+        return tell(0, 0, 0);
+    };
+    found_said(snapshot::inner::found_of(said))
 }
 
 pub(crate) fn folded_said(answer: Folded) -> Said

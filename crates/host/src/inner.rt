@@ -22,15 +22,16 @@ ghost use Rattle.entry.specs.Limits.{lastWord};
 ghost use Rattle.entry.specs.Change.{entriesIn, wholeIn};
 ghost use Rattle.model.specs.Numbers.{acceptedOf, stopDecided, logDecided};
 ghost use Rattle.model.specs.Read.{included, excluded};
-ghost use Rattle.model.specs.Calls.{query, read, readDecided, getEntries, getSuffix, lookup as lookupCall, append};
-ghost use Rattle.model.specs.Calls.{appendNow, flush, flushEntries, appendStop, setStop, setPromise, decide};
+ghost use Rattle.model.specs.Calls.{query, read, readDecided, getEntries, getSuffix, lookup as lookupCall, lookupMany};
+ghost use Rattle.model.specs.Calls.{append, appendNow, flush, flushEntries, appendStop, setStop, setPromise, decide};
 ghost use Rattle.model.specs.Calls.{compact};
 ghost use Rattle.state_cache.specs.State.{raw};
 ghost use Rattle.state_cache.specs.Inner.{Ready};
 ghost use Rattle.state_cache.specs.Run.{run, ofNumbers};
+ghost use Rattle.reading.specs.Many.{roomFor, filledOut};
 ghost use Rattle.internal_storage.specs.Replies.{asked as askedSign, withIndexOnly};
 ghost use Rattle.host.specs.Plain.{plain, left, plainly, nothing, aNumber, aFlag, maybeNumber, maybeFlushed};
-ghost use Rattle.host.specs.Plain.{aWord, aSpan};
+ghost use Rattle.host.specs.Plain.{aWord, aSpan, wrote, filledAs};
 ghost use Rattle.host.specs.Requests.{endAt, ofFlag, lentSaid, whatOf};
 ghost use Rattle.host.specs.Reads.{shownAs};
 
@@ -49,6 +50,25 @@ pub extern "C" fn kotuseraw_inner_lookup(
         (run (query (lookupCall key)) true (raw index (now (log .entry)) (now (snapshot .entry))) .answer) ⌝ }
 {
     answers::found_said(reading::inner::look(index, log, snapshot, key))
+}
+
+// What is known of each of some keys, as the call for one says it, to the front of `replies`.
+#[no_mangle]
+pub extern "C" fn kotuseraw_inner_lookup_many(
+    index: IndexRecord,
+    log: &[u64],
+    snapshot: &[u64],
+    keys: &[u64],
+    replies: &mut [u64],
+) -> Said
+    requires { ⌜ Ready (raw index (now log) (now snapshot)) ⌝ }
+    ensures { λ s. ⌜ wrote s (now (replies .exit))
+        ≡ filledAs
+        (filledOut
+        (run (query (lookupMany (now (keys .entry)))) (roomFor (now (keys .entry)) (now (replies .entry)))
+        (raw index (now (log .entry)) (now (snapshot .entry))) .answer) (now (replies .entry))) ⌝ }
+{
+    answers::settled_said(reading::inner::look_many(index, log, snapshot, keys, replies))
 }
 
 // Reads a range of the log.

@@ -15,13 +15,15 @@ ghost use mathlib.Core.Bool.{true};
 ghost use mathlib.Core.List.{List};
 ghost use Prim.Native.Nat.{ℕ};
 ghost use Rattle.entry.specs.Limits.{lastWord};
+ghost use Rattle.entry.specs.Reply.{replyAt};
 ghost use Rattle.model.specs.Read.{included, excluded};
-ghost use Rattle.model.specs.Calls.{query, read, readDecided, getEntries, getSuffix, lookup as lookupCall};
+ghost use Rattle.model.specs.Calls.{query, read, readDecided, getEntries, getSuffix, lookup as lookupCall, lookupMany};
 ghost use Rattle.state_cache.specs.State.{Raw, raw};
 ghost use Rattle.state_cache.specs.Run.{run};
+ghost use Rattle.reading.specs.Many.{roomFor, filledOut};
 ghost use Rattle.reading.specs.Parts.{part};
 ghost use Rattle.reading.specs.Replies.{readSaid, partShown};
-ghost use Rattle.host.specs.Plain.{plain, aWord, aSpan};
+ghost use Rattle.host.specs.Plain.{plain, aWord, aSpan, wrote, filledAs};
 ghost use Rattle.host.specs.Requests.{endAt};
 ghost use Rattle.host.specs.Reads.{shownAs, shownBy, copied, copiedOut};
 
@@ -39,6 +41,34 @@ pub extern "C" fn kotuseraw_lookup(
         (run (query (lookupCall key)) true (raw index (now (log .entry)) (now (snapshot .entry))) .answer) ⌝ }
 {
     answers::found_said(reading::lookup(index, log, snapshot, key))
+}
+
+// What is known of each of some keys, as the call for one says it, to the front of `replies`. `kotuseraw_reply_at`
+// reads them.
+#[no_mangle]
+pub extern "C" fn kotuseraw_lookup_many(
+    index: IndexRecord,
+    log: &[u64],
+    snapshot: &[u64],
+    keys: &[u64],
+    replies: &mut [u64],
+) -> Said
+    ensures { λ s. ⌜ wrote s (now (replies .exit))
+        ≡ filledAs
+        (filledOut
+        (run (query (lookupMany (now (keys .entry)))) (roomFor (now (keys .entry)) (now (replies .entry)))
+        (raw index (now (log .entry)) (now (snapshot .entry))) .answer) (now (replies .entry))) ⌝ }
+{
+    answers::settled_said(reading::lookup_many(index, log, snapshot, keys, replies))
+}
+
+// The i-th of the replies that some words are, unknown where there are not so many. Told 0: unknown; 1: a place, first;
+// 2: removed.
+#[no_mangle]
+pub extern "C" fn kotuseraw_reply_at(replies: &[u64], i: usize) -> Said
+    ensures { λ s. ⌜ s ≡ aWord (replyAt (now (replies .entry)) i) ⌝ }
+{
+    answers::known_said(entry::reply_at(replies, i))
 }
 
 // Reads a range of the log.

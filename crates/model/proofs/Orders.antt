@@ -14,10 +14,10 @@ use Rattle.model.specs.Backend.{stepGuards, lastGuards, opGuards, writeG
 use Rattle.model.specs.Compact.{compactGuards, createGuards}
 use Rattle.model.specs.Diff.{diffGuards}
 use Rattle.model.specs.Sync.{partNumberGuards, partGuards, roundGuards}
-use Rattle.model.specs.Calls.{Query, read, readDecided, getSuffix, create, diff, lookup, getEntries, Call, query}
-use Rattle.model.specs.Calls.{append, appendNow, flush, flushEntries, appendStop, setStop, setPromise, decide}
-use Rattle.model.specs.Calls.{compact, sync, reload, write, decideGuards, syncGuards, queryGuards, further}
-use Rattle.model.specs.Calls.{guards}
+use Rattle.model.specs.Calls.{Query, read, readDecided, getSuffix, create, diff, lookup, lookupMany, getEntries}
+use Rattle.model.specs.Calls.{Call, query, append, appendNow, flush, flushEntries, appendStop, setStop}
+use Rattle.model.specs.Calls.{setPromise, decide, compact, sync, reload, write, decideGuards, syncGuards}
+use Rattle.model.specs.Calls.{queryGuards, further, guards}
 use Rattle.model.specs.Orders.{queryOrder, opOrder, opsOrder, orderOf, carriesOf}
 
 -- the rows that a call's refusals are, and those that the table has for it
@@ -59,6 +59,7 @@ query-rows (getSuffix i) s = refl
 query-rows (create i) s = unfold createGuards in refl
 query-rows (diff i) s = unfold diffGuards in refl
 query-rows (lookup k) s = refl
+query-rows (lookupMany ks) s = refl
 query-rows (getEntries i j) s = refl
 
 call-rows : (c : Call) (s : Log) → rows (further c s) ≡ due c (numbersOf s) (orderOf c)

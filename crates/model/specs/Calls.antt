@@ -5,6 +5,7 @@ use mathlib.Core.Bool.{Bool, false, _||_, not}
 use mathlib.Core.List.{List, [], _∷_}
 use mathlib.Core.Option.{Option, none, some}
 use lib.Dec.{ltb}
+use Rattle.entry.specs.Limits.{mostAsked}
 use Rattle.entry.specs.Change.{Said, Change, entriesFormed}
 use Rattle.entry.specs.Sign.{signFormed}
 use Rattle.entry.specs.Guards.{Guard, guard, Verdict, passes, refuses, first, Answer, settle}
@@ -21,14 +22,15 @@ use Rattle.model.specs.Read.{readReply, decidedSuffix, entriesBetween, s
 use Rattle.model.specs.Compact.{compactGuards, createGuards, created, compactedTo}
 use Rattle.model.specs.Diff.{Given, diffOf, diffGuards}
 use Rattle.model.specs.Sync.{Part, partFormed, partGuards, roundGuards, marksThen, partSynced}
-use Rattle.model.specs.Lookup.{lookupReply}
+use Rattle.model.specs.Lookup.{lookupReply, lookupReplies}
 use lib.ListN.{length}
 
 -- the calls that change nothing: read, read_decided_suffix, get_entries, get_suffix, create_snapshot,
--- create_diff_snapshot, lookup
+-- create_diff_snapshot, lookup, lookup_many
 pub data Query : Type 0 where
   read : Bound → Bound → Query
   readDecided getSuffix create diff lookup : ℕ → Query
+  lookupMany : List ℕ → Query
   getEntries : ℕ → ℕ → Query
 
 -- the others, by the Rust's names: append_entry_with_batching and append_entries_with_batching (append),
@@ -60,6 +62,7 @@ QueryReply (getSuffix i) = Span
 QueryReply (create i) = List Change
 QueryReply (diff i) = Diff
 QueryReply (lookup k) = Option Said
+QueryReply (lookupMany ks) = List (Option Said)
 QueryReply (getEntries i j) = Span
 
 abbrev pub Reply : Call → Type 0
@@ -85,6 +88,7 @@ queryMalformed (getSuffix i) = false
 queryMalformed (create i) = false
 queryMalformed (diff i) = false
 queryMalformed (lookup k) = false
+queryMalformed (lookupMany ks) = ltb mostAsked (length ks)
 queryMalformed (getEntries i j) = false
 
 unfoldable pub malformed : Call → Bool
@@ -117,6 +121,7 @@ queryGuards (getSuffix i) s = []
 queryGuards (create i) s = createGuards i s
 queryGuards (diff i) s = diffGuards i s
 queryGuards (lookup k) s = []
+queryGuards (lookupMany ks) s = []
 queryGuards (getEntries i j) s = []
 
 unfoldable pub further : Call → Log → List Guard
@@ -166,6 +171,7 @@ queryReply (getSuffix i) s = suffixFrom i s
 queryReply (create i) s = created i s
 queryReply (diff i) s = record { given = diffOf i s; upto = logDecided (numbersOf s) }
 queryReply (lookup k) s = lookupReply k s
+queryReply (lookupMany ks) s = lookupReplies ks s
 queryReply (getEntries i j) s = entriesBetween i j s
 
 unfoldable pub replyOf : (c : Call) → Log → Reply c

@@ -3,7 +3,7 @@
 -- longer holds the key".
 use Prim.Native.Nat.{ℕ, _-_}
 use mathlib.Core.Option.{Option, orElse}
-use mathlib.Core.List.{List}
+use mathlib.Core.List.{List, map}
 use lib.ListN.{take}
 use Rattle.entry.specs.Change.{Said, Change}
 use Rattle.snapshot.specs.Folds.{find, lastOf}
@@ -14,3 +14,7 @@ unfoldable pub lookupReply : ℕ → Log → Option Said
 lookupReply k s =
     let decided : List Change = take (logDecided (numbersOf s) - s .run .compacted) (s .run .retained) in
     orElse (lastOf k decided) (find k (orEmpty (s .run .held)))
+
+-- many keys: "each as the single lookup would give on the same state, repeated keys included"
+abbrev pub lookupReplies : List ℕ → Log → List (Option Said)
+lookupReplies ks s = map (λ (k : ℕ). lookupReply k s) ks

@@ -9,9 +9,9 @@ use Rattle.model.specs.Compact.{snapshotsOnly}
 use Rattle.model.specs.Sync.{Part, partNumbers, decidedThen, acceptedThen}
 use Rattle.model.specs.Backend.{Op, appendEntries, appendOnPrefix, setDecided, setCompacted, trim as opTrim}
 use Rattle.model.specs.Backend.{setPromise as opPromise, setRound, setSign, setSnapshot}
-use Rattle.model.specs.Calls.{Query, read, readDecided, getSuffix, create, diff, lookup, getEntries, Call, query}
-use Rattle.model.specs.Calls.{append, appendNow, flush, flushEntries, appendStop, setStop, setPromise, decide}
-use Rattle.model.specs.Calls.{compact, sync, reload, write}
+use Rattle.model.specs.Calls.{Query, read, readDecided, getSuffix, create, diff, lookup, lookupMany, getEntries}
+use Rattle.model.specs.Calls.{Call, query, append, appendNow, flush, flushEntries, appendStop, setStop}
+use Rattle.model.specs.Calls.{setPromise, decide, compact, sync, reload, write}
 
 abbrev pub queryOrder : Query → List ℕ
 queryOrder (read a b) = []
@@ -20,6 +20,7 @@ queryOrder (getSuffix i) = []
 queryOrder (create i) = 3 ∷ 2 ∷ 16 ∷ 8 ∷ []
 queryOrder (diff i) = 16 ∷ 8 ∷ []
 queryOrder (lookup k) = []
+queryOrder (lookupMany ks) = []
 queryOrder (getEntries i j) = []
 
 -- the operation list has its own rule: 7, then 1, of each operation; after the last 9, then 12

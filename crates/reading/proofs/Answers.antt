@@ -2,8 +2,9 @@
 use Rattle.words.proofs.Prelude.{_≡_, refl, sym, ap, ℕ, Bool, true, false, []}
 use mathlib.Core.Path.{subst}
 use Rattle.entry.specs.Guards.{Verdict, passes, refuses, first, Answer, refused, replied}
-use Rattle.model.specs.Calls.{Query, QueryReply, query, queryMalformed, queryGuards, queryReply, malformed, further}
-use Rattle.model.specs.Calls.{effect, replyOf}
+use Rattle.model.specs.Lookup.{lookupReply}
+use Rattle.model.specs.Calls.{Query, QueryReply, query, lookup, queryMalformed, queryGuards, queryReply, malformed}
+use Rattle.model.specs.Calls.{further, effect, replyOf}
 use Rattle.state_cache.specs.State.{Raw, formed, logOf, rawOf}
 use Rattle.state_cache.specs.Run.{Outcome, chosen, verdictOn, run}
 use Rattle.state_cache.proofs.{Stands.stands-of, Stands.raw-is, Runs.ill-formed, Runs.bad-call, Runs.call-stands}
@@ -24,6 +25,12 @@ module _ (q : Query) (r : Raw) where
         → y ≡ queryReply q (logOf r) → replied y ≡ run (query q) true r .answer
     unfolding malformed further effect replyOf first
     answer-is m g y e = ap answerOf (call-stands (query q) r ok m (rw g) y r e (stands-of r ok))
+
+-- what a lookup in a well-formed log answers
+pub lookup-answer : (r : Raw) → formed r ≡ true → (k : ℕ)
+    → run (query (lookup k)) true r .answer ≡ replied (lookupReply k (logOf r))
+unfolding queryReply queryGuards
+lookup-answer r ok k = sym (answer-is (lookup k) r ok refl refl (lookupReply k (logOf r)) refl)
 
 -- what holds of every refusal and of the reply of a call that stands holds of its answer
 pub answered : (q : Query) (r : Raw) (P : Answer (QueryReply q) → Type 0) → ((n k : ℕ) → P (refused n k))

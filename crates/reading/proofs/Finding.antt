@@ -1,15 +1,14 @@
 -- What a lookup on lent words replies after any list of calls from a fresh log: place and removed are what the fold of
 -- the history's decided part says, and unknown is that where there is no hole.
-use Rattle.words.proofs.Prelude.{_≡_, refl, sym, ap, _∙_, ℕ, _≤_, true, false, some, List, take}
+use Rattle.words.proofs.Prelude.{_≡_, sym, ap, _∙_, ℕ, _≤_, true, false, some, List, take}
 use Rattle.entry.specs.{Limits.largestBatch, Change.Said, Change.Change, Guards.replied}
 use Rattle.snapshot.specs.Folds.{fold, find}
 use Rattle.model.specs.{Numbers.logDecided, Log.numbersOf, Log.hole, Log.freshLog, Lookup.lookupReply, Calls.query}
-use Rattle.model.specs.{Calls.lookup, Calls.queryReply, Calls.queryGuards}
-use Rattle.model.specs.{History.told, History.fresh, History.AllTruthful}
+use Rattle.model.specs.{Calls.lookup, History.told, History.fresh, History.AllTruthful}
 use Rattle.model.proofs.Finds.{lookup-finds, lookup-tells}
 use Rattle.state_cache.specs.{State.Raw, State.logOf, State.rawOf, Run.run, Chain.Asked, Chain.runs, Chain.events}
 use Rattle.state_cache.proofs.Chain.{runs-fresh, runs-formed}
-use Rattle.reading.proofs.Answers.{answer-is}
+use Rattle.reading.proofs.Answers.{lookup-answer}
 
 module _ (n : ℕ) (sized : n ≤ largestBatch) (qs : List Asked) (honest : AllTruthful (events qs) (fresh n)) (k : ℕ) where
   abbrev reached : Raw
@@ -19,8 +18,7 @@ module _ (n : ℕ) (sized : n ≤ largestBatch) (qs : List Asked) (honest : AllT
   decidedPart = take (logDecided (numbersOf (logOf reached))) (told (events qs) (fresh n) .history)
 
   reply-is : run (query (lookup k)) true reached .answer ≡ replied (lookupReply k (logOf reached))
-  unfolding queryReply queryGuards
-  reply-is = sym (answer-is (lookup k) reached (runs-formed n sized qs) refl refl (lookupReply k (logOf reached)) refl)
+  reply-is = lookup-answer reached (runs-formed n sized qs) k
 
   pub finds-real : hole (logOf reached .run) ≡ false
       → run (query (lookup k)) true reached .answer ≡ replied (find k (fold decidedPart))

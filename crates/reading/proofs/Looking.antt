@@ -4,15 +4,16 @@ use Rattle.words.proofs.Prelude.{eqb, eq-eqb, ne-eqb, if_then_else_, Option, no
 use Rattle.words.proofs.Prelude.{drop-of-length-le, take-append-drop, length, take, drop}
 use mathlib.Core.Option.{orElse}
 use Rattle.words.specs.Coded.{entriesAt}
-use Rattle.words.proofs.CodedLaws.{entries-length, entries-take}
+use Rattle.words.proofs.{CodedLaws.entries-length, CodedLaws.entries-take, Alls.all-take}
 use Rattle.entry.specs.{Limits.width, Change.Said, Change.Change, Change.changeCode, Change.entriesOf, Guards.replied}
-use Rattle.entry.specs.{Inner.changeAt}
+use Rattle.entry.specs.{Change.changeFormed, Change.entriesFormed, Inner.changeAt, Reply.replyFormed}
 use Rattle.entry.proofs.ChangeLaws.{entry-cons}
 use Rattle.snapshot.specs.Folds.{find, lastOf}
 use Rattle.snapshot.specs.Calls.{found}
 use Rattle.snapshot.specs.declared.Found.{Found}
 use Rattle.snapshot.specs.declared.Found.the-variants.{Unknown}
-use Rattle.snapshot.proofs.{Finds.last-append, Unique.find-unique}
+use Rattle.snapshot.proofs.{Finds.last-append, Unique.find-unique, Forming.formed-either, Forming.formed-last}
+use Rattle.snapshot.proofs.{Forming.formed-find}
 use Rattle.model.specs.{Numbers.endOf, Numbers.logDecided, Log.numbersOf, Log.orEmpty, Lookup.lookupReply, Calls.query}
 use Rattle.model.specs.{Calls.lookup, Calls.queryReply, Calls.queryGuards}
 use Rattle.model.proofs.Forms.{log-min}
@@ -103,6 +104,16 @@ module _ (r : Raw) (g : Ready r) (k : ℕ) where
       ap (λ (m : ℕ). take (m - r .index .compacted .0) (entriesOf (r .index .retained) (r .log)))
       (ap logDecided (numbers-are (logOf r) r (stands-of r (g .okay))))
       ∙ entries-take changeCode below (r .index .retained) (r .log) (decided-few r g)
+
+  -- what is replied is in form
+  pub reply-formed : replyFormed (lookupReply k (logOf r)) ≡ true
+  unfolding lookupReply
+  reply-formed = rw (retained-is, snapshot) (formed-either (lastOf k (entriesOf below (r .log))) (find k held)
+      (formed-last k (entriesOf below (r .log)) retained-fine) (formed-find k held (g .snapshot .laid .fine)))
+    where
+      retained-fine : entriesFormed (entriesOf below (r .log)) ≡ true
+      retained-fine = rw (← entries-take changeCode below (r .index .retained + r .index .batched) (r .log)
+          (omega (arith, decided-few r g))) (all-take changeFormed below _ (g .log .fine))
 
   look-answer : replied (orElse (lastOf k (entriesOf below (r .log))) (find k held))
       ≡ run (query (lookup k)) true r .answer

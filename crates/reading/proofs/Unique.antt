@@ -1,12 +1,12 @@
 -- Two replies of a read that meet a claim are one: what a reply says tells its marker, where its part starts, how many
--- entries it has and how many are decided, and its stop-sign.
+-- entries it has and how many are decided, and its stop-sign. So are two of a lookup of many keys, with their words.
 use Rattle.words.proofs.Prelude.{arith, _≡_, refl, sym, ap, ap₂, _∙_, ℕ, Option, none, some, List, length}
 use Rattle.words.proofs.CodedLaws.{entries-length}
-use Rattle.entry.specs.Change.{changeCode}
+use Rattle.entry.specs.{Change.changeCode, Guards.Answer}
 use Rattle.entry.proofs.RefusalLaws.{refusal-known}
 use Rattle.model.specs.{Log.given, Read.Span, Read.Marker, Read.trimmed, Read.snapshotted, Read.Shown}
-use Rattle.state_cache.specs.State.{Raw}
-use Rattle.state_cache.proofs.{Stands.given-by, Unique.Known, Unique.apart}
+use Rattle.state_cache.specs.{State.Raw, Run.settled, declared.Settled.Settled}
+use Rattle.state_cache.proofs.{Stands.given-by, Unique.Known, Unique.apart, Unique.settled-known}
 use Rattle.reading.specs.Replies.{lentSpan, spanSays, markerSaid, shownSaid, readSaid}
 use Rattle.reading.specs.declared.Span.the-variants.{Run as SpanRun, Refused as SpanRefused}
 use Rattle.reading.specs.declared.Marker.{Marker as CodeMarker}
@@ -64,3 +64,11 @@ read-unique x (Run r) (Refused y) e = apart _ _ _ e
 read-unique x (Refused y) Nothing e = apart _ _ _ (sym e)
 read-unique x (Refused y) (Run q) e = apart _ _ _ (sym e)
 read-unique x (Refused y) (Refused z) e = ap Refused (refusal-known y z e)
+
+pub many-unique : (a b : Settled) (v w : List ℕ) (claim : Answer (Unit {0}) × List ℕ) → (settled a, v) ≡ claim
+    → (settled b, w) ≡ claim → (a ≡ b) × (v ≡ w)
+many-unique a b v w claim e f =
+    let o : _≡_ {A = Answer (Unit {0}) × List ℕ} (settled a, v) (settled b, w) = e ∙ sym f in (
+      settled-known a b (ap (λ (x : Answer (Unit {0}) × List ℕ). x .0) o),
+      ap (λ (x : Answer (Unit {0}) × List ℕ). x .1) o,
+    )

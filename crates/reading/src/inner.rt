@@ -8,21 +8,26 @@ use entry::LogIndex;
 use entry::Refusal;
 use snapshot::Found;
 use state_cache::IndexRecord;
-ghost use Prim.Native.Nat.{_-_, _*_, _<_, _≤_};
+use state_cache::Settled;
+ghost use Prim.Native.Nat.{_-_, _*_, _/_, _<_, _≤_};
 ghost use mathlib.Core.Path.{_≡_};
 ghost use mathlib.Core.Bool.{true, false};
 ghost use lib.ListN.{length};
-ghost use Rattle.entry.specs.Limits.{width};
+ghost use Rattle.words.specs.Coded.{over};
+ghost use Rattle.entry.specs.Limits.{width, replyWidth};
 ghost use Rattle.entry.specs.Change.{entriesOf};
+ghost use Rattle.entry.specs.Reply.{replyCode};
 ghost use Rattle.entry.specs.Guards.{replied};
 ghost use Rattle.snapshot.specs.Folds.{lastOf};
 ghost use Rattle.snapshot.specs.Calls.{found};
 ghost use Rattle.model.specs.Numbers.{acceptedOf};
 ghost use Rattle.model.specs.Read.{startPast, stopPast, startAt, stopAt};
-ghost use Rattle.model.specs.Calls.{query, lookup, getEntries, getSuffix, read, readDecided};
-ghost use Rattle.state_cache.specs.State.{raw, numbersIn};
+ghost use Rattle.model.specs.Lookup.{lookupReplies};
+ghost use Rattle.model.specs.Calls.{query, lookup, lookupMany, getEntries, getSuffix, read, readDecided};
+ghost use Rattle.state_cache.specs.State.{raw, numbersIn, logOf};
 ghost use Rattle.state_cache.specs.Inner.{Small, Ready};
-ghost use Rattle.state_cache.specs.Run.{run};
+ghost use Rattle.state_cache.specs.Run.{run, settled};
+ghost use Rattle.reading.specs.Many.{roomFor, filledOut};
 ghost use Rattle.reading.specs.Newest.{NewestIs};
 ghost use Rattle.reading.specs.Replies.{boundOf, spanSays, readSaid};
 ghost use Rattle.reading.specs.Inner.{kindIs, entryIs, spanIn, markerIn, markerAt, runOfNone, runOf, readIn};
@@ -110,6 +115,47 @@ pub fn look(index: IndexRecord, log: &[u64], snapshot: &[u64], key: u64) -> Foun
         return newest;
     };
     snapshot::inner::look_up(snapshot, index.keys, key)
+}
+
+// Looks the keys up one after the other, and writes each reply behind the one before.
+fn fill(index: IndexRecord, log: &[u64], snapshot: &[u64], keys: &[u64], replies: &mut [u64])
+    requires { ⌜ Ready (raw index (now log) (now snapshot)) ⌝ }
+    requires { ⌜ length (now keys) ≤ length (now replies) / replyWidth ⌝ }
+    ensures { λ _. ⌜ now (replies .exit)
+        ≡ over replyCode
+        (lookupReplies (now (keys .entry)) (logOf (raw index (now (log .entry)) (now (snapshot .entry)))))
+        (now (replies .entry)) ⌝ }
+{
+    let mut i = 0;
+    while i < keys.len() {
+        let found = look(index, log, snapshot, keys[i]);
+        let reply = entry::inner::reply(snapshot::inner::known_of(found));
+        words::copy_in(replies, i * entry::REPLY_WIDTH, &reply);
+        i += 1;
+    }
+}
+
+// The number of keys and the room for replies are judged before the first is written.
+pub fn look_many(
+    index: IndexRecord,
+    log: &[u64],
+    snapshot: &[u64],
+    keys: &[u64],
+    replies: &mut [u64],
+) -> Settled
+    requires { ⌜ Ready (raw index (now log) (now snapshot)) ⌝ }
+    ensures { λ r. ⌜ (settled r, now (replies .exit))
+        ≡ filledOut
+        (run (query (lookupMany (now (keys .entry)))) (roomFor (now (keys .entry)) (now (replies .entry)))
+        (raw index (now (log .entry)) (now (snapshot .entry))) .answer) (now (replies .entry)) ⌝ }
+{
+    let asked = keys.len();
+    let room = replies.len() / entry::REPLY_WIDTH;
+    if (entry::MOST_ASKED < asked) | (room < asked) {
+        return Settled::Refused(Refusal::Malformed);
+    }
+    fill(index, log, snapshot, keys, replies);
+    Settled::Done
 }
 
 // Where the entries from one index up to another stand among those retained.

@@ -1,15 +1,19 @@
-// The calls that read a lent log and change nothing: module 9's lookup, the reads of module 4 and module 5's read. Each
-// contract is an equation with the answer of `run`. Names are the Rust's where the Rust has the call.
+// The calls that read a lent log and change nothing: module 9's lookup, of one key or of many, the reads of module 4
+// and module 5's read. Each contract is an equation with the answer of `run`. Names are the Rust's where the Rust has
+// the call.
 use entry::LogIndex;
 use entry::Refusal;
 use snapshot::Found;
 use state_cache::IndexRecord;
+use state_cache::Settled;
 ghost use mathlib.Core.Path.{_≡_};
 ghost use mathlib.Core.Bool.{true};
 ghost use Rattle.snapshot.specs.Calls.{found};
-ghost use Rattle.model.specs.Calls.{query, lookup as lookupCall, getEntries, getSuffix, read as readCall, readDecided};
+ghost use Rattle.model.specs.Calls.{query, lookup as lookupCall, lookupMany, getEntries, getSuffix, read as readCall};
+ghost use Rattle.model.specs.Calls.{readDecided};
 ghost use Rattle.state_cache.specs.State.{Raw, raw};
-ghost use Rattle.state_cache.specs.Run.{run};
+ghost use Rattle.state_cache.specs.Run.{run, settled};
+ghost use Rattle.reading.specs.Many.{roomFor, filledOut};
 ghost use Rattle.reading.specs.Parts.{part, partAt};
 ghost use Rattle.reading.specs.Replies.{boundOf, spanSays, readSaid, partShown, partShownAt};
 
@@ -68,6 +72,26 @@ pub fn lookup(index: IndexRecord, log: &[u64], snapshot: &[u64], key: u64) -> Fo
         return Found::Refused(Refusal::IllFormed);
     }
     inner::look(index, log, snapshot, key)
+}
+
+// Looks up to MOST_ASKED keys up, on a state that is judged once: the i-th reply is what `lookup` says of the i-th key,
+// and `entry::reply_at` reads it. Words after the replies stay.
+pub fn lookup_many(
+    index: IndexRecord,
+    log: &[u64],
+    snapshot: &[u64],
+    keys: &[u64],
+    replies: &mut [u64],
+) -> Settled
+    ensures { λ r. ⌜ (settled r, now (replies .exit))
+        ≡ filledOut
+        (run (query (lookupMany (now (keys .entry)))) (roomFor (now (keys .entry)) (now (replies .entry)))
+        (raw index (now (log .entry)) (now (snapshot .entry))) .answer) (now (replies .entry)) ⌝ }
+{
+    if !state_cache::well_formed(index, log, snapshot) {
+        return Settled::Refused(Refusal::IllFormed);
+    }
+    inner::look_many(index, log, snapshot, keys, replies)
 }
 
 // Which part of the lent log the entries from one index up to another are, an empty one where they are not all held.

@@ -67,6 +67,11 @@ found Removed = replied (some removed)
 found Unknown = replied none
 found (FindRefused r) = refusedBy r
 
+-- what an answer says of the key: a refusal says nothing
+abbrev pub saidIn : Answer (Option Said) → Option Said
+saidIn (replied o) = o
+saidIn (refused n k) = none
+
 -- one call after another, on the snapshot that the first wrote; where the first is refused, so is the whole
 abbrev pub afterwards : Outcome → List ℕ → (List ℕ → ℕ → Outcome) → Outcome
 afterwards o out next = elim (o .answer) [ refused n k ↦ outcome (refused n k) out | replied n ↦ next (o .output) n ]

@@ -2,6 +2,7 @@
 // arguments it requires: its callers have tested it.
 use super::Folded;
 use super::Found;
+use entry::Known;
 use entry::Refusal;
 use entry::Said;
 ghost use mathlib.Core.Path.{_≡_};
@@ -10,9 +11,10 @@ ghost use Prim.Native.Nat.{_*_, _≤_};
 ghost use lib.ListN.{length};
 ghost use Rattle.entry.specs.Limits.{width};
 ghost use Rattle.entry.specs.Change.{saidIs, changeCode, entriesOf};
+ghost use Rattle.entry.specs.Reply.{knownIs};
 ghost use Rattle.entry.specs.Guards.{replied};
 ghost use Rattle.snapshot.specs.Folds.{rising, insert, foldOnto, find};
-ghost use Rattle.snapshot.specs.Calls.{outcome, folded, found};
+ghost use Rattle.snapshot.specs.Calls.{outcome, folded, found, saidIn};
 ghost use Rattle.snapshot.specs.Inner.{spotOf, Holds, Shows, FoldIs, Aside, foldWritten, foldedOut};
 
 // Whether the keys of the first n entries ascend strictly.
@@ -69,6 +71,18 @@ pub fn found_of(said: Said) -> Found
     match said {
         Said::Place(place) => Found::Place(place),
         Said::Removed => Found::Removed,
+    }
+}
+
+// What is known of a key where this was found of it.
+pub fn known_of(answer: Found) -> Known
+    ensures { λ r. ⌜ knownIs r ≡ saidIn (found answer) ⌝ }
+{
+    match answer {
+        Found::Place(place) => Known::Says(Said::Place(place)),
+        Found::Removed => Known::Says(Said::Removed),
+        Found::Unknown => Known::Unknown,
+        Found::Refused(_) => Known::Unknown,
     }
 }
 

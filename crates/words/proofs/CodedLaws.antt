@@ -1,12 +1,12 @@
 -- Entries and their words, at any width and any capacity.
-use Rattle.words.proofs.Prelude.{arith, _≡_, refl, sym, ap, _∙_, ℕ, zero, suc, _+_, _-_, _*_, _≤_, _<_, true}
-use Rattle.words.proofs.Prelude.{List, [], _∷_, append-nil, append-assoc, _++_, length-drop, length-append}
-use Rattle.words.proofs.Prelude.{length, take, drop, replicate, length-take-le}
+use Rattle.words.proofs.Prelude.{arith, _≡_, refl, sym, ap, ap₂, _∙_, ℕ, zero, suc, _+_, _-_, _*_, _≤_, _<_}
+use Rattle.words.proofs.Prelude.{true, List, [], _∷_, append-nil, append-assoc, _++_, length-drop, length-append}
+use Rattle.words.proofs.Prelude.{length, take, drop, replicate, getD, length-take-le, drop-cons}
 use native.Mathlib.Nat.{add-mul, zero-mul, suc-mul, zero-add, suc-add}
 use lib.Seq.{take-append-add, drop-append-add, take-at, drop-at, take-add, drop-drop, take-nil, drop-nil, take-length}
-use lib.Seq.{drop-length, take-append-seam, drop-append-seam, take-append-le, drop-append-le}
+use lib.Seq.{paste, drop-length, take-append-seam, drop-append-seam, take-append-le, drop-append-le}
 use Rattle.words.specs.{All.allOf, Words.laid, Words.spliced, Coded.Code, Coded.Lawful, Coded.wordsOf}
-use Rattle.words.specs.{Coded.entriesAt, Coded.laidOut}
+use Rattle.words.specs.{Coded.entriesAt, Coded.laidOut, Coded.over}
 use Rattle.words.proofs.Alls.{all-head, all-tail}
 
 module _ {E : Type 0} (c : Code E) where
@@ -151,6 +151,43 @@ module _ {E : Type 0} (c : Code E) where
         ∙ ap (λ (l : List ℕ). wordsOf c (take at es) ++ (wordsOf c new ++ l)) (words-drop (at + cut) es)
         ∙ sym (words-append (take at es) (new ++ drop (at + cut) es)
         ∙ ap (λ (l : List ℕ). wordsOf c (take at es) ++ l) (words-append new (drop (at + cut) es)))
+
+    -- one entry more over the front of a slice
+    pub over-next : (es : List E) (e : E) (ws : List ℕ)
+        → paste (over c es ws) (length es * c .width) (c .enc e) (length (c .enc e)) ≡ over c (es ++ (e ∷ [])) ws
+    unfolding wordsOf
+    over-next es e ws =
+        let at : ℕ = length es * c .width in
+        let n : ℕ = length (c .enc e) in
+        let more : suc (length es) ≡ length (es ++ (e ∷ [])) = omega (arith, length-append es (e ∷ [])) in
+        let one : at + n ≡ suc (length es) * c .width = omega (arith, ok .long e, suc-mul (length es) (c .width)) in
+        let there : at + n ≡ length (es ++ (e ∷ [])) * c .width = one ∙ ap (λ (k : ℕ). k * c .width) more in
+        let past : drop (at + n) (over c es ws) ≡ drop (length (es ++ (e ∷ [])) * c .width) ws =
+        ap (λ (k : ℕ). drop (k + n) (over c es ws)) (sym (words-length es))
+        ∙ drop-append-add (wordsOf c es) (drop at ws) n ∙ drop-drop n at ws ∙ ap (λ (k : ℕ). drop k ws) there in
+        ap (λ (l : List ℕ). l ++ take n (c .enc e) ++ drop (at + n) (over c es ws))
+        (take-at (wordsOf c es) (drop at ws) at (words-length es))
+        ∙ ap₂ (λ (l m : List ℕ). wordsOf c es ++ l ++ m) (take-length (c .enc e)) past
+        ∙ ap (λ (l : List ℕ). l ++ drop (length (es ++ (e ∷ [])) * c .width) ws)
+        (ap (λ (l : List ℕ). wordsOf c es ++ l) (sym (append-nil (c .enc e))) ∙ sym (words-append es (e ∷ [])))
+
+    pub over-length : (es : List E) (ws : List ℕ) → length es * c .width ≤ length ws → length (over c es ws) ≡ length ws
+    over-length es ws h =
+        omega (
+          arith,
+          length-append (wordsOf c es) (drop (length es * c .width) ws),
+          words-length es,
+          length-drop (length es * c .width) ws,
+        )
+
+    -- each sound entry there is read back
+    pub over-at : (es : List E) (ws : List ℕ) (i : ℕ) (d : E) → allOf (c .sound) es ≡ true → i < length es
+        → c .dec (take (c .width) (drop (i * c .width) (over c es ws))) ≡ getD es i d
+    over-at es ws i d fine h =
+        ap (λ (l : List E). getD l 0 d)
+        (sym (entries-cons i (length es) (over c es ws) h)
+        ∙ ap (drop i) (entries-words es (drop (length es * c .width) ws) fine)
+        ∙ drop-cons es i d h)
 
     -- what a slice that is laid out holds
     pub entries-laid : (n : ℕ) (es : List E) → allOf (c .sound) es ≡ true

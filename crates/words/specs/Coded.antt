@@ -1,6 +1,6 @@
 -- Entries as words, at any width: how many words an entry has, what they are, which entry some words are, and which
 -- entries have words.
-use Prim.Native.Nat.{ℕ, zero, suc}
+use Prim.Native.Nat.{ℕ, zero, suc, _*_}
 use mathlib.Core.Path.{_≡_}
 use mathlib.Core.Bool.{Bool, true}
 use mathlib.Core.List.{List, [], _∷_, _++_}
@@ -32,3 +32,7 @@ entriesAt c (suc n) ws = c .dec (take (c .width) ws) ∷ entriesAt c n (drop (c 
 -- a slice of n words that holds some entries, and zeros after them
 abbrev pub laidOut : {E : Type 0} → Code E → ℕ → List E → List ℕ
 laidOut c n es = laid n (wordsOf c es)
+
+-- a slice with the words of some entries over its front; those after them stay
+abbrev pub over : {E : Type 0} → Code E → List E → List ℕ → List ℕ
+over c es ws = wordsOf c es ++ drop (length es * c .width) ws

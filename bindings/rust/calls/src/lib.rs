@@ -103,7 +103,7 @@ impl Calls {
             10..=15 => self.cache(line),
             20..=23 => self.append(line),
             24..=29 => self.settle(line),
-            30..=35 => self.read(line),
+            30..=37 => self.read(line),
             40..=44 => self.compact(line),
             45..=49 => self.write(line),
             50..=57 => self.plain(line),
@@ -230,7 +230,7 @@ impl Calls {
     }
 
     fn read(&mut self, line: &[u64]) -> Option<Vec<u64>> {
-        let (record, Words { log, snapshot, .. }) = self.lend();
+        let (record, Words { log, snapshot, entries, output, .. }) = self.lend();
         match *line {
             [30, a, from, b, to] => Some(replies::shown(plain::read(*record, log, snapshot, bound(a, from)?, bound(b, to)?))),
             [31, from] => Some(replies::shown(plain::read_decided_suffix(*record, log, snapshot, LogIndex(from)))),
@@ -248,6 +248,8 @@ impl Calls {
                 }
                 Some(answer)
             }
+            [36] => Some(replies::settled(plain::lookup_many(*record, log, snapshot, entries, output))),
+            [37, i] => Some(replies::word(plain::reply_at(output, i as usize))),
             _ => None,
         }
     }

@@ -1,11 +1,12 @@
 //! Every function of `kotuseraw::plain`: what it may be answered, what it may change, and how it is made.
 use crate::check::{hold, Answer, Turn};
 use crate::dice::Dice;
-use crate::form;
+use crate::form::{self, UNKNOWN};
 use crate::images;
 use crate::states::Case;
-use kotuseraw::entry::{entries, words, ENTRIES, KEYS};
-use kotuseraw::plain::{self, BlockPlace, Bound, IndexRecord, Lent, LogSync, Ops, Reply, Said, ShownSaid, LARGEST_BATCH};
+use kotuseraw::entry::{entries, words, ENTRIES, KEYS, REMOVED};
+use kotuseraw::plain::{self, BlockPlace, Bound, IndexRecord, Lent, LogSync, Ops, Reply, Said, ShownSaid};
+use kotuseraw::plain::{LARGEST_BATCH, MOST_ASKED, REPLY_WIDTH};
 use kotuseraw::Entry;
 
 /// What an accepted call may change.
@@ -118,13 +119,54 @@ fn find(turn: &mut Turn, case: &Case, dice: &mut Dice) -> Result<Answer, String>
     found(plain::find(turn.second.words(), case.keys, key), key, held.iter())
 }
 
-fn lookup(turn: &mut Turn, case: &Case, dice: &mut Dice) -> Result<Answer, String> {
-    let (key, record) = (dice.key(), turn.record);
+/// What a lookup goes by: the snapshot's entries, and then those that are decided.
+fn known_entries(case: &Case) -> impl DoubleEndedIterator<Item = &Entry> {
+    let record = &case.state.record;
     let held = entries(&case.state.snapshot).get(..record.keys).unwrap_or_default();
     // A stop-sign that is decided is no entry.
     let decided = record.decided.0.wrapping_sub(record.compacted.0).min(record.retained as u64);
     let log = entries(&case.state.log).get(..decided as usize).unwrap_or_default();
-    found(plain::lookup(record, turn.log.words(), turn.snapshot.words(), key), key, held.iter().chain(log))
+    held.iter().chain(log)
+}
+
+fn lookup(turn: &mut Turn, case: &Case, dice: &mut Dice) -> Result<Answer, String> {
+    let key = dice.key();
+    found(plain::lookup(turn.record, turn.log.words(), turn.snapshot.words(), key), key, known_entries(case))
+}
+
+/// Up to some keys more than may be asked for, into all of the output or about as much as they need. What is past the replies stays.
+fn lookup_many(turn: &mut Turn, case: &Case, dice: &mut Dice) -> Result<Answer, String> {
+    let some = dice.below(MOST_ASKED as u64 + 3) as usize;
+    let asked = dice.pick(&[0, 1, some, some, MOST_ASKED, MOST_ASKED + 1]);
+    let keys: Vec<u64> = (0..asked).map(|_| dice.key()).collect();
+    let need = asked * REPLY_WIDTH;
+    let lent = dice.pick(&[turn.out.words().len(), need, need.saturating_sub(1)]).min(turn.out.words().len());
+    let out = &mut turn.out.words_mut()[..lent];
+    let made = plain::lookup_many(turn.record, turn.log.words(), turn.snapshot.words(), &keys, out);
+    if made.number == 0 {
+        for (i, key) in keys.iter().enumerate() {
+            found(plain::reply_at(&turn.out.words()[..lent], i), *key, known_entries(case))?;
+        }
+        hold(turn.out.words()[need..] == case.out[need..], "a word past the replies changed")?;
+    }
+    let fits = asked <= MOST_ASKED && need <= lent;
+    hold(fits || made.number != 0, format_args!("{asked} keys were answered in {lent} words"))?;
+    hold(!fits || made.number != 11, format_args!("{asked} keys were refused with {lent} words"))?;
+    said(made)
+}
+
+/// A reply of any words.
+fn reply_at(turn: &mut Turn, _: &Case, dice: &mut Dice) -> Result<Answer, String> {
+    let words = turn.second.words();
+    let i = if dice.one_in(4) { dice.word() } else { dice.below(words.len() as u64 + 2) } as usize;
+    let due = match words.get(i) {
+        None | Some(&UNKNOWN) => (0, 0),
+        Some(&REMOVED) => (2, 0),
+        Some(place) => (1, *place),
+    };
+    let of = plain::reply_at(words, i);
+    hold((of.number, of.told, of.first) == (0, due.0, due.1), format_args!("reply {i} is {of:?}"))?;
+    said(of)
 }
 
 /// So many words said to be copied: those due, at the front of the output where they fit, which is else as it was.
@@ -373,6 +415,8 @@ pub const ALL: &[Call] = &[
         ..Call::of("write_atomically", 3, &[0, 12, 11, 7, 1, 9], Changes::Words, |t, c, d| list(plain::write_atomically, t, c, d))
     },
     Call::of("lookup", 2, &[0, 12], Changes::Nothing, lookup),
+    Call::of("lookup_many", 3, &[0, 12, 11], Changes::Output, lookup_many),
+    Call::of("reply_at", 1, &[0], Changes::Nothing, reply_at),
     Call::of("read", 5, &[0, 12, 11], Changes::Nothing, |t, _, d| {
         let (from, to) = bounds(&t.record, d);
         let answer = shown(t.record, plain::read(t.record, t.log.words(), t.snapshot.words(), from, to));

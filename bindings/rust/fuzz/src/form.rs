@@ -5,6 +5,9 @@ use kotuseraw::entry::{entries, words, PLACES, REMOVED, WIDTH};
 use kotuseraw::plain::{IndexRecord, StopSign, LARGEST_BATCH, LARGEST_INDEX};
 use kotuseraw::{Entry, LOG_WORDS, SNAPSHOT_WORDS};
 
+/// The word of an unknown key in a reply.
+pub const UNKNOWN: u64 = REMOVED - 1;
+
 fn zero(words: &[u64]) -> bool {
     words.iter().all(|word| *word == 0)
 }

@@ -136,6 +136,18 @@ impl Both {
         )
     }
 
+    /// The entries that are decided.
+    fn decided(&self) -> &[Change] {
+        &self.held.log[..self.held.decided - self.held.start]
+    }
+
+    /// The keys that the snapshot alone has, ascending.
+    fn alone(&self) -> Vec<u64> {
+        let keys = self.index.snapshot().unwrap_or(&[]).iter().map(Entry::key);
+        keys.filter(|key| self.held.log.iter().all(|e| e.key != *key))
+            .collect()
+    }
+
     fn same(&self) {
         let record = self.index.record();
         let numbers = (
@@ -437,11 +449,11 @@ fn standing(keys: &[u64]) -> Vec<(&'static str, u64)> {
 }
 
 /// What a Rust program would write for lookup: the newest decided entry, else the snapshot.
-fn scan(held: &Backend, key: u64) -> Option<u64> {
-    let decided = &held.log[..held.decided - held.start];
-    match decided.iter().rev().find(|e| e.key == key) {
+fn scan(both: &Both, key: u64) -> Option<u64> {
+    match both.decided().iter().rev().find(|e| e.key == key) {
         Some(e) => e.place,
-        None => held
+        None => both
+            .held
             .snapshot
             .as_ref()
             .and_then(|s| s.0.get(&key).copied().flatten()),
@@ -452,11 +464,7 @@ fn lookups(meter: &mut Meter) {
     for (state, keys, entries) in STATES {
         let both = Both::with(keys, entries);
         let mut all: BTreeMap<u64, Option<u64>> = both.held.snapshot.clone().unwrap_or_default().0;
-        all.extend(
-            both.held.log[..both.held.decided - both.held.start]
-                .iter()
-                .map(|e| (e.key, e.place)),
-        );
+        all.extend(both.decided().iter().map(|e| (e.key, e.place)));
         let sorted = both.index.snapshot().unwrap_or(&[]);
         let (mut record, mut log, mut snapshot) = both.lent();
         let view = View {
@@ -464,12 +472,7 @@ fn lookups(meter: &mut Meter) {
             log: &mut log,
             snapshot: &mut snapshot,
         };
-        let alone: Vec<u64> = sorted
-            .iter()
-            .map(Entry::key)
-            .filter(|key| both.held.log.iter().all(|e| e.key != *key))
-            .collect();
-        let wanted = match alone[..] {
+        let wanted = match both.alone()[..] {
             [first, .., last] => vec![
                 ("the newest entry", key((entries - 2) % (keys / 2))),
                 ("the entry furthest back", key((entries - 1) % (keys / 2))),
@@ -491,7 +494,7 @@ fn lookups(meter: &mut Meter) {
                 "lookup",
                 &row,
                 "Rust: entries backwards, then the map",
-                || scan(&both.held, k),
+                || scan(&both, k),
             );
             let map = meter.of("lookup", &row, "one BTreeMap", || {
                 all.get(&k).copied().flatten()
@@ -507,15 +510,8 @@ fn lookups(meter: &mut Meter) {
 
 /// As many keys as a lookup may ask for: those of the last decided entries, the snapshot's first alone, and some that are nowhere.
 fn asked(both: &Both) -> Vec<(&'static str, [u64; MOST_ASKED])> {
-    let (log, keys) = (&both.held.log, both.index.snapshot().unwrap_or(&[]));
-    let mut newest = log[..both.held.decided - both.held.start]
-        .iter()
-        .rev()
-        .map(|e| e.key);
-    let mut alone = keys
-        .iter()
-        .map(Entry::key)
-        .filter(|key| log.iter().all(|e| e.key != *key));
+    let mut newest = both.decided().iter().rev().map(|e| e.key);
+    let mut alone = both.alone().into_iter();
     let first = |keys: &mut dyn Iterator<Item = u64>| {
         let keys: Vec<u64> = keys.take(MOST_ASKED).collect();
         keys.try_into().ok()
@@ -574,7 +570,7 @@ fn many(meter: &mut Meter) {
                 "many",
                 &row,
                 "Rust: entries backwards, then the map, a key after the other",
-                || keys.map(|key| scan(&both.held, key)),
+                || keys.map(|key| scan(&both, key)),
             );
             assert!(all.iter().all(|found| *found == all[0]));
             assert_eq!(all[0].map(|found| found.place().map(|p| p.0)), scanned);

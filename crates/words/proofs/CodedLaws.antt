@@ -152,7 +152,10 @@ module _ {E : Type 0} (c : Code E) where
         ∙ sym (words-append (take at es) (new ++ drop (at + cut) es)
         ∙ ap (λ (l : List ℕ). wordsOf c (take at es) ++ l) (words-append new (drop (at + cut) es)))
 
-    -- one entry more over the front of a slice
+    -- a slice with some entries over its front, and one entry more
+    over-is : (es : List E) (ws : List ℕ) → over c es ws ≡ wordsOf c es ++ drop (length es * c .width) ws
+    over-is es ws = ap (λ (k : ℕ). wordsOf c es ++ drop k ws) (zero-add (length es * c .width))
+
     pub over-next : (es : List E) (e : E) (ws : List ℕ)
         → paste (over c es ws) (length es * c .width) (c .enc e) (length (c .enc e)) ≡ over c (es ++ (e ∷ [])) ws
     unfolding wordsOf
@@ -163,17 +166,19 @@ module _ {E : Type 0} (c : Code E) where
         let one : at + n ≡ suc (length es) * c .width = omega (arith, ok .long e, suc-mul (length es) (c .width)) in
         let there : at + n ≡ length (es ++ (e ∷ [])) * c .width = one ∙ ap (λ (k : ℕ). k * c .width) more in
         let past : drop (at + n) (over c es ws) ≡ drop (length (es ++ (e ∷ [])) * c .width) ws =
-        ap (λ (k : ℕ). drop (k + n) (over c es ws)) (sym (words-length es))
+        ap₂ (λ (k : ℕ) (l : List ℕ). drop (k + n) l) (sym (words-length es)) (over-is es ws)
         ∙ drop-append-add (wordsOf c es) (drop at ws) n ∙ drop-drop n at ws ∙ ap (λ (k : ℕ). drop k ws) there in
         ap (λ (l : List ℕ). l ++ take n (c .enc e) ++ drop (at + n) (over c es ws))
-        (take-at (wordsOf c es) (drop at ws) at (words-length es))
+        (ap (take at) (over-is es ws) ∙ take-at (wordsOf c es) (drop at ws) at (words-length es))
         ∙ ap₂ (λ (l m : List ℕ). wordsOf c es ++ l ++ m) (take-length (c .enc e)) past
         ∙ ap (λ (l : List ℕ). l ++ drop (length (es ++ (e ∷ [])) * c .width) ws)
         (ap (λ (l : List ℕ). wordsOf c es ++ l) (sym (append-nil (c .enc e))) ∙ sym (words-append es (e ∷ [])))
+        ∙ sym (over-is (es ++ (e ∷ [])) ws)
 
     pub over-length : (es : List E) (ws : List ℕ) → length es * c .width ≤ length ws → length (over c es ws) ≡ length ws
     over-length es ws h =
-        omega (
+        ap length (over-is es ws)
+        ∙ omega (
           arith,
           length-append (wordsOf c es) (drop (length es * c .width) ws),
           words-length es,
@@ -186,6 +191,7 @@ module _ {E : Type 0} (c : Code E) where
     over-at es ws i d fine h =
         ap (λ (l : List E). getD l 0 d)
         (sym (entries-cons i (length es) (over c es ws) h)
+        ∙ ap (λ (l : List ℕ). drop i (entriesAt c (length es) l)) (over-is es ws)
         ∙ ap (drop i) (entries-words es (drop (length es * c .width) ws) fine)
         ∙ drop-cons es i d h)
 

@@ -5,7 +5,7 @@ use mathlib.Core.Path.{_≡_}
 use mathlib.Core.Bool.{Bool, true}
 use mathlib.Core.List.{List, [], _∷_, _++_}
 use lib.ListN.{length, take, drop}
-use Rattle.words.specs.Words.{laid}
+use Rattle.words.specs.Words.{laid, spliced}
 
 pub record Code (E : Type 0) : Type 0 where
   pub width : ℕ
@@ -35,4 +35,4 @@ laidOut c n es = laid n (wordsOf c es)
 
 -- a slice with the words of some entries over its front; those after them stay
 abbrev pub over : {E : Type 0} → Code E → List E → List ℕ → List ℕ
-over c es ws = wordsOf c es ++ drop (length es * c .width) ws
+over c es ws = spliced 0 (length es * c .width) (wordsOf c es) ws

@@ -1,5 +1,5 @@
 // Names the Rust that is judged: the files of OMNIPAXOS_SRC, or of ../../shared/docs/src from this folder. They are compiled where they
-// stand, unchanged.
+// stand, unchanged. The election has a module of ours below it, which so may see its fields.
 use std::{env, fs, path::PathBuf};
 
 fn main() {
@@ -13,8 +13,9 @@ fn main() {
         .unwrap_or_else(|e| panic!("{}: {e}; set OMNIPAXOS_SRC", src.display()));
     println!("cargo:rerun-if-changed={}", src.display());
     let text = format!(
-        "#[path = {:?}]\npub mod ballot_leader_election;\n#[path = {:?}]\npub mod storage;\n",
+        "pub mod ballot_leader_election {{\ninclude!({:?});\n#[path = {:?}]\npub mod opened;\n}}\n#[path = {:?}]\npub mod storage;\n",
         src.join("ballot_leader_election.rs"),
+        here.join("src/opened.rs"),
         src.join("storage/mod.rs"),
     );
     fs::write(

@@ -24,5 +24,6 @@ macro_rules! passed {
     };
 }
 
-passed!(as numbers: u64 usize bool);
+passed!(as numbers: u64 u32 usize bool);
 passed!(as pointers: LogIndex BlockPlace Ballot StopSign IndexRecord ShownSaid Bound Ops Lent LogSync);
+passed!(as pointers: BallotLeaderElection BLEConfig BLEMessage);

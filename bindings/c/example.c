@@ -1,5 +1,5 @@
 /* Puts two keys, decides them, folds them into the snapshot, looks one up, and then two in one call; then writes the log's image, and
- * reads it back. */
+ * reads it back. Then a node that is alone ends its first round, and leads. */
 #include "kotuseraw.h"
 #include <stdio.h>
 
@@ -30,5 +30,11 @@ int main(void) {
         kotuseraw_write_image(r.index, log, KOTUSERAW_LOG_WORDS, snapshot, KOTUSERAW_SNAPSHOT_WORDS, image, KOTUSERAW_IMAGE_ROOM);
     r = kotuseraw_read_image(0, image, wrote.first, log, KOTUSERAW_LOG_WORDS, snapshot, KOTUSERAW_SNAPSHOT_WORDS);
     printf("an image of %d bytes, accepted %d\n", (int)wrote.first, (int)r.said.first);
+
+    kotuseraw_election_config config = {.configuration_id = 1, .pid = 5};
+    kotuseraw_ballot promise = {0};
+    kotuseraw_election_reply node = kotuseraw_election_with(config, keys, 0, false, promise);
+    node = kotuseraw_election_hb_timeout(node.election, promise);
+    printf("in round %d, told %d, node %d leads\n", (int)node.election.hb_round, (int)node.said.told, (int)node.election.leader.pid);
     return 0;
 }

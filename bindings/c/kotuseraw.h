@@ -22,6 +22,10 @@ extern "C" {
 /* Keys that one lookup may ask for, and the words of each reply. */
 #define KOTUSERAW_MOST_ASKED 64
 #define KOTUSERAW_REPLY_WIDTH 1
+/* Of an election: peers of a node, replies of a round, and outgoing messages at most. */
+#define KOTUSERAW_PEERS 6
+#define KOTUSERAW_REPLIES 16
+#define KOTUSERAW_OUTGOING 32
 /* The second word of an entry whose key is removed. */
 #define KOTUSERAW_REMOVED UINT64_MAX
 /* Whether a compaction folds. */
@@ -142,6 +146,83 @@ typedef struct {
     bool stop_held;
     kotuseraw_stopsign stopsign;
 } kotuseraw_sync;
+
+/* A reply to a heartbeat: of which round, and where its sender stood. */
+typedef struct {
+    uint32_t round;
+    kotuseraw_ballot ballot;
+    kotuseraw_ballot leader;
+    bool happy;
+} kotuseraw_heartbeat_reply;
+
+/* A message from one node to another: a reply, or a request, of which nothing but the round is looked at. */
+typedef struct {
+    uint64_t from;
+    uint64_t to;
+    bool is_reply;
+    kotuseraw_heartbeat_reply reply;
+} kotuseraw_message;
+
+/* Of each list the first `count` are held, and the others are zero. */
+typedef struct {
+    size_t count;
+    uint64_t held[KOTUSERAW_PEERS];
+} kotuseraw_peers;
+
+typedef struct {
+    size_t count;
+    kotuseraw_heartbeat_reply held[KOTUSERAW_REPLIES];
+} kotuseraw_replies;
+
+typedef struct {
+    size_t count;
+    kotuseraw_message held[KOTUSERAW_OUTGOING];
+} kotuseraw_outgoing;
+
+/* The state of a node's election. */
+typedef struct {
+    uint32_t configuration_id;
+    uint64_t pid;
+    kotuseraw_peers peers;
+    uint32_t hb_round;
+    kotuseraw_replies heartbeat_replies;
+    kotuseraw_replies prev_replies;
+    kotuseraw_ballot current_ballot;
+    kotuseraw_ballot leader;
+    bool happy;
+    kotuseraw_outgoing outgoing;
+} kotuseraw_election;
+
+/* What a node starts from, beside its peers. */
+typedef struct {
+    uint32_t configuration_id;
+    uint64_t pid;
+    uint32_t priority;
+} kotuseraw_election_config;
+
+/* What a call of the election says, and the state after it. */
+typedef struct {
+    kotuseraw_said said;
+    kotuseraw_election election;
+} kotuseraw_election_reply;
+
+/* The same with the messages that it hands out; none where it is refused. */
+typedef struct {
+    kotuseraw_said said;
+    kotuseraw_outgoing outgoing;
+    kotuseraw_election election;
+} kotuseraw_election_taken;
+
+/* What a call says that hands out a ballot, zeros where it is refused; or replies, none where it is refused. */
+typedef struct {
+    kotuseraw_said said;
+    kotuseraw_ballot ballot;
+} kotuseraw_election_ballot;
+
+typedef struct {
+    kotuseraw_said said;
+    kotuseraw_replies replies;
+} kotuseraw_election_ballots;
 
 /* The order of ballots, and forms. */
 /* 0: the first is less; 1: they are equal; 2: it is greater. */
@@ -368,6 +449,24 @@ size_t kotuseraw_read_entries(
     kotuseraw_bound from,
     kotuseraw_bound to,
     uint64_t *out, size_t out_len);
+
+bool kotuseraw_election_well_formed(kotuseraw_election e);
+/* A node that starts or, where `given`, starts again with the leader that it had promised to. Where it is refused the state is all zeros. */
+kotuseraw_election_reply kotuseraw_election_with(
+    kotuseraw_election_config config,
+    const uint64_t *peers, size_t peers_len,
+    bool given,
+    kotuseraw_ballot leader);
+kotuseraw_election_reply kotuseraw_election_set_priority(kotuseraw_election e, uint32_t p);
+/* Takes the messages: the state after it has none. */
+kotuseraw_election_taken kotuseraw_election_outgoing_mut(kotuseraw_election e);
+kotuseraw_election_reply kotuseraw_election_handle(kotuseraw_election e, kotuseraw_message m);
+kotuseraw_election_reply kotuseraw_election_new_hb_round(kotuseraw_election e);
+/* The end of a round. Told 1: the node leads, by the ballot that the state then has. */
+kotuseraw_election_reply kotuseraw_election_hb_timeout(kotuseraw_election e, kotuseraw_ballot promise);
+kotuseraw_election_ballot kotuseraw_election_get_current_ballot(kotuseraw_election e);
+/* The replies of the round before. */
+kotuseraw_election_ballots kotuseraw_election_get_ballots(kotuseraw_election e);
 
 #ifdef __cplusplus
 }

@@ -2,6 +2,7 @@
 use crate::backend::{Change, Shared};
 use crate::ballot_leader_election::Ballot;
 use crate::call::{Call, Form, Kind, Part};
+use crate::elections;
 use crate::entry::{words, SNAPSHOT_WORDS};
 use crate::runner::Runner;
 use crate::state::{LentSnapshot, Sign, State};
@@ -162,5 +163,6 @@ pub fn run() -> Result<bool, String> {
             runner.state.snapshot()
         );
     }
+    elections::differences()?;
     Ok(runner.report.listed() == cases().len() as u64)
 }

@@ -1,8 +1,9 @@
 //! What each call costs, beside the Rust original on the same states: instructions, which oracle/count.c counts below an emulator, or
 //! nanoseconds, the least of many rounds.
 use crate::backend::{Backend, Change, Keys, Shared, Sight};
-use crate::ballot_leader_election::Ballot as RustBallot;
-use crate::limits::{ENTRIES, KEYS};
+use crate::ballot_leader_election::{opened, Ballot as RustBallot};
+use crate::limits::{ENTRIES, KEYS, OUTGOING, PEERS, REPLIES};
+use crate::sequence_paxos::{Phase, Role};
 use crate::shown::{self, ABOVE, ADDED, FRESH, LARGEST, STATES};
 use crate::storage::internal_storage::{InternalStorage, InternalStorageConfig};
 use crate::storage::{
@@ -620,6 +621,89 @@ fn images(meter: &mut Meter) {
     }
 }
 
+/// A node that follows the last of its peers, with so many peers, a reply of each held (the last again, up to so many), as many of the
+/// round before, and so many messages that wait.
+fn follower(peers: usize, replies: usize, waiting: usize) -> plain::BallotLeaderElection {
+    let pids: Vec<u64> = (2..).take(peers).collect();
+    let ballot = |pid| Ballot {
+        config_id: 1,
+        n: 1,
+        priority: 0,
+        pid,
+    };
+    let reply = |at: usize| plain::HeartbeatReply {
+        round: 1,
+        ballot: ballot(pids[at.min(peers - 1)]),
+        leader: ballot(pids[peers - 1]),
+        happy: true,
+    };
+    let config = plain::BLEConfig {
+        configuration_id: 1,
+        pid: 1,
+        priority: 0,
+    };
+    let mut e = plain::election_with(config, &pids, true, ballot(pids[peers - 1])).election;
+    e.outgoing = plain::Outgoing::default();
+    for list in [&mut e.heartbeat_replies, &mut e.prev_replies] {
+        list.count = replies;
+        for (at, held) in list.held[..replies].iter_mut().enumerate() {
+            *held = reply(at);
+        }
+    }
+    for _ in 0..waiting {
+        e = plain::election_handle(e, plain::BLEMessage::default()).election;
+    }
+    e
+}
+
+/// Calls of the election, each on the same state as the Rust's.
+fn elections(meter: &mut Meter) {
+    let all = follower(PEERS, REPLIES - 1, OUTGOING - PEERS);
+    for (state, e) in [
+        ("of three nodes", follower(2, 2, 0)),
+        ("at its bounds", all),
+    ] {
+        let (ours, rusts) = (format!("ours, {state}"), format!("Rust, {state}"));
+        let formed = meter.of("election", "well_formed", &ours, || {
+            plain::election_well_formed(e)
+        });
+        assert!(formed);
+        let reply = plain::BLEMessage {
+            is_reply: true,
+            reply: e.heartbeat_replies.held[0],
+            ..plain::BLEMessage::default()
+        };
+        for (row, m) in [
+            ("handle (a request)", plain::BLEMessage::default()),
+            ("handle (a reply)", reply),
+        ] {
+            let handled = meter.of("election", row, &ours, || plain::election_handle(e, m));
+            let (mut node, m) = (opened::brought(&e), opened::message(&m));
+            meter.of("election", row, &rusts, || node.handle(m));
+            assert_eq!(opened::seen(&node), Some(handled.election));
+        }
+        let promise = Ballot::default();
+        let timed = meter.of("election", "hb_timeout", &ours, || {
+            plain::election_hb_timeout(e, promise)
+        });
+        let (mut node, promise) = (opened::brought(&e), opened::ballot(promise));
+        let paxos = (Role::Follower, Phase::Other);
+        let led = meter.of("election", "hb_timeout", &rusts, || {
+            node.hb_timeout(&paxos, promise)
+        });
+        assert_eq!(led.is_some(), timed.said.told == 1);
+        assert_eq!(opened::seen(&node), Some(timed.election));
+        let taken = meter.of("election", "outgoing_mut", &ours, || {
+            plain::election_outgoing_mut(e)
+        });
+        let mut node = opened::brought(&e);
+        let list = meter.of("election", "outgoing_mut", &rusts, || {
+            std::mem::take(node.outgoing_mut())
+        });
+        assert_eq!(opened::outgoing_back(&list), Some(taken.outgoing));
+    }
+}
+
 /// How cost grows.
 fn growth(meter: &mut Meter) {
     for (keys, entries) in [
@@ -676,6 +760,7 @@ fn measure(meter: &mut Meter) {
     lookups(meter);
     many(meter);
     images(meter);
+    elections(meter);
     growth(meter);
 }
 

@@ -16,3 +16,7 @@ pub const METADATA: usize = 32;
 pub const MOST_OPS: usize = 8;
 /// Keys that one lookup may ask for.
 pub const MOST_ASKED: usize = 64;
+/// Peers of a node in an election, replies of a round, and outgoing messages.
+pub const PEERS: usize = 6;
+pub const REPLIES: usize = 16;
+pub const OUTGOING: usize = 32;

@@ -3,6 +3,7 @@
 //!     oracle replay SCRIPT ANSWERS [SCRIPT ANSWERS ..]
 //!     oracle calls STEPS EVERY N SEED
 //!     oracle stored STEPS EVERY N SEED
+//!     oracle elections WHOLE N SEED
 //!     oracle differences
 //!     oracle record FOLDER
 //!     oracle figures count | time | show BEFORE COUNTS [TIMES]
@@ -13,6 +14,7 @@ mod call;
 mod dice;
 mod differences;
 mod edges;
+mod elections;
 mod entry;
 mod figures;
 mod history;
@@ -52,11 +54,15 @@ fn main() {
         Some("replay") => Ok(replay::run(&words[1..])),
         Some("calls") if words.len() == 5 => calls(Runner::start(), &words[1..]),
         Some("stored") if words.len() == 5 => calls(Runner::start_stored(), &words[1..]),
+        Some("elections") if words.len() == 4 => {
+            let number = |at: usize| words[at].parse::<u64>().expect("a number");
+            elections::run(number(1) == 1, number(2), number(3))
+        }
         Some("figures") => figures::run(&words[1..]),
         Some("differences") => differences::run(),
         Some("record") if words.len() == 2 => record::run(&words[1]),
         _ => Err(
-            "usage: oracle replay | calls | stored | differences | record | figures, as src/main.rs says".to_string(),
+            "usage: oracle replay | calls | stored | elections | differences | record | figures, as src/main.rs says".to_string(),
         ),
     };
     let same = found.unwrap_or_else(|what| {

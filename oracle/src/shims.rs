@@ -100,7 +100,7 @@ pub mod messages {
             pub round: u32,
         }
 
-        #[derive(Clone)]
+        #[derive(Clone, Debug)]
         pub struct HeartbeatReply {
             pub round: u32,
             pub ballot: Ballot,

@@ -1,6 +1,6 @@
 //! The figures as docs/FIGURES.md shows them, from what `oracle figures count` and `time` printed.
 use crate::entry::{LOG_WORDS, SNAPSHOT_WORDS};
-use crate::limits::{ENTRIES, KEYS};
+use crate::limits::{ENTRIES, KEYS, OUTGOING, PEERS, REPLIES};
 use kotuseraw::image::{HEAD, ROOM};
 use kotuseraw::plain::{METADATA, MOST_ASKED, NODES};
 use std::fs;
@@ -275,13 +275,17 @@ inner call. The *Rust* is omnipaxos's `InternalStorage` over the oracle's backen
 
 A fresh log's image has {} bytes. The largest, of a full state with a stop-sign of {NODES} nodes and {METADATA} bytes, has {}. The copy beside
 them is libc's of so many bytes. What a file costs beyond them is the device's.
+
+An election's state is that of a follower: one of three nodes with two replies, and one with {PEERS} peers, {} replies and {} messages that wait.
 ",
         half.0,
         half.1,
         full.0,
         full.1,
         written(HEAD as u64),
-        written(ROOM as u64)
+        written(ROOM as u64),
+        REPLIES - 1,
+        OUTGOING - PEERS
     )
 }
 
@@ -308,6 +312,7 @@ fn slower() -> String {
 - A lookup of many keys judges a lent state once, which is what it saves, and walks the entries for each key anew. As it is compiled that walk
   takes an instruction a turn more than the single lookup's, and no more time.
 - Of an image every byte is put or looked at, and summed; a copy moves many bytes an instruction and looks at none.
+- A call of the election judges its state, copies it and hands it back; the Rust's changes its own.
 - An operation list runs on a copy of all words, judged before it and by its numbers after it; the oracle's backend copies everything too.
 - We are faster where the Rust builds what a reader did not ask for: a read shows a part of the log where the Rust copies entries out, and
   a trim moves words where the Rust's backend copies the whole state.
@@ -337,6 +342,8 @@ pub fn run(before: &str, walked: &str, counts: &str, times: Option<&String>) {
     print_whole(&counts, &counts, "many", "the keys are");
     println!("## Images: instructions\n");
     print_whole(&counts, &counts, "image", "what is done");
+    println!("## The election: instructions\n");
+    print_whole(&counts, &counts, "election", "call");
     println!("## How cost grows: instructions\n");
     print_whole(&beside, &beside, "growth", "state");
     if let Some(times) = times {
@@ -351,6 +358,8 @@ pub fn run(before: &str, walked: &str, counts: &str, times: Option<&String>) {
         print_whole(&counts, &times, "many", "the keys are");
         println!("## Images: nanoseconds\n");
         print_images(&counts, &times);
+        println!("## The election: nanoseconds\n");
+        print_whole(&counts, &times, "election", "call");
         println!("## How cost grows: nanoseconds\n");
         print_whole(&counts, &times, "growth", "state");
     }

@@ -20,7 +20,9 @@
 //!   itself, number for number. [`entry`] says how entries lie in words, and how many there may be.
 //! - [`Index::save`] puts an index into a file, and [`Index::load`] gets it back; [`Index::to_image`] and [`Index::from_image`] are the
 //!   same with bytes ([`image`]).
+//! - [`Election`] is a node of a leader election, apart from any log.
 //! - A call that is refused says so by a [`Refusal`], and has changed nothing.
+pub mod election;
 pub mod entry;
 pub mod image;
 mod index;
@@ -30,6 +32,7 @@ mod refusal;
 mod requests;
 mod snapshot;
 
+pub use election::Election;
 pub use entry::{Entry, LOG_WORDS, SNAPSHOT_WORDS};
 pub use image::LoadError;
 pub use index::{Index, View};

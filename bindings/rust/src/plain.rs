@@ -17,6 +17,14 @@ pub const MOST_OPS: usize = 8;
 pub const MOST_ASKED: usize = 64;
 /// Words of each of its replies.
 pub const REPLY_WIDTH: usize = 1;
+/// Peers of a node in an election.
+pub const PEERS: usize = 6;
+/// Replies of a round.
+pub const REPLIES: usize = 16;
+/// Outgoing messages.
+pub const OUTGOING: usize = 32;
+/// The largest round, and the largest number of a ballot.
+pub const LAST_ROUND: u32 = u32::MAX;
 
 #[repr(C)]
 #[derive(Clone, Copy, Debug, Default, PartialEq, Eq, PartialOrd, Ord, Hash)]
@@ -153,6 +161,108 @@ pub struct LogSync {
     pub stopsign: StopSign,
 }
 
+#[repr(C)]
+#[derive(Clone, Copy, Debug, Default, PartialEq, Eq, Hash)]
+/// A reply to a heartbeat: of which round, and where its sender stood.
+pub struct HeartbeatReply {
+    pub round: u32,
+    pub ballot: Ballot,
+    pub leader: Ballot,
+    pub happy: bool,
+}
+
+#[repr(C)]
+#[derive(Clone, Copy, Debug, Default, PartialEq, Eq, Hash)]
+/// A message from one node to another: a reply, or a request, of which nothing but the round is looked at.
+pub struct BLEMessage {
+    pub from: u64,
+    pub to: u64,
+    pub is_reply: bool,
+    pub reply: HeartbeatReply,
+}
+
+#[repr(C)]
+#[derive(Clone, Copy, Debug, Default, PartialEq, Eq, Hash)]
+/// The first `count` are held, and the others are zero.
+pub struct Peers {
+    pub count: usize,
+    pub held: [u64; PEERS],
+}
+
+#[repr(C)]
+#[derive(Clone, Copy, Debug, Default, PartialEq, Eq, Hash)]
+/// The first `count` are held, and the others are zero.
+pub struct Replies {
+    pub count: usize,
+    pub held: [HeartbeatReply; REPLIES],
+}
+
+#[repr(C)]
+#[derive(Clone, Copy, Debug, Default, PartialEq, Eq, Hash)]
+/// The first `count` are held, and the others are zero.
+pub struct Outgoing {
+    pub count: usize,
+    pub held: [BLEMessage; OUTGOING],
+}
+
+#[repr(C)]
+#[derive(Clone, Copy, Debug, Default, PartialEq, Eq, Hash)]
+/// The state of a node's election.
+pub struct BallotLeaderElection {
+    pub configuration_id: u32,
+    pub pid: u64,
+    pub peers: Peers,
+    pub hb_round: u32,
+    pub heartbeat_replies: Replies,
+    pub prev_replies: Replies,
+    pub current_ballot: Ballot,
+    pub leader: Ballot,
+    pub happy: bool,
+    pub outgoing: Outgoing,
+}
+
+#[repr(C)]
+#[derive(Clone, Copy, Debug, Default, PartialEq, Eq, Hash)]
+/// What a node starts from, beside its peers.
+pub struct BLEConfig {
+    pub configuration_id: u32,
+    pub pid: u64,
+    pub priority: u32,
+}
+
+#[repr(C)]
+#[derive(Clone, Copy, Debug, Default, PartialEq, Eq)]
+/// What a call of the election says, and the state after it.
+pub struct ElectionReply {
+    pub said: Said,
+    pub election: BallotLeaderElection,
+}
+
+#[repr(C)]
+#[derive(Clone, Copy, Debug, Default, PartialEq, Eq)]
+/// The same with the messages that it hands out; none where it is refused.
+pub struct ElectionTaken {
+    pub said: Said,
+    pub outgoing: Outgoing,
+    pub election: BallotLeaderElection,
+}
+
+#[repr(C)]
+#[derive(Clone, Copy, Debug, Default, PartialEq, Eq)]
+/// What a call says that hands out a ballot, zeros where it is refused.
+pub struct ElectionBallot {
+    pub said: Said,
+    pub ballot: Ballot,
+}
+
+#[repr(C)]
+#[derive(Clone, Copy, Debug, Default, PartialEq, Eq)]
+/// What a call says that hands out replies, none where it is refused.
+pub struct ElectionBallots {
+    pub said: Said,
+    pub replies: Replies,
+}
+
 /// An export of the archive as a Rust function. A slice goes as its pointer and its length.
 macro_rules! export {
     ($kind:ident $(#[$note:meta])* $name:ident($($args:tt)*) -> $out:ty = $symbol:literal) => {
@@ -278,4 +388,17 @@ exports! {
     entries_shown(log: &[u64], shown: ShownSaid, out: &mut [u64]) -> usize = "kotuseraw_entries_shown";
     /// The same of a read that gives reply and entries in one value.
     read_entries(index: IndexRecord, log: &[u64], snapshot: &[u64], from: Bound, to: Bound, out: &mut [u64]) -> usize = "kotuseraw_read_entries";
+
+    election_well_formed(e: BallotLeaderElection) -> bool = "kotuseraw_election_well_formed";
+    /// Where `given` is not set no leader is recovered, and `leader` is not looked at. Where it is refused the state is all zeros.
+    election_with(config: BLEConfig, peers: &[u64], given: bool, leader: Ballot) -> ElectionReply = "kotuseraw_election_with";
+    election_set_priority(e: BallotLeaderElection, p: u32) -> ElectionReply = "kotuseraw_election_set_priority";
+    /// Takes the messages: the state after it has none.
+    election_outgoing_mut(e: BallotLeaderElection) -> ElectionTaken = "kotuseraw_election_outgoing_mut";
+    election_handle(e: BallotLeaderElection, m: BLEMessage) -> ElectionReply = "kotuseraw_election_handle";
+    election_new_hb_round(e: BallotLeaderElection) -> ElectionReply = "kotuseraw_election_new_hb_round";
+    /// Told 1: the node leads, by the ballot that the state then has.
+    election_hb_timeout(e: BallotLeaderElection, promise: Ballot) -> ElectionReply = "kotuseraw_election_hb_timeout";
+    election_get_current_ballot(e: BallotLeaderElection) -> ElectionBallot = "kotuseraw_election_get_current_ballot";
+    election_get_ballots(e: BallotLeaderElection) -> ElectionBallots = "kotuseraw_election_get_ballots";
 }

@@ -10,7 +10,7 @@ pub struct Refusal {
 }
 
 /// What each number means, and what it carries.
-const MEANINGS: [(u64, &str, &str); 16] = [
+const MEANINGS: [(u64, &str, &str); 19] = [
     (1, "the log has no room", ""),
     (2, "the index is above the decided index", "decided index"),
     (3, "the index is below the compacted index", "compacted index"),
@@ -27,6 +27,9 @@ const MEANINGS: [(u64, &str, &str); 16] = [
     (14, "the image is of an unknown format", ""),
     (15, "the image is damaged, ill-formed or has bytes left over", "offset"),
     (16, "the log has a hole: entries were trimmed, and no snapshot has them", ""),
+    (18, "the outgoing messages have no room", ""),
+    (19, "the round, or the leader's number before a takeover, is the largest", ""),
+    (20, "the round has as many replies as it may", ""),
 ];
 
 impl Refusal {

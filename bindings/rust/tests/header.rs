@@ -43,6 +43,19 @@ fn layouts() -> Vec<Layout> {
         Ops, "kotuseraw_ops": count = "count", ops = "ops";
         Lent, "kotuseraw_lent": snapshot_lent = "snapshot_lent", keys = "keys", stop_lent = "stop_lent", stop = "stop";
         LogSync, "kotuseraw_sync": sync_idx = "sync_idx", kind = "kind", keys = "keys", stop_held = "stop_held", stopsign = "stopsign";
+        HeartbeatReply, "kotuseraw_heartbeat_reply": round = "round", ballot = "ballot", leader = "leader", happy = "happy";
+        BLEMessage, "kotuseraw_message": from = "from", to = "to", is_reply = "is_reply", reply = "reply";
+        Peers, "kotuseraw_peers": count = "count", held = "held";
+        Replies, "kotuseraw_replies": count = "count", held = "held";
+        Outgoing, "kotuseraw_outgoing": count = "count", held = "held";
+        BallotLeaderElection, "kotuseraw_election": configuration_id = "configuration_id", pid = "pid", peers = "peers",
+            hb_round = "hb_round", heartbeat_replies = "heartbeat_replies", prev_replies = "prev_replies",
+            current_ballot = "current_ballot", leader = "leader", happy = "happy", outgoing = "outgoing";
+        BLEConfig, "kotuseraw_election_config": configuration_id = "configuration_id", pid = "pid", priority = "priority";
+        ElectionReply, "kotuseraw_election_reply": said = "said", election = "election";
+        ElectionTaken, "kotuseraw_election_taken": said = "said", outgoing = "outgoing", election = "election";
+        ElectionBallot, "kotuseraw_election_ballot": said = "said", ballot = "ballot";
+        ElectionBallots, "kotuseraw_election_ballots": said = "said", replies = "replies";
     }
 }
 
@@ -88,6 +101,8 @@ fn the_structs_are_the_same_to_the_byte() {
     due += &format!("{LOG_WORDS} {SNAPSHOT_WORDS} {ROOM}\n");
     source += "printf(\"%d %d\\n\", KOTUSERAW_MOST_ASKED, KOTUSERAW_REPLY_WIDTH);\n";
     due += &format!("{MOST_ASKED} {REPLY_WIDTH}\n");
+    source += "printf(\"%d %d %d\\n\", KOTUSERAW_PEERS, KOTUSERAW_REPLIES, KOTUSERAW_OUTGOING);\n";
+    due += &format!("{PEERS} {REPLIES} {OUTGOING}\n");
     source += "printf(\"%d %d\\n\", KOTUSERAW_TRIM, KOTUSERAW_SNAPSHOT);\n";
     due += "0 1\n";
     source += "printf(\"%d %d %d\\n\", KOTUSERAW_FOUND_UNKNOWN, KOTUSERAW_FOUND_PLACE, KOTUSERAW_FOUND_REMOVED);\nreturn 0;\n}\n";
@@ -113,7 +128,7 @@ fn the_functions_are_the_same() {
     let rust = fs::read_to_string(Path::new(env!("CARGO_MANIFEST_DIR")).join("src/plain.rs")).unwrap();
     let declared = functions(&header, '(');
     assert_eq!(declared, functions(&rust, '"'));
-    assert_eq!(declared.len(), 45);
+    assert_eq!(declared.len(), 54);
 }
 
 #[test]
@@ -122,6 +137,7 @@ fn a_c_program_links_the_archive() {
     let archive = Path::new(env!("KOTUSERAW_LINKED"));
     assert_eq!(
         printed("example", &source, &[archive]),
-        "refused 0, place 80\n9 is told 0, 7 is told 1\nrefused 5, carrying 2\nan image of 103 bytes, accepted 2\n"
+        "refused 0, place 80\n9 is told 0, 7 is told 1\nrefused 5, carrying 2\nan image of 103 bytes, accepted 2\n\
+         in round 2, told 1, node 5 leads\n"
     );
 }

@@ -11,10 +11,11 @@ use Rattle.words.specs.If.{if_then_else_}
 use Rattle.entry.specs.Limits.{entryRoom, logWords, snapshotWords, mostOps}
 use Rattle.entry.specs.Change.{Change, entriesIn, sliceFormed, Laid}
 use Rattle.entry.specs.Sign.{signFormed}
+use Rattle.entry.specs.Order.{noBallot}
 use Rattle.entry.specs.Guards.{Guard, guard, first, replied, settle}
 use Rattle.snapshot.specs.Inner.{Holds}
 use Rattle.model.specs.Numbers.{Numbers}
-use Rattle.model.specs.Log.{ifGiven, retaining, noBallot}
+use Rattle.model.specs.Log.{ifGiven, retaining}
 use Rattle.model.specs.Backend.{Op, Lent, opsFormed, Midst, onRun, stepGuards, step, writeGuards, listWritten}
 use Rattle.state_cache.specs.State.{Raw, raw, signHeld, formed, logOf}
 use Rattle.state_cache.specs.Inner.{Ready, withRun}

@@ -4,7 +4,7 @@ use Rattle.entry.specs.declared.Refusal.{Refusal}
 use Rattle.entry.specs.declared.Refusal.the-variants.{NoRoom, AboveDecided, BelowCompacted, Stopped, BelowDecided}
 use Rattle.entry.specs.declared.Refusal.the-variants.{AboveAccepted, OutsideRun, TooManyKeys, PastLastIndex}
 use Rattle.entry.specs.declared.Refusal.the-variants.{BatchHeld, Malformed, IllFormed, OutputShort, UnknownFormat}
-use Rattle.entry.specs.declared.Refusal.the-variants.{Damaged, Hole}
+use Rattle.entry.specs.declared.Refusal.the-variants.{Damaged, Hole, OutgoingShort, AtLargest, RepliesFull}
 use Rattle.entry.specs.Refusals.{numberOf, carriedOf}
 use Rattle.entry.specs.Guards.{refusedBy}
 
@@ -25,7 +25,10 @@ refusalOf n k =
     else if eqb n 13 then OutputShort
     else if eqb n 14 then UnknownFormat
     else if eqb n 15 then Damaged k
-    else Hole
+    else if eqb n 16 then Hole
+    else if eqb n 18 then OutgoingShort
+    else if eqb n 19 then AtLargest
+    else RepliesFull
 
 refusal-of : (r : Refusal) → refusalOf (numberOf r) (carriedOf r) ≡ r
 unfolding refusalOf
@@ -45,6 +48,9 @@ refusal-of OutputShort = refl
 refusal-of UnknownFormat = refl
 refusal-of (Damaged at) = refl
 refusal-of Hole = refl
+refusal-of OutgoingShort = refl
+refusal-of AtLargest = refl
+refusal-of RepliesFull = refl
 
 pub refusal-known : {A : Type 0} (r q : Refusal) → refusedBy {A = A} r ≡ refusedBy q → r ≡ q
 refusal-known r q e =

@@ -40,6 +40,21 @@ mostAsked = 64
 abbrev pub replyWidth : ℕ
 replyWidth = 1
 
+-- of an election: peers of a node, replies of a round, and outgoing messages; its constants are in
+-- `ballot_leader_election`
+abbrev pub mostPeers : ℕ
+mostPeers = 6
+
+abbrev pub mostReplies : ℕ
+mostReplies = 16
+
+abbrev pub mostOutgoing : ℕ
+mostOutgoing = 32
+
+-- a round and a ballot's number have 32 bits
+abbrev pub lastRound : ℕ
+lastRound = 4294967295
+
 -- a block place is below this
 abbrev pub places : ℕ
 places = 2 ^ 48

@@ -24,3 +24,7 @@ abbrev pub sameBallot : Ballot → Ballot → Bool
 sameBallot a b =
     eqb (a .«config_id») (b .«config_id»)
     && (eqb (a .n) (b .n) && (eqb (a .priority) (b .priority) && eqb (a .pid) (b .pid)))
+
+-- `Ballot::default()`
+abbrev pub noBallot : Ballot
+noBallot = record { «config_id» = 0; n = 0; priority = 0; pid = 0 }

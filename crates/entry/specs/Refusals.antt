@@ -4,7 +4,7 @@ use Rattle.entry.specs.declared.Refusal.{Refusal}
 use Rattle.entry.specs.declared.Refusal.the-variants.{NoRoom, AboveDecided, BelowCompacted, Stopped, BelowDecided}
 use Rattle.entry.specs.declared.Refusal.the-variants.{AboveAccepted, OutsideRun, TooManyKeys, PastLastIndex}
 use Rattle.entry.specs.declared.Refusal.the-variants.{BatchHeld, Malformed, IllFormed, OutputShort, UnknownFormat}
-use Rattle.entry.specs.declared.Refusal.the-variants.{Damaged, Hole}
+use Rattle.entry.specs.declared.Refusal.the-variants.{Damaged, Hole, OutgoingShort, AtLargest, RepliesFull}
 
 abbrev pub numberOf : Refusal → ℕ
 numberOf NoRoom = 1
@@ -23,6 +23,9 @@ numberOf OutputShort = 13
 numberOf UnknownFormat = 14
 numberOf (Damaged at) = 15
 numberOf Hole = 16
+numberOf OutgoingShort = 18
+numberOf AtLargest = 19
+numberOf RepliesFull = 20
 
 abbrev pub carriedOf : Refusal → ℕ
 carriedOf NoRoom = 0
@@ -41,3 +44,6 @@ carriedOf OutputShort = 0
 carriedOf UnknownFormat = 0
 carriedOf (Damaged at) = at
 carriedOf Hole = 0
+carriedOf OutgoingShort = 0
+carriedOf AtLargest = 0
+carriedOf RepliesFull = 0

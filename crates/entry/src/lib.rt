@@ -112,6 +112,17 @@ fn then_by(a: Ordering, b: Ordering) -> Ordering
 }
 
 impl Ballot {
+    pub fn with(config_id: u32, n: u32, priority: u32, pid: u64) -> Ballot
+        ensures { λ r. ⌜ r ≡ record { «config_id» = «config_id»; n = n; priority = priority; pid = pid } ⌝ }
+    {
+        Ballot {
+            config_id,
+            n,
+            priority,
+            pid,
+        }
+    }
+
     // n, then priority, then pid.
     pub fn cmp(self, other: Ballot) -> Ordering
         ensures { λ r. ⌜ r ≡ ballotOrder self other ⌝ }
@@ -160,6 +171,9 @@ pub enum Refusal {
     UnknownFormat,
     Damaged(usize),
     Hole,
+    OutgoingShort,
+    AtLargest,
+    RepliesFull,
 }
 
 // A refusal's number.
@@ -183,6 +197,9 @@ pub fn number(r: Refusal) -> u64
         Refusal::UnknownFormat => 14,
         Refusal::Damaged(_) => 15,
         Refusal::Hole => 16,
+        Refusal::OutgoingShort => 18,
+        Refusal::AtLargest => 19,
+        Refusal::RepliesFull => 20,
     }
 }
 
@@ -207,6 +224,9 @@ pub fn carried(r: Refusal) -> u64
         Refusal::UnknownFormat => 0,
         Refusal::Damaged(at) => at as u64,
         Refusal::Hole => 0,
+        Refusal::OutgoingShort => 0,
+        Refusal::AtLargest => 0,
+        Refusal::RepliesFull => 0,
     }
 }
 

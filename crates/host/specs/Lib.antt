@@ -1,3 +1,4 @@
 pub mod Plain
 pub mod Requests
 pub mod Reads
+pub mod Elections

@@ -30,9 +30,9 @@ use Rattle.host.specs.declared.PlainOp.{PlainOp}
 use Rattle.host.specs.declared.PlainOps.{PlainOps}
 use Rattle.host.specs.declared.PlainSync.{PlainSync}
 
--- by a flag: a number or none; an entry's second half; what a compaction does
-abbrev pub ofFlag : Bool → ℕ → Option ℕ
-ofFlag given n = if given then some n else none
+-- by a flag: a value or none; an entry's second half; what a compaction does
+abbrev pub ofFlag : {A : Type 0} → Bool → A → Option A
+ofFlag given x = if given then some x else none
 
 abbrev pub lentSaid : Bool → ℕ → Said
 lentSaid gone p = if gone then removed else place p

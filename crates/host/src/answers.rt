@@ -39,7 +39,7 @@ ghost use Rattle.host.specs.Plain.{nothing, aNumber, aFlag, maybeNumber,
 ghost use Rattle.host.specs.Reads.{marked, noneShown, markedAs, shownAs};
 ghost use Rattle.host.specs.Requests.{orderAs};
 
-fn tell(told: u64, first: u64, second: u64) -> Said
+pub(crate) fn tell(told: u64, first: u64, second: u64) -> Said
     ensures { λ r. ⌜ r ≡ tells told first second ⌝ }
 {
     Said {
@@ -51,7 +51,7 @@ fn tell(told: u64, first: u64, second: u64) -> Said
     }
 }
 
-fn refuse(r: Refusal) -> Said
+pub(crate) fn refuse(r: Refusal) -> Said
     ensures { λ s. ⌜ s ≡ plain nothing (refusedBy r) ⌝ }
 {
     Said {

@@ -2,6 +2,9 @@
 // and come back by value, slices are lent as a pointer and a length, and each answer is one struct of numbers. A
 // contract is the library's, with the same right side: what document 01's model says, read by `plainly`. docs/HOST.md
 // is the reference.
+use ballot_leader_election::BallotLeaderElection;
+use ballot_leader_election::Outgoing;
+use ballot_leader_election::Replies;
 use entry::Ballot;
 use entry::LogIndex;
 use entry::StopSign;
@@ -9,6 +12,7 @@ use state_cache::IndexRecord;
 
 mod answers;
 mod asked;
+pub mod elections;
 pub mod forms;
 pub mod images;
 pub mod inner;
@@ -92,4 +96,32 @@ pub struct PlainSync {
     pub keys: usize,
     pub stop_held: bool,
     pub stopsign: StopSign,
+}
+
+// What a call of the election says, and the node's state after it.
+#[repr(C)]
+pub struct ElectionReply {
+    pub said: Said,
+    pub election: BallotLeaderElection,
+}
+
+// The same with the messages that it hands out; none where it is refused.
+#[repr(C)]
+pub struct ElectionTaken {
+    pub said: Said,
+    pub outgoing: Outgoing,
+    pub election: BallotLeaderElection,
+}
+
+// What a call says that hands out a ballot, zeros where it is refused; or replies, none where it is refused.
+#[repr(C)]
+pub struct ElectionBallot {
+    pub said: Said,
+    pub ballot: Ballot,
+}
+
+#[repr(C)]
+pub struct ElectionBallots {
+    pub said: Said,
+    pub replies: Replies,
 }

@@ -9,9 +9,10 @@ use Rattle.records.specs.Sealed.{total, seal, packed, unpacked, sumHolds, isSea
 use Rattle.entry.specs.Limits.{mostNodes, mostMetadata, lastWord}
 use Rattle.entry.specs.Change.{change}
 use Rattle.entry.specs.Sign.{signFormed}
+use Rattle.entry.specs.Order.{noBallot}
 use Rattle.entry.specs.Guards.{first, Answer, replied, refused}
 use Rattle.model.specs.Numbers.{endOf, acceptedOf, stopDecided, logDecided, numbersFormed}
-use Rattle.model.specs.Log.{Log, noBallot, freshLog}
+use Rattle.model.specs.Log.{Log, freshLog}
 use Rattle.image.specs.Layout.{runBytes}
 use Rattle.image.specs.Image.{imageOf}
 use Rattle.image.specs.Reading.{headAt, headFormed, headSound, soundAt, soundRun, runEnd, whole}

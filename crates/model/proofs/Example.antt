@@ -3,12 +3,12 @@
 use Rattle.words.proofs.Prelude.{arith, _≡_, refl, ℕ, true, Option, none, some, List, [], _∷_, _++_, take}
 use mathlib.Core.Option.{orElse}
 use Rattle.words.specs.All.{allOf}
-use Rattle.entry.specs.{Change.place, Change.removed, Change.Change, Sign.signFormed, Guards.passes}
-use Rattle.entry.specs.{Guards.refuses, Guards.first}
+use Rattle.entry.specs.{Change.place, Change.removed, Change.Change, Sign.signFormed, Order.noBallot}
+use Rattle.entry.specs.{Guards.passes, Guards.refuses, Guards.first}
 use Rattle.entry.specs.declared.Compaction.the-variants.{Snapshot}
 use Rattle.snapshot.specs.Folds.{insert, foldOnto, fold, merge, climbs, rising, find, lastOf}
 use Rattle.model.specs.Numbers.{endOf, acceptedOf, stopDecided, logDecided, numbersFormed}
-use Rattle.model.specs.Log.{Run, Log, foldedTo, keysFormed, wellFormed, noBallot, freshLog}
+use Rattle.model.specs.Log.{Run, Log, foldedTo, keysFormed, wellFormed, freshLog}
 use Rattle.model.specs.Append.{appendGuards, fills, appended}
 use Rattle.model.specs.Backend.{opsFormed}
 use Rattle.model.specs.Compact.{target, passesStart, foldedUpto, compactGuards, compactedTo}

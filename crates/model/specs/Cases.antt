@@ -6,11 +6,12 @@ use mathlib.Core.Option.{Option, none, some}
 use lib.ListN.{replicate}
 use Rattle.entry.specs.Limits.{mostMetadata}
 use Rattle.entry.specs.Change.{Change, place, removed}
+use Rattle.entry.specs.Order.{noBallot}
 use Rattle.entry.specs.Guards.{Answer, refused, replied}
 use Rattle.entry.specs.declared.StopSign.{StopSign}
 use Rattle.entry.specs.declared.Compaction.the-variants.{Trim}
 use Rattle.snapshot.specs.Folds.{fold}
-use Rattle.model.specs.Log.{Log, noBallot, withRun, freshLog}
+use Rattle.model.specs.Log.{Log, withRun, freshLog}
 use Rattle.model.specs.Append.{Flushed}
 use Rattle.model.specs.Read.{included, excluded, trimmed, span, noSpan, Shown, shown, emptyRun}
 use Rattle.model.specs.Calls.{read, query, append, Call, compact, answerTo, stateAfter}

@@ -9,6 +9,7 @@ use lib.ListN.{length, take}
 use Rattle.entry.specs.Limits.{keyRoom}
 use Rattle.entry.specs.Change.{Change, entriesFormed}
 use Rattle.entry.specs.Sign.{signFormed}
+use Rattle.entry.specs.Order.{noBallot}
 use Rattle.entry.specs.declared.Ballot.{Ballot}
 use Rattle.entry.specs.declared.StopSign.{StopSign}
 use Rattle.snapshot.specs.Folds.{merge, rising}
@@ -111,9 +112,6 @@ abbrev pub withMarks : Marks → Log → Log
 withMarks m s = record { run = s .run; tail = s .tail; marks = m }
 
 -- "A fresh log has the batch size asked for, no snapshot, no stop-sign, and every index, count, ballot … zero"
-abbrev pub noBallot : Ballot
-noBallot = record { «config_id» = 0; n = 0; priority = 0; pid = 0 }
-
 unfoldable pub freshLog : ℕ → Log
 freshLog n = record {
   run = record { compacted = 0; retained = []; held = none };

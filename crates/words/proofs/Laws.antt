@@ -7,7 +7,7 @@ use native.Mathlib.Nat.{sub-zero, zero-sub, suc-sub-suc, suc-add, add-suc}
 use lib.ListN.{set, length-replicate, replicate-append-replicate, getD-replicate}
 use lib.Seq.{paste, paste-zero, paste-suc, drop-paste, getD-drop, getD-take, take-suc, take-at, drop-at, set-at}
 use lib.Seq.{take-take, drop-drop, take-length, take-nil, append-snoc}
-use Rattle.words.specs.Words.{laid, spliced}
+use Rattle.words.specs.Words.{padded, laid, spliced}
 
 -- one more word pasted, at the code's `j + 1`
 pub paste-more : (d : List ℕ) (at : ℕ) (s : List ℕ) (j : ℕ) → at + j < length d → j < length s
@@ -71,6 +71,28 @@ move-more d from to n j hf hj hn =
     ∙ ap (λ (l : List ℕ). paste d (to + j) l (suc (n - (j + 1)))) (sym (drop-cons d (from + j) 0 (omega arith)))
     ∙ ap (λ (m : ℕ). paste d (to + j) (drop (from + j) d) m) e₃
 
+-- a list that is padded: as long as its place, the elements at its front, blanks after them; and one more element
+module _ {A : Type 0} (blank : A) where
+  pub take-padded : (n : ℕ) (xs : List A) → take (length xs) (padded blank n xs) ≡ xs
+  take-padded n xs = take-at xs (replicate (n - length xs) blank) (length xs) refl
+
+  pub drop-padded : (n : ℕ) (xs : List A) → drop (length xs) (padded blank n xs) ≡ replicate (n - length xs) blank
+  drop-padded n xs = drop-at xs (replicate (n - length xs) blank) (length xs) refl
+
+  pub length-padded : (n : ℕ) (xs : List A) → length xs ≤ n → length (padded blank n xs) ≡ n
+  length-padded n xs h =
+      length-append xs (replicate (n - length xs) blank)
+      ∙ ap (λ (m : ℕ). length xs + m) (length-replicate (n - length xs) blank)
+      ∙ omega arith
+
+  pub padded-more : (n : ℕ) (xs : List A) (x : A) → length xs < n
+      → set (padded blank n xs) (length xs) x ≡ padded blank n (xs ++ x ∷ [])
+  padded-more n xs x h =
+      let e : n - length xs ≡ suc (n - length (xs ++ x ∷ [])) = simp length-append (omega arith) in
+      ap (λ (m : ℕ). set (xs ++ replicate m blank) (length xs) x) e
+      ∙ set-at xs blank (replicate (n - length (xs ++ x ∷ [])) blank) x (length xs) refl
+      ∙ sym (append-snoc xs x (replicate (n - length (xs ++ x ∷ [])) blank))
+
 -- the first n words of a list that is laid out are the words; past them are zeros
 pub drop-laid : (n k : ℕ) (ws : List ℕ) → length ws ≤ k → k ≤ n → drop k (laid n ws) ≡ replicate (n - k) 0
 unfolding laid
@@ -86,13 +108,11 @@ drop-laid n k ws h hk =
 
 pub take-laid : (n : ℕ) (ws : List ℕ) → take (length ws) (laid n ws) ≡ ws
 unfolding laid
-take-laid n ws = take-at ws (replicate (n - length ws) 0) (length ws) refl
+take-laid n ws = take-padded 0 n ws
 
 pub length-laid : (n : ℕ) (ws : List ℕ) → length ws ≤ n → length (laid n ws) ≡ n
 unfolding laid
-length-laid n ws h =
-    length-append ws (replicate (n - length ws) 0) ∙ ap (λ (m : ℕ). length ws + m) (length-replicate (n - length ws) 0)
-    ∙ omega arith
+length-laid n ws h = length-padded 0 n ws h
 
 -- the turns of the three loops that move words, each with the slice as it stands
 pub down-turn : (d cur : List ℕ) (from to i : ℕ) → to ≤ from → from + i < length d → cur ≡ paste d to (drop from d) i
@@ -155,6 +175,13 @@ drop-take zero j l = ap (λ (k : ℕ). take k l) (sym (sub-zero j))
 drop-take (suc i) zero l = ap (λ (k : ℕ). take k (drop (suc i) l)) (sym (zero-sub (suc i)))
 drop-take (suc i) (suc j) [] = sym (take-nil (suc j - suc i))
 drop-take (suc i) (suc j) (x ∷ xs) = drop-take i j xs ∙ ap (λ (k : ℕ). take k (drop i xs)) (sym (suc-sub-suc j i))
+
+-- the elements at the front of a list, from one of them on
+pub front-cons : {A : Type 0} (l : List A) (n i : ℕ) (d : A) → i < n → n ≤ length l
+    → drop i (take n l) ≡ getD l i d ∷ drop (suc i) (take n l)
+front-cons {A} l n i d h k =
+    drop-cons (take n l) i d (simp length-take (omega arith))
+    ∙ ap (λ (x : A). x ∷ drop (suc i) (take n l)) (getD-take n l i d h)
 
 -- zeros, and zeros after them
 pub laid-twice : (n z : ℕ) (ws : List ℕ) → length ws + z ≤ n

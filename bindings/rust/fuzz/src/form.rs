@@ -1,8 +1,8 @@
-//! Document 01's forms, read once more: from its text, not from the library. The limits, and how entries lie in words, are the crate's.
+//! Document 01's forms, and those of document 02's elections, read once more: from their texts, not from the library. The limits, and how entries lie in words, are the crate's.
 //! Sums are made of wide numbers, so none wraps.
 use crate::states::State;
 use kotuseraw::entry::{entries, words, PLACES, REMOVED, WIDTH};
-use kotuseraw::plain::{IndexRecord, StopSign, LARGEST_BATCH, LARGEST_INDEX};
+use kotuseraw::plain::{BallotLeaderElection, IndexRecord, StopSign, LARGEST_BATCH, LARGEST_INDEX};
 use kotuseraw::{Entry, LOG_WORDS, SNAPSHOT_WORDS};
 
 /// The word of an unknown key in a reply.
@@ -69,4 +69,18 @@ pub fn well_formed(state: &State) -> bool {
     };
     let entries = record.retained as u128 + record.batched as u128;
     numbers_formed(record) && stop && snapshot && state.log.len() == LOG_WORDS && held_formed(&state.log, entries)
+}
+
+/// What is held, and zeros after it.
+fn list_formed<T: Default + PartialEq>(held: &[T], count: usize) -> bool {
+    held.get(count..).is_some_and(|unused| unused.iter().all(|one| *one == T::default()))
+}
+
+pub fn election_formed(e: &BallotLeaderElection) -> bool {
+    e.pid != 0
+        && e.current_ballot.n <= e.leader.n
+        && list_formed(&e.peers.held, e.peers.count)
+        && list_formed(&e.heartbeat_replies.held, e.heartbeat_replies.count)
+        && list_formed(&e.prev_replies.held, e.prev_replies.count)
+        && list_formed(&e.outgoing.held, e.outgoing.count)
 }

@@ -1,5 +1,5 @@
 //! How often each call was answered what.
-use crate::calls::{Call, ALL};
+use crate::{calls, elections};
 use std::collections::BTreeMap;
 use std::fmt;
 
@@ -18,8 +18,8 @@ fn cell(number: u64) -> String {
 }
 
 impl Report {
-    pub(crate) fn count(&mut self, call: &Call, number: u64) {
-        *self.counts.entry(call.name).or_default().entry(number).or_default() += 1;
+    pub(crate) fn count(&mut self, name: &'static str, number: u64) {
+        *self.counts.entry(name).or_default().entry(number).or_default() += 1;
         self.calls += 1;
     }
 
@@ -30,7 +30,9 @@ impl Report {
     /// What a call may be answered and was not.
     pub fn missing(&self) -> Vec<String> {
         let met = |name: &str, n: &u64| self.counts.get(name).is_some_and(|row| row.contains_key(n));
-        let cells = ALL.iter().flat_map(|call| call.answers.iter().map(|n| (call.name, *n)));
+        let index = calls::ALL.iter().map(|call| (call.name, call.answers));
+        let rows = index.chain(elections::ALL.iter().map(|call| (call.name, call.answers)));
+        let cells = rows.flat_map(|(name, answers)| answers.iter().map(move |n| (name, *n)));
         cells.filter(|(name, n)| !met(name, n)).map(|(name, n)| format!("{name} {}", cell(n))).collect()
     }
 }

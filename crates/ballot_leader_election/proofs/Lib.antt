@@ -1,0 +1,13 @@
+pub mod Seeing
+pub mod Forming
+pub mod Laying
+pub mod Coming
+pub mod Verdicts
+pub mod Timing
+pub mod Over
+pub mod Rising
+pub mod Ending
+pub mod Keeping
+pub mod Theorems
+pub mod Unique
+pub mod Examples

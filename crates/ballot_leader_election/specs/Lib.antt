@@ -1,0 +1,5 @@
+pub mod State
+pub mod Steps
+pub mod Calls
+pub mod Run
+pub mod Inner

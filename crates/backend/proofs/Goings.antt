@@ -17,9 +17,9 @@ use Rattle.entry.proofs.SliceLaws.{laid_of, stored_laid}
 use Rattle.snapshot.specs.{Folds.rising, Calls.snapshot_formed, Inner.Holds}
 use Rattle.snapshot.proofs.Calling.{snapshot_holds}
 use Rattle.model.specs.Numbers.{Numbers, end_of}
-use Rattle.model.specs.Log.{given, if_given, retaining, with_run as logWithRun}
-use Rattle.model.specs.Backend.{Op, append_entries, appendOnPrefix, setDecided, setCompacted, trim, set_promise, setRound}
-use Rattle.model.specs.Backend.{setSign, setSnapshot, Lent, supplied, Midst, step, step_guards}
+use Rattle.model.specs.Log.{given, if_given, retaining, with_run as log_with_run}
+use Rattle.model.specs.Backend.{Op, append_entries, append_on_prefix, set_decided, set_compacted, trim, set_promise, set_round}
+use Rattle.model.specs.Backend.{set_sign, set_snapshot, Lent, supplied, Midst, step, step_guards}
 use Rattle.state_cache.specs.{State.Raw, State.raw, State.sign_held, State.log_of, Inner.with_entries, Inner.with_stop}
 use Rattle.state_cache.specs.{Inner.with_decided, Inner.with_promise, declared.IndexRecord.IndexRecord}
 use Rattle.state_cache.specs.{declared.Settled.Settled, declared.Settled.TheVariants.Done}
@@ -158,13 +158,13 @@ module _ (start : ℕ) (r : Raw) (h : Kept r) where
             (λ k. omega (arith, counted))
 
     pub prefix_outside : (end : ℕ) → end ≡ end_of n → beside ≡ true
-        → Steps n l (appendOnPrefix i) m
+        → Steps n l (append_on_prefix i) m
         (stepped (Refused (OutsideRun (record { 0 = end }))) start r.index) words r.snapshot
     unfolding step_guards
     prefix_outside end p e =
-        goes_refused (step_guards n l (appendOnPrefix i) m) (step l (appendOnPrefix i) m) start r.index words
+        goes_refused (step_guards n l (append_on_prefix i) m) (step l (append_on_prefix i) m) start r.index words
         r.snapshot (OutsideRun (record { 0 = end }))
-        (found {gs = step_guards n l (appendOnPrefix i) m} {v = refuses 7 end} (stopping (sym beside_is ∙ e) p))
+        (found {gs = step_guards n l (append_on_prefix i) m} {v = refuses 7 end} (stopping (sym beside_is ∙ e) p))
 
     pub prefix_inside : beside ≡ false → kept ≤ r.index.retained
     prefix_inside e = ltb-false r.index.retained kept (or_right (ltb i start) (ltb r.index.retained kept) e)
@@ -172,7 +172,7 @@ module _ (start : ℕ) (r : Raw) (h : Kept r) where
     pub prefix_goes : (s : Stepped) → beside ≡ false
         → Goes (room_guards kept (length (entries_in entries)) m)
         (rejoined kept (entries_in entries) m) s words r.snapshot
-        → Steps n l (appendOnPrefix i) m s words r.snapshot
+        → Steps n l (append_on_prefix i) m s words r.snapshot
     unfolding step_guards step
     prefix_goes s e g =
         goes_as _ _ _ _ s words r.snapshot
@@ -196,7 +196,7 @@ module _ (start : ℕ) (r : Raw) (h : Kept r) where
       (with_entries (r.index.retained - gone) r.index.batched r.index) words r.snapshot refl
       (ap₂ (λ (a : ℕ) (g : _). record { start = a; log = g }) q
       (trim_log r h below gone words least e
-      ∙ ap (λ (k : ℕ). logWithRun (retaining (drop k (log_of r).run.retained) (log_of r).run) (log_of r)) p))
+      ∙ ap (λ (k : ℕ). log_with_run (retaining (drop k (log_of r).run.retained) (log_of r).run) (log_of r)) p))
       (trim_held r h below gone words least e)
 
   -- ---- the operations
@@ -211,13 +211,13 @@ module _ (start : ℕ) (r : Raw) (h : Kept r) where
         goes_as _ _ _ _ s words r.snapshot
         (ap (λ (k : ℕ). first (room_guards k (length l.entries) m)) (sym (kept_count r h)))
         (ap (λ (run : List Change).
-        record { start = start; log = logWithRun (retaining (run ++ l.entries) (log_of r).run) (log_of r) })
+        record { start = start; log = log_with_run (retaining (run ++ l.entries) (log_of r).run) (log_of r) })
         (take_all r.index.retained (log_of r).run.retained (omega (arith, kept_count r h))))
         g
 
     pub on_prefix_goes : (entries : List ℕ) (i : ℕ) (s : Stepped) (words : List ℕ) → l.entries ≡ entries_in entries
-        → Steps n (only_entries entries) (appendOnPrefix i) m s words r.snapshot
-        → Steps n l (appendOnPrefix i) m s words r.snapshot
+        → Steps n (only_entries entries) (append_on_prefix i) m s words r.snapshot
+        → Steps n l (append_on_prefix i) m s words r.snapshot
     unfolding step_guards step
     on_prefix_goes entries i s words e g = rw e g
 
@@ -229,26 +229,26 @@ module _ (start : ℕ) (r : Raw) (h : Kept r) where
         (record { log = h.log; snapshot = h.snapshot; none_held = h.none_held; sign = h.sign })
 
     pub decided_goes : (i : LogIndex)
-        → Steps n l (setDecided i.0) m
+        → Steps n l (set_decided i.0) m
         (stepped Done start (with_decided i r.index)) r.log r.snapshot
     unfolding step_guards step log_of first sign_held
     decided_goes i =
-        goes_done [] (step l (setDecided i.0) m) start (with_decided i r.index) r.log r.snapshot refl refl
+        goes_done [] (step l (set_decided i.0) m) start (with_decided i r.index) r.log r.snapshot refl refl
         (record { log = h.log; snapshot = h.snapshot; none_held = h.none_held; sign = h.sign })
 
-    pub round_goes : (b : Ballot) → Steps n l (setRound b) m
+    pub round_goes : (b : Ballot) → Steps n l (set_round b) m
         (stepped Done start (with_round b r.index)) r.log r.snapshot
     unfolding step_guards step log_of first sign_held
     round_goes b =
-        goes_done [] (step l (setRound b) m) start (with_round b r.index) r.log r.snapshot refl refl
+        goes_done [] (step l (set_round b) m) start (with_round b r.index) r.log r.snapshot refl refl
         (record { log = h.log; snapshot = h.snapshot; none_held = h.none_held; sign = h.sign })
 
     pub compacted_goes : (i : LogIndex)
-        → Steps n l (setCompacted i.0) m
+        → Steps n l (set_compacted i.0) m
         (stepped Done start (with_compacted i r.index)) r.log r.snapshot
     unfolding step_guards step log_of first sign_held
     compacted_goes i =
-        goes_done [] (step l (setCompacted i.0) m) start
+        goes_done [] (step l (set_compacted i.0) m) start
         (with_compacted i r.index) r.log
         r.snapshot refl refl
         (record { log = h.log; snapshot = h.snapshot; none_held = h.none_held; sign = h.sign })
@@ -264,12 +264,12 @@ module _ (start : ℕ) (r : Raw) (h : Kept r) where
     abbrev lent : Lent
     lent = lent_of b entries incoming
 
-    pub sign_goes : (t : Bool) → supplied lent (setSign t) ≡ true
-        → Steps n lent (setSign t) m
+    pub sign_goes : (t : Bool) → supplied lent (set_sign t) ≡ true
+        → Steps n lent (set_sign t) m
         (stepped Done start (with_stop t (sign_if t b.stop) r.index)) r.log r.snapshot
     unfolding step_guards step first
     sign_goes t e =
-        goes_done [] (step lent (setSign t) m) start (with_stop t (sign_if t b.stop) r.index) r.log
+        goes_done [] (step lent (set_sign t) m) start (with_stop t (sign_if t b.stop) r.index) r.log
         r.snapshot refl
         (unfold log_of in ap (λ (g : Option StopSign). record { start = start; log = record { run = (log_of r).run; tail = record { batched = (log_of r).tail.batched; size = (log_of r).tail.size; sign = g }; marks = (log_of r).marks } })
         (set t b.stop_lent e))
@@ -289,12 +289,12 @@ module _ (start : ℕ) (r : Raw) (h : Kept r) where
         fine true false e q = absurd (true≢false (sym e))
         fine false u e q = blank_none
 
-    pub snapshot_goes : (t : Bool) → supplied lent (setSnapshot t) ≡ true
-        → Steps n lent (setSnapshot t) m
+    pub snapshot_goes : (t : Bool) → supplied lent (set_snapshot t) ≡ true
+        → Steps n lent (set_snapshot t) m
         (stepped Done start (with_snapshot t (asked_keys t b.keys) r.index)) r.log (asked_words t incoming)
     unfolding step_guards step first
     snapshot_goes t e =
-        goes_done [] (step lent (setSnapshot t) m) start
+        goes_done [] (step lent (set_snapshot t) m) start
         (with_snapshot t (asked_keys t b.keys) r.index) r.log
         (asked_words t incoming) refl
         (unfold log_of in ap (λ (g : Option (List Change)). record { start = start; log = record { run = record { compacted = (log_of r).run.compacted; retained = (log_of r).run.retained; held = g }; tail = (log_of r).tail; marks = (log_of r).marks } })

@@ -12,8 +12,8 @@ use Rattle.entry.specs.{declared.StopSign.StopSign}
 use Rattle.snapshot.specs.Calls.{snapshot_formed}
 use Rattle.snapshot.proofs.Calling.{snapshot_holds}
 use Rattle.model.specs.Log.{given, if_given, keys_formed}
-use Rattle.model.specs.Backend.{Op, append_entries, appendOnPrefix, setDecided, setCompacted, trim, set_promise, setRound}
-use Rattle.model.specs.Backend.{setSign, setSnapshot, Lent, supplied, ops_formed}
+use Rattle.model.specs.Backend.{Op, append_entries, append_on_prefix, set_decided, set_compacted, trim, set_promise, set_round}
+use Rattle.model.specs.Backend.{set_sign, set_snapshot, Lent, supplied, ops_formed}
 use Rattle.model.specs.Calls.{write, malformed}
 use Rattle.model.proofs.Forms.{of_snapshot}
 use Rattle.state_cache.specs.{State.Raw, State.formed, Run.outcome, Run.run}
@@ -78,14 +78,14 @@ all_same f g e (x ∷ l) = ap₂ (λ (s t : Bool). s && t) (e x) (all_same f g e
 supplied_any : (b : CodeLent) (entries incoming : List ℕ) (o : Op)
     → supplied (lent_of b [] []) o ≡ supplied (lent_of b entries incoming) o
 supplied_any b entries incoming append_entries = refl
-supplied_any b entries incoming (appendOnPrefix i) = refl
-supplied_any b entries incoming (setDecided i) = refl
-supplied_any b entries incoming (setCompacted i) = refl
+supplied_any b entries incoming (append_on_prefix i) = refl
+supplied_any b entries incoming (set_decided i) = refl
+supplied_any b entries incoming (set_compacted i) = refl
 supplied_any b entries incoming (trim i) = refl
 supplied_any b entries incoming (set_promise x) = refl
-supplied_any b entries incoming (setRound x) = refl
-supplied_any b entries incoming (setSign t) = refl
-supplied_any b entries incoming (setSnapshot t) =
+supplied_any b entries incoming (set_round x) = refl
+supplied_any b entries incoming (set_sign t) = refl
+supplied_any b entries incoming (set_snapshot t) =
     ap (λ (u : Bool). not t || u) (given_by b.snapshot_lent (entries_of b.keys [])
     ∙ sym (given_by b.snapshot_lent (entries_of b.keys incoming)))
 

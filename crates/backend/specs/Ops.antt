@@ -5,8 +5,8 @@ use Rattle.words.specs.If.{if◌then◌else◌}
 use Rattle.entry.specs.Limits.{snapshot_words, most_ops}
 use Rattle.entry.specs.Change.{entries_of, entries_in, whole_in}
 use Rattle.snapshot.specs.Calls.{snapshot_formed}
-use Rattle.model.specs.Backend.{Op, append_entries, appendOnPrefix, setDecided, setCompacted, trim, set_promise, setRound}
-use Rattle.model.specs.Backend.{setSign, setSnapshot, Lent}
+use Rattle.model.specs.Backend.{Op, append_entries, append_on_prefix, set_decided, set_compacted, trim, set_promise, set_round}
+use Rattle.model.specs.Backend.{set_sign, set_snapshot, Lent}
 use Rattle.backend.specs.declared.Op.{Op as CodeOp}
 use Rattle.backend.specs.declared.OpKind.{OpKind}
 use Rattle.backend.specs.declared.OpKind.TheVariants.{AppendEntries, AppendOnPrefix, SetPromise, SetDecidedIndex}
@@ -17,14 +17,14 @@ use Rattle.backend.specs.declared.Lent.{Lent as CodeLent}
 
 abbrev pub of_kind : OpKind → CodeOp → Op
 of_kind AppendEntries o = append_entries
-of_kind AppendOnPrefix o = appendOnPrefix o.index.0
+of_kind AppendOnPrefix o = append_on_prefix o.index.0
 of_kind SetPromise o = set_promise o.ballot
-of_kind SetDecidedIndex o = setDecided o.index.0
-of_kind SetAcceptedRound o = setRound o.ballot
-of_kind SetCompactedIdx o = setCompacted o.index.0
+of_kind SetDecidedIndex o = set_decided o.index.0
+of_kind SetAcceptedRound o = set_round o.ballot
+of_kind SetCompactedIdx o = set_compacted o.index.0
 of_kind Trim o = trim o.index.0
-of_kind SetStopsign o = setSign o.given
-of_kind SetSnapshot o = setSnapshot o.given
+of_kind SetStopsign o = set_sign o.given
+of_kind SetSnapshot o = set_snapshot o.given
 
 abbrev pub op_of : CodeOp → Op
 op_of o = of_kind o.kind o

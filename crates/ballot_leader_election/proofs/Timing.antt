@@ -14,7 +14,7 @@ use Rattle.ballot_leader_election.specs.Steps.{update_leader, update_happiness, 
 use Rattle.ballot_leader_election.specs.Steps.{promised, leading, new_round, with_standing, timed_out}
 use Rattle.ballot_leader_election.specs.Calls.{round_spent, takeover_spent, round_guards, timeout_guards}
 use Rattle.ballot_leader_election.specs.Run.{Outcome, outcome, comes, led}
-use Rattle.ballot_leader_election.specs.Inner.{Formed, Begins, with_standing as standingWith}
+use Rattle.ballot_leader_election.specs.Inner.{Formed, Begins, with_standing as standing_with}
 use Rattle.ballot_leader_election.proofs.Laying.{held_length}
 use Rattle.ballot_leader_election.proofs.Coming.{comes_refused, comes_stands}
 use Rattle.ballot_leader_election.proofs.Verdicts.{round_short, round_room}
@@ -96,10 +96,10 @@ module _ (e : BallotLeaderElection) (f : Formed e) (p : Ballot) (u j : Standing)
       stands_is = es ∙ ap (promised e.pid p) taken_is
 
       pub timed_out_lem : (l : Led) (b x : BallotLeaderElection) → led l ≡ replied (leading s)
-          → b ≡ laid_election (new_round (election_of e)) → x ≡ standingWith s b
+          → b ≡ laid_election (new_round (election_of e)) → x ≡ standing_with s b
           → outcome (led l) x
           ≡ outcome (replied (leading (timed_out p (election_of e)).standing)) (laid_election (timed_out p (election_of e)))
       timed_out_lem l b x el eb ex =
           ap₂ outcome (el ∙ ap (λ (z : Standing). replied (leading z)) stands_is)
-          (ex ∙ ap (standingWith s) eb
+          (ex ∙ ap (standing_with s) eb
           ∙ ap (λ (z : Standing). laid_election (with_standing z (new_round (election_of e)))) stands_is)

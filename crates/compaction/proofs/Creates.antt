@@ -4,7 +4,7 @@ use Rattle.words.proofs.Prelude.{le-ltb, some, List}
 use Rattle.entry.specs.Change.{Change}
 use Rattle.entry.specs.Guards.{Verdict, passes, refuses, first, Answer, refused, settle}
 use Rattle.entry.proofs.GuardLaws.{passing, stopping, found, first_goes_on}
-use Rattle.snapshot.specs.Calls.{outcome as snapshotOutcome, written_by, fold_guards, written_out}
+use Rattle.snapshot.specs.Calls.{outcome as snapshot_outcome, written_by, fold_guards, written_out}
 use Rattle.snapshot.specs.Inner.{fold_written, folded_out}
 use Rattle.model.specs.{Numbers.Numbers, Log.Log, Log.numbers_of, Log.folded_to, Log.hole, Compact.target}
 use Rattle.model.specs.{Compact.past_decided, Compact.folded_upto, Compact.create_guards, Compact.created, Calls.Call}
@@ -30,12 +30,12 @@ module _ (r : Raw) (i : ℕ) (out : List ℕ) where
   s = log_of r
 
   pub create_ill_formed : (whole : Bool) → formed r ≡ false
-      → snapshotOutcome (refused 12 0) out ≡ written_out (run c whole r).answer out
+      → snapshot_outcome (refused 12 0) out ≡ written_out (run c whole r).answer out
   create_ill_formed whole e = ap (λ (o : Outcome (List Change)). written_out o.answer out) (ill_formed c whole r e)
 
   module _ (ok : formed r ≡ true) where
     pub create_malformed : (whole : Bool) → whole ≡ false
-        → snapshotOutcome (refused 11 0) out ≡ written_out (run c whole r).answer out
+        → snapshot_outcome (refused 11 0) out ≡ written_out (run c whole r).answer out
     create_malformed whole e = ap (λ (o : Outcome (List Change)). written_out o.answer out) (not_whole c whole r ok e)
 
     st : Stands s r
@@ -51,7 +51,7 @@ module _ (r : Raw) (i : ℕ) (out : List ℕ) where
     told v e = ap (λ (a : Answer (List Change)). written_out a out) (answers v e)
 
     pub create_below : i < r.index.compacted.0
-        → snapshotOutcome (refused 3 r.index.compacted.0) out ≡ written_out (run c true r).answer out
+        → snapshot_outcome (refused 3 r.index.compacted.0) out ≡ written_out (run c true r).answer out
     unfolding further query_guards create_guards
     create_below h =
         told (refuses 3 r.index.compacted.0)
@@ -63,7 +63,7 @@ module _ (r : Raw) (i : ℕ) (out : List ℕ) where
       from = le-ltb i s.run.compacted (omega (arith, st.run.start, low))
 
       pub create_above : past_decided (some i) (numbers_in r.index) ≡ true
-          → snapshotOutcome (refused 2 r.index.decided.0) out ≡ written_out (run c true r).answer out
+          → snapshot_outcome (refused 2 r.index.decided.0) out ≡ written_out (run c true r).answer out
       unfolding further query_guards create_guards
       create_above h =
           told (refuses 2 r.index.decided.0)
@@ -71,7 +71,7 @@ module _ (r : Raw) (i : ℕ) (out : List ℕ) where
           (passing from (stopping (rw (numbers r ok) h) (sym st.marks.index))))
 
       pub create_holed : past_decided (some i) (numbers_in r.index) ≡ false → hole_in r.index ≡ true
-          → snapshotOutcome (refused 16 0) out ≡ written_out (run c true r).answer out
+          → snapshot_outcome (refused 16 0) out ≡ written_out (run c true r).answer out
       unfolding further query_guards create_guards
       create_holed h e =
           told (refuses 16 0)

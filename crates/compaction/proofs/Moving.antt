@@ -10,7 +10,7 @@ use Rattle.entry.specs.{Refusals.number_of, Refusals.carried_of, declared.Refusa
 use Rattle.entry.specs.{declared.Compaction.Compaction, declared.Compaction.TheVariants.Trim}
 use Rattle.entry.specs.{declared.Compaction.TheVariants.Snapshot}
 use Rattle.entry.proofs.GuardLaws.{first_left, first_right}
-use Rattle.snapshot.specs.{Calls.outcome as snapshotOutcome, Calls.folded, declared.Folded.Folded}
+use Rattle.snapshot.specs.{Calls.outcome as snapshot_outcome, Calls.folded, declared.Folded.Folded}
 use Rattle.snapshot.specs.{declared.Folded.TheVariants.Keys, declared.Folded.TheVariants.Refused}
 use Rattle.snapshot.proofs.Calling.{wrote_nothing, wrote_keys}
 use Rattle.model.specs.Numbers.{Numbers, end_of}
@@ -143,7 +143,7 @@ module _ (r : Raw) (ok : formed r ≡ true) (what : Compaction) (upto : Option �
     })
 
     -- what is written in the snapshot's place, or refused
-    module _ (a : Folded) (exit : List ℕ) (f : snapshotOutcome (folded a) exit ≡ held_written what to r) where
+    module _ (a : Folded) (exit : List ℕ) (f : snapshot_outcome (folded a) exit ≡ held_written what to r) where
       verdict : first (further c s) ≡ first (due true (folded_to to s.run))
       verdict =
           goes_on u.verdict true is_past ∙ ap (λ (es : List Change). first (due true es)) folds_to

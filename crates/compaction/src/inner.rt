@@ -2,7 +2,7 @@
 ghost use Rattle.std.specs.Prelude.{◌≡◌, true, length};
 ghost use Rattle.entry.specs.Limits.{snapshot_words};
 ghost use Rattle.entry.specs.Upto.{upto_of};
-ghost use Rattle.snapshot.specs.Calls.{outcome as snapshotOutcome, folded, written_out};
+ghost use Rattle.snapshot.specs.Calls.{outcome as snapshot_outcome, folded, written_out};
 ghost use Rattle.model.specs.Calls.{query, create, compact};
 ghost use Rattle.model.specs.Compact.{target, past_decided};
 ghost use Rattle.state_cache.specs.State.{raw, numbers_in};
@@ -87,7 +87,7 @@ pub fn move_to(
 // a snapshot the fold of all below, or refusal 16 or 8. Says how many keys it has.
 fn hold(index: IndexRecord, log: &[u64], snapshot: &mut [u64], what: Compaction, to: u64) -> Folded
     requires { Ready (raw index log.now snapshot.old) × Movable to index log.now }
-    ensures { snapshotOutcome (folded result) snapshot.new
+    ensures { snapshot_outcome (folded result) snapshot.new
         ≡ held_written what to (raw index log.now snapshot.old) }
 {
     match what {
@@ -158,7 +158,7 @@ pub fn create_at(
     out: &mut [u64],
 ) -> Folded
     requires { Ready (raw index log.now snapshot.now) × (length out.old ≡ snapshot_words) }
-    ensures { snapshotOutcome (folded result) out.new
+    ensures { snapshot_outcome (folded result) out.new
         ≡ written_out
         (run (query (create idx.0)) true (raw index log.now snapshot.now)).answer
         out.old }

@@ -3,7 +3,7 @@
 ghost use Rattle.std.specs.Prelude.{◌≡◌, true, eqb, length};
 ghost use Rattle.entry.specs.Limits.{snapshot_words};
 ghost use Rattle.entry.specs.Upto.{upto_of};
-ghost use Rattle.snapshot.specs.Calls.{outcome as snapshotOutcome, folded, written_out};
+ghost use Rattle.snapshot.specs.Calls.{outcome as snapshot_outcome, folded, written_out};
 ghost use Rattle.model.specs.Calls.{query, create, compact as compactCall};
 ghost use Rattle.state_cache.specs.State.{raw};
 ghost use Rattle.state_cache.specs.Run.{outcome, run, settled};
@@ -44,7 +44,7 @@ pub fn create_snapshot(
     idx: LogIndex,
     out: &mut [u64],
 ) -> Folded
-    ensures { snapshotOutcome (folded result) out.new
+    ensures { snapshot_outcome (folded result) out.new
         ≡ written_out
         (run (query (create idx.0)) (eqb (length out.old) snapshot_words)
         (raw index log.now snapshot.now)).answer out.old }

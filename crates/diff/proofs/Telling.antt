@@ -8,7 +8,7 @@ use Rattle.entry.specs.Guards.{Verdict, passes, refuses, first, Answer, refused,
 use Rattle.entry.specs.Refusals.{number_of, carried_of}
 use Rattle.entry.specs.declared.Refusal.TheVariants.{Malformed, IllFormed, Hole}
 use Rattle.entry.proofs.{GuardLaws.first_refuses, GuardLaws.first_goes_on, SliceLaws.stored_entries}
-use Rattle.snapshot.specs.{Folds.fold, Calls.outcome as snapshotOutcome, Calls.folded, Calls.fold_guards}
+use Rattle.snapshot.specs.{Folds.fold, Calls.outcome as snapshot_outcome, Calls.folded, Calls.fold_guards}
 use Rattle.snapshot.specs.{Inner.fold_written, Inner.folded_out, declared.Folded.Folded}
 use Rattle.snapshot.specs.{declared.Folded.TheVariants.Keys, declared.Folded.TheVariants.Refused as FoldRefused}
 use Rattle.snapshot.proofs.Calling.{wrote_nothing, wrote_keys}
@@ -115,7 +115,7 @@ module _ (r : Raw) (i : ℕ) (out : List ℕ) where
         given_is : or_empty (snapshot_in (diff_of i s)) ≡ es
         given_is = ap (λ (g : Given). or_empty (snapshot_in g)) is ∙ ap or_empty (kind_holds kind es)
 
-        wrote : (a : Folded) → snapshotOutcome (folded a) exit ≡ fold_written es out
+        wrote : (a : Folded) → snapshot_outcome (folded a) exit ≡ fold_written es out
             → Told (fold_told kind (record { 0 = last }) a) exit true
         wrote (FoldRefused x) f =
             let q = wrote_nothing (first (fold_guards es)) es out exit (FoldRefused x) f x refl in
@@ -136,7 +136,7 @@ module _ (r : Raw) (i : ℕ) (out : List ℕ) where
       pub complete_wrote : i ≤ r.index.compacted.0
           → (r.index.snapshot_held || ltb r.index.compacted.0 last) ≡ true → hole_in r.index ≡ false
           → (a : Folded) (exit : List ℕ)
-          → snapshotOutcome (folded a) exit
+          → snapshot_outcome (folded a) exit
           ≡ folded_out r.index.keys r.snapshot (last - r.index.compacted.0) r.log out
           → Told (fold_told false (record { 0 = last }) a) exit true
       complete_wrote h g whole a exit f =
@@ -148,7 +148,7 @@ module _ (r : Raw) (i : ℕ) (out : List ℕ) where
       -- of what is decided from an index on
       pub delta_wrote : (h : r.index.compacted.0 < i) (start : ℕ) (e : start ≡ min i last)
           (a : Folded) (exit : List ℕ)
-          → snapshotOutcome (folded a) exit
+          → snapshot_outcome (folded a) exit
           ≡ folded_out 0 [] (last - start) (drop ((start - r.index.compacted.0) * width) r.log) out
           → Told (fold_told true (record { 0 = last }) a) exit true
       unfolding fold entries_at

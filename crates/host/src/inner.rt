@@ -7,8 +7,8 @@ ghost use Rattle.entry.specs.Limits.{last_word};
 ghost use Rattle.entry.specs.Change.{entries_in, whole_in};
 ghost use Rattle.model.specs.Numbers.{accepted_of, stop_decided, log_decided};
 ghost use Rattle.model.specs.Read.{included, excluded};
-ghost use Rattle.model.specs.Calls.{query, read, readDecided, get_entries, getSuffix, lookup as lookupCall, lookup_many};
-ghost use Rattle.model.specs.Calls.{append, appendNow, flush, flushEntries, append_stop, set_stop, set_promise, decide};
+ghost use Rattle.model.specs.Calls.{query, read, read_decided, get_entries, get_suffix, lookup as lookupCall, lookup_many};
+ghost use Rattle.model.specs.Calls.{append, append_now, flush, flush_entries, append_stop, set_stop, set_promise, decide};
 ghost use Rattle.model.specs.Calls.{compact};
 ghost use Rattle.state_cache.specs.State.{raw};
 ghost use Rattle.state_cache.specs.Inner.{Ready};
@@ -89,7 +89,7 @@ pub extern "C" fn kotuseraw_inner_read_decided_suffix(
 ) -> ShownSaid
     requires { Ready (raw index log.now snapshot.now) }
     ensures { result
-        ≡ shown_as (run (query (readDecided from.0)) true
+        ≡ shown_as (run (query (read_decided from.0)) true
         (raw index log.now snapshot.now)).answer }
 {
     answers::read_said(reading::inner::read_decided_suffix_reply(index, log, snapshot, from))
@@ -122,7 +122,7 @@ pub extern "C" fn kotuseraw_inner_get_suffix(
 ) -> Said
     requires { Ready (raw index log.now snapshot.now) }
     ensures { result
-        ≡ plain a_span (run (query (getSuffix from.0)) true
+        ≡ plain a_span (run (query (get_suffix from.0)) true
         (raw index log.now snapshot.now)).answer }
 {
     answers::span_said(reading::inner::get_suffix_reply(index, log, snapshot, from))
@@ -244,7 +244,7 @@ pub extern "C" fn kotuseraw_inner_append_entries_without_batching(
     requires { Ready (raw index log.old snapshot.now) }
     ensures { left result.said (raw result.index log.new snapshot.now)
         ≡ plainly a_number
-        (run (appendNow (entries_in entries.now)) (whole_in entries.now)
+        (run (append_now (entries_in entries.now)) (whole_in entries.now)
         (raw index log.old snapshot.now)) }
 {
     answers::accepted_reply(
@@ -277,7 +277,7 @@ pub extern "C" fn kotuseraw_inner_flush_batch_and_get_entries(
 ) -> Reply
     requires { Ready (raw index log.now snapshot.now) }
     ensures { left result.said (raw result.index log.now snapshot.now)
-        ≡ plainly maybe_flushed (run flushEntries true (raw index log.now snapshot.now)) }
+        ≡ plainly maybe_flushed (run flush_entries true (raw index log.now snapshot.now)) }
 {
     answers::appended_reply(internal_storage::inner::flush::flush_batch_and_get_entries(
         index, log, snapshot,

@@ -1,7 +1,7 @@
 // The calls that change a log: appends, flushes, the stop-sign, marks, compaction and sync. Names are the library's.
 ghost use Rattle.std.specs.Prelude.{◌≡◌, true, [], ◌∷◌};
 ghost use Rattle.entry.specs.Change.{entries_in, whole_in};
-ghost use Rattle.model.specs.Calls.{append, appendNow, flush, flushEntries, append_stop, set_stop, set_promise, decide};
+ghost use Rattle.model.specs.Calls.{append, append_now, flush, flush_entries, append_stop, set_stop, set_promise, decide};
 ghost use Rattle.model.specs.Calls.{compact, sync as syncCall};
 ghost use Rattle.state_cache.specs.State.{raw};
 ghost use Rattle.state_cache.specs.Run.{run};
@@ -80,7 +80,7 @@ pub extern "C" fn kotuseraw_append_entries_without_batching(
 ) -> Reply
     ensures { left result.said (raw result.index log.new snapshot.now)
         ≡ plainly a_number
-        (run (appendNow (entries_in entries.now)) (whole_in entries.now)
+        (run (append_now (entries_in entries.now)) (whole_in entries.now)
         (raw index log.old snapshot.now)) }
 {
     answers::accepted_reply(internal_storage::append_entries_without_batching(
@@ -105,7 +105,7 @@ pub extern "C" fn kotuseraw_flush_batch_and_get_entries(
     snapshot: &[u64],
 ) -> Reply
     ensures { left result.said (raw result.index log.now snapshot.now)
-        ≡ plainly maybe_flushed (run flushEntries true (raw index log.now snapshot.now)) }
+        ≡ plainly maybe_flushed (run flush_entries true (raw index log.now snapshot.now)) }
 {
     answers::appended_reply(internal_storage::flush_batch_and_get_entries(index, log, snapshot))
 }

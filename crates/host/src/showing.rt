@@ -4,7 +4,7 @@ ghost use Rattle.std.specs.Prelude.{◌≡◌, true, List, ℕ};
 ghost use Rattle.entry.specs.Limits.{last_word};
 ghost use Rattle.entry.specs.Reply.{reply_at};
 ghost use Rattle.model.specs.Read.{included, excluded};
-ghost use Rattle.model.specs.Calls.{query, read, readDecided, get_entries, getSuffix, lookup as lookupCall, lookup_many};
+ghost use Rattle.model.specs.Calls.{query, read, read_decided, get_entries, get_suffix, lookup as lookupCall, lookup_many};
 ghost use Rattle.state_cache.specs.State.{Raw, raw};
 ghost use Rattle.state_cache.specs.Run.{run};
 ghost use Rattle.reading.specs.Many.{room_for, filled_out};
@@ -90,7 +90,7 @@ pub extern "C" fn kotuseraw_read_decided_suffix(
     from: LogIndex,
 ) -> ShownSaid
     ensures { result
-        ≡ shown_as (run (query (readDecided from.0)) true
+        ≡ shown_as (run (query (read_decided from.0)) true
         (raw index log.now snapshot.now)).answer }
 {
     answers::read_said(reading::read_decided_suffix_reply(index, log, snapshot, from))
@@ -121,7 +121,7 @@ pub extern "C" fn kotuseraw_get_suffix(
     from: LogIndex,
 ) -> Said
     ensures { result
-        ≡ plain a_span (run (query (getSuffix from.0)) true
+        ≡ plain a_span (run (query (get_suffix from.0)) true
         (raw index log.now snapshot.now)).answer }
 {
     answers::span_said(reading::get_suffix_reply(index, log, snapshot, from))

@@ -18,7 +18,7 @@ use Rattle.state_cache.specs.State.{raw, sign_or, index_of, Raw}
 use Rattle.state_cache.specs.Run.{outcome}
 use Rattle.state_cache.specs.declared.IndexRecord.{IndexRecord}
 use Rattle.state_cache.proofs.Stands.{Stands, stands_raw}
-use Rattle.image.specs.Layout.{key_mark, entry_mark, head_fields, head_size, Rec, keyRec, entryRec, stop_rec}
+use Rattle.image.specs.Layout.{key_mark, entry_mark, head_fields, head_size, Rec, key_rec, entry_rec, stop_rec}
 use Rattle.image.specs.Layout.{change_fields, change_widths, change_size, run_bytes}
 use Rattle.image.specs.Image.{metadata_held, head_of, stop_recs, image_of}
 use Rattle.image.specs.Reading.{head_at, change_from, sign_at, sound_at, iff, rec_formed}
@@ -84,8 +84,8 @@ changes_back mark m (c ∷ cs) rest t e =
 
 -- the stop-sign, where one is held
 abbrev sign_in : Rec → StopSign
-sign_in (keyRec c) = no_sign
-sign_in (entryRec c) = no_sign
+sign_in (key_rec c) = no_sign
+sign_in (entry_rec c) = no_sign
 sign_in (stop_rec g) = g
 
 stop_formed : (g : StopSign) → sign_formed g ≡ true → rec_formed 0 (Stop g.metadata_held) (stop_rec g) ≡ true
@@ -144,9 +144,9 @@ module _ (size : ℕ) (bs log snapshot : List ℕ) (b : are_bytes bs ≡ true) (
   unfolding image_of
   parts =
       sym (ap (λ (l : List ℕ). sealed (head_fields (head_of s)) ++ l)
-      (run_changes key_mark keyRec (λ c. refl) ks (map entryRec es ++ stop_recs s.tail.sign)
+      (run_changes key_mark key_rec (λ c. refl) ks (map entry_rec es ++ stop_recs s.tail.sign)
       ∙ ap (λ (l : List ℕ). changes_bytes key_mark ks ++ l)
-      (run_changes entry_mark entryRec (λ c. refl) es (stop_recs s.tail.sign))))
+      (run_changes entry_mark entry_rec (λ c. refl) es (stop_recs s.tail.sign))))
       ∙ told.image
 
   after_head : drop head_size bs ≡ changes_bytes key_mark ks ++ tail

@@ -20,7 +20,7 @@ use Rattle.entry.specs.Change.{Change, change_formed, change_code}
 use Rattle.entry.specs.Sign.{sign_formed}
 use Rattle.entry.proofs.ChangeLaws.{change_ok}
 use Rattle.entry.specs.declared.StopSign.{StopSign}
-use Rattle.image.specs.Layout.{key_mark, entry_mark, stop_mark, Rec, keyRec, entryRec, stop_rec, change_fields}
+use Rattle.image.specs.Layout.{key_mark, entry_mark, stop_mark, Rec, key_rec, entry_rec, stop_rec, change_fields}
 use Rattle.image.specs.Layout.{fields_of, rec_bytes, change_widths, stop_widths}
 use Rattle.image.specs.Reading.{mark_of, nodes_at, metadata_at, widths_at, change_from, sign_from, sign_at, rec_at, iff}
 use Rattle.image.specs.Reading.{rec_formed, sound_at}
@@ -29,8 +29,8 @@ use Rattle.image.specs.declared.Want.{Want}
 use Rattle.image.specs.declared.Want.TheVariants.{Key, Entry, Stop}
 
 abbrev pub rec_typed : Rec → Bool
-rec_typed (keyRec c) = change_typed c
-rec_typed (entryRec c) = change_typed c
+rec_typed (key_rec c) = change_typed c
+rec_typed (entry_rec c) = change_typed c
 rec_typed (stop_rec g) = sign_typed g
 
 pub false_true : {A : Type 0} → false ≡ true → A
@@ -356,16 +356,16 @@ stop_typed m bs e h k =
 
 pub rec_back : (f : ℕ) (w : Want) (r : Rec) (rest : List ℕ) → rec_typed r ≡ true → rec_formed f w r ≡ true
     → rec_at w (rec_bytes r ++ rest) ≡ r
-rec_back f Key (keyRec c) rest t e =
+rec_back f Key (key_rec c) rest t e =
     let q : change_formed c ≡ true = and_right (leb f c.key) _ e in
-    ap keyRec (change_back key_mark c rest (change_fits key_mark c refl t) q)
-rec_back f Key (entryRec c) rest t e = false_true e
+    ap key_rec (change_back key_mark c rest (change_fits key_mark c refl t) q)
+rec_back f Key (entry_rec c) rest t e = false_true e
 rec_back f Key (stop_rec g) rest t e = false_true e
-rec_back f Entry (keyRec c) rest t e = false_true e
-rec_back f Entry (entryRec c) rest t e = ap entryRec (change_back entry_mark c rest (change_fits entry_mark c refl t) e)
+rec_back f Entry (key_rec c) rest t e = false_true e
+rec_back f Entry (entry_rec c) rest t e = ap entry_rec (change_back entry_mark c rest (change_fits entry_mark c refl t) e)
 rec_back f Entry (stop_rec g) rest t e = false_true e
-rec_back f (Stop m) (keyRec c) rest t e = false_true e
-rec_back f (Stop m) (entryRec c) rest t e = false_true e
+rec_back f (Stop m) (key_rec c) rest t e = false_true e
+rec_back f (Stop m) (entry_rec c) rest t e = false_true e
 rec_back f (Stop m) (stop_rec g) rest t e =
     stop_back m g rest (signed_of g t (and_right (iff m g.metadata_held) _ e))
     (iff_same m g.metadata_held (and_left _ _ e))
@@ -385,14 +385,14 @@ rec_sound f w r rest t e =
   where
     shut : (w : Want) (r : Rec) → rec_typed r ≡ true → rec_formed f w r ≡ true
         → is_sealed (widths_at w (rec_bytes r ++ rest)) (rec_bytes r ++ rest) ≡ true
-    shut Key (keyRec c) t e = sealed_is (change_fields key_mark c) rest
-    shut Key (entryRec c) t e = false_true e
+    shut Key (key_rec c) t e = sealed_is (change_fields key_mark c) rest
+    shut Key (entry_rec c) t e = false_true e
     shut Key (stop_rec g) t e = false_true e
-    shut Entry (keyRec c) t e = false_true e
-    shut Entry (entryRec c) t e = sealed_is (change_fields entry_mark c) rest
+    shut Entry (key_rec c) t e = false_true e
+    shut Entry (entry_rec c) t e = sealed_is (change_fields entry_mark c) rest
     shut Entry (stop_rec g) t e = false_true e
-    shut (Stop m) (keyRec c) t e = false_true e
-    shut (Stop m) (entryRec c) t e = false_true e
+    shut (Stop m) (key_rec c) t e = false_true e
+    shut (Stop m) (entry_rec c) t e = false_true e
     shut (Stop m) (stop_rec g) t e =
         let s : Signed g = signed_of g t (and_right (iff m g.metadata_held) _ e) in
         ap₂ (λ (n l : ℕ). is_sealed (stop_widths n l) (rec_bytes (stop_rec g) ++ rest)) (nodes_at_lem g s rest)
@@ -402,14 +402,14 @@ rec_sound f w r rest t e =
 
     mark : (w : Want) (r : Rec) → rec_typed r ≡ true → rec_formed f w r ≡ true
         → value (take 2 (rec_bytes r ++ rest)) ≡ mark_of w
-    mark Key (keyRec c) t e = marked key_mark _ rest (omega arith)
-    mark Key (entryRec c) t e = false_true e
+    mark Key (key_rec c) t e = marked key_mark _ rest (omega arith)
+    mark Key (entry_rec c) t e = false_true e
     mark Key (stop_rec g) t e = false_true e
-    mark Entry (keyRec c) t e = false_true e
-    mark Entry (entryRec c) t e = marked entry_mark _ rest (omega arith)
+    mark Entry (key_rec c) t e = false_true e
+    mark Entry (entry_rec c) t e = marked entry_mark _ rest (omega arith)
     mark Entry (stop_rec g) t e = false_true e
-    mark (Stop m) (keyRec c) t e = false_true e
-    mark (Stop m) (entryRec c) t e = false_true e
+    mark (Stop m) (key_rec c) t e = false_true e
+    mark (Stop m) (entry_rec c) t e = false_true e
     mark (Stop m) (stop_rec g) t e = marked stop_mark _ rest (omega arith)
 
 pub record Counts (n l : ℕ) : Type 0 where

@@ -10,7 +10,7 @@ use Rattle.snapshot.specs.Folds.{climbs, rising}
 use Rattle.model.specs.Log.{given, if_given}
 use Rattle.image.proofs.RecLaws.{false_true, iff_self, iff_same, rec_typed}
 use Rattle.image.proofs.RunLaws.{matches}
-use Rattle.image.specs.Layout.{Rec, keyRec, entryRec, stop_rec}
+use Rattle.image.specs.Layout.{Rec, key_rec, entry_rec, stop_rec}
 use Rattle.image.specs.Image.{metadata_held, stop_recs}
 use Rattle.image.specs.Reading.{stop_wants, floor_after, iff, rec_formed, keys_in, entries_in, sign_in}
 use Rattle.image.specs.Typed.{change_typed, sign_typed}
@@ -37,7 +37,7 @@ rising_from_lem (d ∷ s) = climbs_from d.key s
 
 pub keys_join : (ks : List Change) (f : ℕ) (ws : List Want) (more : List Rec) → rising_from f ks ≡ true
     → entries_formed ks ≡ true
-    → ((g : ℕ) → matches g ws more ≡ true) → matches f (replicate (length ks) Key ++ ws) (map keyRec ks ++ more) ≡ true
+    → ((g : ℕ) → matches g ws more ≡ true) → matches f (replicate (length ks) Key ++ ws) (map key_rec ks ++ more) ≡ true
 unfolding rising_from matches all_of
 keys_join [] f ws more r e h = h f
 keys_join (c ∷ ks) f ws more r e h =
@@ -46,7 +46,7 @@ keys_join (c ∷ ks) f ws more r e h =
 
 pub entries_join : (es : List Change) (f : ℕ) (ws : List Want) (more : List Rec) → entries_formed es ≡ true
     → ((g : ℕ) → matches g ws more ≡ true)
-    → matches f (replicate (length es) Entry ++ ws) (map entryRec es ++ more) ≡ true
+    → matches f (replicate (length es) Entry ++ ws) (map entry_rec es ++ more) ≡ true
 unfolding matches all_of
 entries_join [] f ws more e h = h f
 entries_join (c ∷ es) f ws more e h =
@@ -73,7 +73,7 @@ pub record KeySplit (k f : ℕ) (ws : List Want) (rs : List Rec) : Type 0 where
   pub keys : List Change
   pub more : List Rec
   pub floor : ℕ
-  pub is : rs ≡ map keyRec keys ++ more
+  pub is : rs ≡ map key_rec keys ++ more
   pub long : length keys ≡ k
   pub rises : rising_from f keys ≡ true
   pub fine : entries_formed keys ≡ true
@@ -85,7 +85,7 @@ unfolding rising_from matches all_of
 keys_split zero f ws rs e = record
     { keys = []; more = rs; floor = f; is = refl; long = refl; rises = refl; fine = refl; next = e }
 keys_split (suc k) f ws [] e = false_true e
-keys_split (suc k) f ws (keyRec c ∷ rs) e =
+keys_split (suc k) f ws (key_rec c ∷ rs) e =
     let a : (leb f c.key && change_formed c) ≡ true = and_left _ _ e in
     let s : KeySplit k (suc c.key) ws rs = keys_split k (suc c.key) ws rs
     (and_right (leb f c.key && change_formed c) _ e) in
@@ -93,20 +93,20 @@ keys_split (suc k) f ws (keyRec c ∷ rs) e =
       keys = c ∷ s.keys;
       more = s.more;
       floor = s.floor;
-      is = ap (λ (l : List Rec). keyRec c ∷ l) s.is;
+      is = ap (λ (l : List Rec). key_rec c ∷ l) s.is;
       long = ap suc s.long;
       rises = both_true (leb f c.key) _ (and_left _ _ a) s.rises;
       fine = both_true (change_formed c) _ (and_right (leb f c.key) _ a) s.fine;
       next = s.next;
     }
-keys_split (suc k) f ws (entryRec c ∷ rs) e = false_true e
+keys_split (suc k) f ws (entry_rec c ∷ rs) e = false_true e
 keys_split (suc k) f ws (stop_rec g ∷ rs) e = false_true e
 
 pub record EntrySplit (n : ℕ) (ws : List Want) (rs : List Rec) : Type 0 where
   pub entries : List Change
   pub more : List Rec
   pub floor : ℕ
-  pub is : rs ≡ map entryRec entries ++ more
+  pub is : rs ≡ map entry_rec entries ++ more
   pub long : length entries ≡ n
   pub fine : entries_formed entries ≡ true
   pub next : matches floor ws more ≡ true
@@ -117,18 +117,18 @@ unfolding matches all_of
 entries_split zero f ws rs e = record
     { entries = []; more = rs; floor = f; is = refl; long = refl; fine = refl; next = e }
 entries_split (suc n) f ws [] e = false_true e
-entries_split (suc n) f ws (entryRec c ∷ rs) e =
+entries_split (suc n) f ws (entry_rec c ∷ rs) e =
     let s : EntrySplit n ws rs = entries_split n f ws rs (and_right (change_formed c) _ e) in
     record {
       entries = c ∷ s.entries;
       more = s.more;
       floor = s.floor;
-      is = ap (λ (l : List Rec). entryRec c ∷ l) s.is;
+      is = ap (λ (l : List Rec). entry_rec c ∷ l) s.is;
       long = ap suc s.long;
       fine = both_true (change_formed c) _ (and_left _ _ e) s.fine;
       next = s.next;
     }
-entries_split (suc n) f ws (keyRec c ∷ rs) e = false_true e
+entries_split (suc n) f ws (key_rec c ∷ rs) e = false_true e
 entries_split (suc n) f ws (stop_rec g ∷ rs) e = false_true e
 
 pub record StopSplit (t m : Bool) (rs : List Rec) : Type 0 where
@@ -148,8 +148,8 @@ unfolding matches
 stop_split false m f [] q e = record { sign = none; is = refl; held = refl; metadata = not_held m q; fine = refl }
 stop_split false m f (r ∷ rs) q e = false_true e
 stop_split true m f [] q e = false_true e
-stop_split true m f (keyRec c ∷ rs) q e = false_true e
-stop_split true m f (entryRec c ∷ rs) q e = false_true e
+stop_split true m f (key_rec c ∷ rs) q e = false_true e
+stop_split true m f (entry_rec c ∷ rs) q e = false_true e
 stop_split true m f (stop_rec g ∷ []) q e =
     let a : (iff m g.metadata_held && sign_formed g) ≡ true = and_left _ true e in
     record {
@@ -165,21 +165,21 @@ stop_split true m f (stop_rec g ∷ r ∷ rs) q e = false_true
 -- ---- the parts of a run
 
 pub keys_in : (ks es : List Change) (g : Option StopSign)
-    → keys_in (map keyRec ks ++ (map entryRec es ++ stop_recs g)) ≡ ks
+    → keys_in (map key_rec ks ++ (map entry_rec es ++ stop_recs g)) ≡ ks
 keys_in [] [] none = refl
 keys_in [] [] (some g) = refl
 keys_in [] (c ∷ es) g = keys_in [] es g
 keys_in (c ∷ ks) es g = ap (λ (l : List Change). c ∷ l) (keys_in ks es g)
 
 pub entries_in_lem : (ks es : List Change) (g : Option StopSign)
-    → entries_in (map keyRec ks ++ (map entryRec es ++ stop_recs g)) ≡ es
+    → entries_in (map key_rec ks ++ (map entry_rec es ++ stop_recs g)) ≡ es
 entries_in_lem [] [] none = refl
 entries_in_lem [] [] (some g) = refl
 entries_in_lem [] (c ∷ es) g = ap (λ (l : List Change). c ∷ l) (entries_in_lem [] es g)
 entries_in_lem (c ∷ ks) es g = entries_in_lem ks es g
 
 pub sign_in_lem : (ks es : List Change) (g : Option StopSign)
-    → sign_in (map keyRec ks ++ (map entryRec es ++ stop_recs g)) ≡ g
+    → sign_in (map key_rec ks ++ (map entry_rec es ++ stop_recs g)) ≡ g
 sign_in_lem [] [] none = refl
 sign_in_lem [] [] (some g) = refl
 sign_in_lem [] (c ∷ es) g = sign_in_lem [] es g
@@ -187,14 +187,14 @@ sign_in_lem (c ∷ ks) es g = sign_in_lem ks es g
 
 -- types
 pub keys_typed : (ks : List Change) (more : List Rec) → all_of change_typed ks ≡ true → all_of rec_typed more ≡ true
-    → all_of rec_typed (map keyRec ks ++ more) ≡ true
+    → all_of rec_typed (map key_rec ks ++ more) ≡ true
 unfolding all_of
 keys_typed [] more t e = e
 keys_typed (c ∷ ks) more t e = both_true (change_typed c) _ (and_left _ _ t)
     (keys_typed ks more (and_right (change_typed c) _ t) e)
 
 pub entries_typed : (es : List Change) (more : List Rec) → all_of change_typed es ≡ true → all_of rec_typed more ≡ true
-    → all_of rec_typed (map entryRec es ++ more) ≡ true
+    → all_of rec_typed (map entry_rec es ++ more) ≡ true
 unfolding all_of
 entries_typed [] more t e = e
 entries_typed (c ∷ es) more t e = both_true (change_typed c) _ (and_left _ _ t)
@@ -211,7 +211,7 @@ pub record PartsTyped (ks es : List Change) (g : Option StopSign) : Type 0 where
   pub sign : if_given sign_typed g ≡ true
 
 pub parts_typed : (ks es : List Change) (g : Option StopSign)
-    → all_of rec_typed (map keyRec ks ++ (map entryRec es ++ stop_recs g)) ≡ true → PartsTyped ks es g
+    → all_of rec_typed (map key_rec ks ++ (map entry_rec es ++ stop_recs g)) ≡ true → PartsTyped ks es g
 unfolding all_of
 parts_typed [] [] none e = record { keys = refl; entries = refl; sign = refl }
 parts_typed [] [] (some g) e = record { keys = refl; entries = refl; sign = and_left (sign_typed g) true e }

@@ -13,7 +13,7 @@ use Rattle.entry.specs.Limits.{most_nodes, most_metadata}
 use Rattle.model.specs.Log.{Log, well_formed}
 use Rattle.model.proofs.Forms.{Formed, formed_of}
 use Rattle.image.specs.Layout.{key_mark, entry_mark, head_fields, head_size, change_size, stop_size, image_room, Rec}
-use Rattle.image.specs.Layout.{keyRec, entryRec, stop_rec, fields_of, rec_bytes, run_bytes}
+use Rattle.image.specs.Layout.{key_rec, entry_rec, stop_rec, fields_of, rec_bytes, run_bytes}
 use Rattle.image.specs.Image.{head_of, recs_of, image_of}
 use Rattle.image.specs.Reading.{iff, stop_wants, wants, rec_at, floor_after, rec_formed, sound_at, sound_run}
 use Rattle.image.specs.Typed.{Typed}
@@ -35,14 +35,14 @@ most Entry = change_size
 most (Stop m) = stop_size most_nodes most_metadata
 
 pub most_is : (f : ℕ) (w : Want) (r : Rec) → rec_typed r ≡ true → rec_formed f w r ≡ true → length (rec_bytes r) ≤ most w
-most_is f Key (keyRec c) t e = omega (arith, change_long key_mark c)
-most_is f Key (entryRec c) t e = false_true e
+most_is f Key (key_rec c) t e = omega (arith, change_long key_mark c)
+most_is f Key (entry_rec c) t e = false_true e
 most_is f Key (stop_rec g) t e = false_true e
-most_is f Entry (keyRec c) t e = false_true e
-most_is f Entry (entryRec c) t e = omega (arith, change_long entry_mark c)
+most_is f Entry (key_rec c) t e = false_true e
+most_is f Entry (entry_rec c) t e = omega (arith, change_long entry_mark c)
 most_is f Entry (stop_rec g) t e = false_true e
-most_is f (Stop m) (keyRec c) t e = false_true e
-most_is f (Stop m) (entryRec c) t e = false_true e
+most_is f (Stop m) (key_rec c) t e = false_true e
+most_is f (Stop m) (entry_rec c) t e = false_true e
 most_is f (Stop m) (stop_rec g) t e =
     let s : Signed g = signed_of g t (and_right (iff m g.metadata_held) _ e) in
     omega (arith, stop_long g (record { few = s.most; short = s.bytes }) s.long s.wide, s.most, s.bytes)

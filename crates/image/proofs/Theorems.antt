@@ -29,7 +29,7 @@ use Rattle.image.proofs.Shapes.{rising_from_lem, keys_join, entries_join, stop_j
 use Rattle.image.proofs.Shapes.{keys_split, EntrySplit, entries_split, StopSplit, stop_split, keys_in}
 use Rattle.image.proofs.Shapes.{entries_in_lem, sign_in_lem, keys_typed, entries_typed, stop_typed, PartsTyped}
 use Rattle.image.proofs.Shapes.{parts_typed}
-use Rattle.image.specs.Layout.{head_mark, head_fields, Rec, keyRec, entryRec, run_bytes, head_size}
+use Rattle.image.specs.Layout.{head_mark, head_fields, Rec, key_rec, entry_rec, run_bytes, head_size}
 use Rattle.image.specs.Image.{metadata_held, head_of, stop_recs, recs_of, image_of}
 use Rattle.image.specs.Reading.{head_at, head_numbers, head_formed, head_sound, stop_wants, wants, sound_run, run_of}
 use Rattle.image.specs.Reading.{run_end, whole, keys_in, entries_in, sign_in, state_from}
@@ -103,7 +103,7 @@ module _ (s : Log) (f : Formed s) where
       let k : Snapshot (or_empty s.run.held) = snapshot_held_lem s.run.held f.snapshot in
       keys_join (or_empty s.run.held) 0
       (replicate (length s.run.retained) _ ++ stop_wants (given s.tail.sign) (metadata_held s.tail.sign))
-      (map entryRec s.run.retained ++ stop_recs s.tail.sign)
+      (map entry_rec s.run.retained ++ stop_recs s.tail.sign)
       (sym (rising_from_lem (or_empty s.run.held)) ∙ k.rises) k.fine
       (λ g. entries_join s.run.retained g (stop_wants (given s.tail.sign) (metadata_held s.tail.sign))
       (stop_recs s.tail.sign) f.entries
@@ -111,7 +111,7 @@ module _ (s : Log) (f : Formed s) where
 
   pub rec_types : Typed s → all_of rec_typed (recs_of s) ≡ true
   rec_types t =
-      keys_typed (or_empty s.run.held) (map entryRec s.run.retained ++ stop_recs s.tail.sign) t.keys
+      keys_typed (or_empty s.run.held) (map entry_rec s.run.retained ++ stop_recs s.tail.sign) t.keys
       (entries_typed s.run.retained (stop_recs s.tail.sign) t.entries (stop_typed s.tail.sign t.sign))
 
 -- ---- guards
@@ -277,9 +277,9 @@ module _ (size : ℕ) (h : Head) (rs : List Rec) (n : size ≤ largest_batch) (x
   abbrev sq : StopSplit h.stop h.metadata eq.more
   sq = stop_split h.stop h.metadata eq.floor eq.more x.metadata eq.next
 
-  rs_is : rs ≡ map keyRec kq.keys ++ (map entryRec eq.entries ++ stop_recs sq.sign)
-  rs_is = kq.is ∙ ap (λ (l : List Rec). map keyRec kq.keys ++ l)
-      (eq.is ∙ ap (λ (l : List Rec). map entryRec eq.entries ++ l) sq.is)
+  rs_is : rs ≡ map key_rec kq.keys ++ (map entry_rec eq.entries ++ stop_recs sq.sign)
+  rs_is = kq.is ∙ ap (λ (l : List Rec). map key_rec kq.keys ++ l)
+      (eq.is ∙ ap (λ (l : List Rec). map entry_rec eq.entries ++ l) sq.is)
 
   keys_are : keys_in rs ≡ kq.keys
   keys_are = ap keys_in rs_is ∙ keys_in kq.keys eq.entries sq.sign
@@ -307,8 +307,8 @@ module _ (size : ℕ) (h : Head) (rs : List Rec) (n : size ≤ largest_batch) (x
 
   recs_same : recs_of made ≡ rs
   recs_same =
-      ap₂ (λ (a b : List Change). map keyRec a ++ (map entryRec b ++ stop_recs (sign_in rs))) keys_held_are entries_are
-      ∙ ap (λ (g : Option StopSign). map keyRec kq.keys ++ (map entryRec eq.entries ++ stop_recs g)) sign-is
+      ap₂ (λ (a b : List Change). map key_rec a ++ (map entry_rec b ++ stop_recs (sign_in rs))) keys_held_are entries_are
+      ∙ ap (λ (g : Option StopSign). map key_rec kq.keys ++ (map entry_rec eq.entries ++ stop_recs g)) sign-is
       ∙ sym rs_is
 
   given_if : (t : Bool) (l : List Change) → given (if t then some l else none) ≡ t

@@ -19,7 +19,7 @@ use Rattle.model.specs.Log.{Log, if_given, or_empty}
 use Rattle.model.proofs.Forms.{Formed, formed_of, snapshot_held_lem}
 use Rattle.state_cache.specs.State.{Raw, formed, log_of, sign_or}
 use Rattle.state_cache.proofs.Stands.{Stands, stands_of, log_formed, numbers_are}
-use Rattle.image.specs.Layout.{key_mark, entry_mark, head_fields, head_size, Rec, keyRec, entryRec, change_fields}
+use Rattle.image.specs.Layout.{key_mark, entry_mark, head_fields, head_size, Rec, key_rec, entry_rec, change_fields}
 use Rattle.image.specs.Layout.{change_size, stop_size, rec_bytes, run_bytes}
 use Rattle.image.specs.Image.{metadata_held, head_of, stop_recs, image_of}
 use Rattle.image.specs.Calls.{write_call, read_image, ReadsBack}
@@ -121,10 +121,10 @@ module _ (r : Raw) (ok : formed r ≡ true) where
   unfolding image_of log_of
   image_is =
       ap₂ (λ (h : Head) (l : List ℕ). sealed (head_fields h) ++ l) head_is
-      (run_changes key_mark keyRec (λ c. refl) (or_empty s.run.held)
-      (map entryRec s.run.retained ++ stop_recs s.tail.sign)
+      (run_changes key_mark key_rec (λ c. refl) (or_empty s.run.held)
+      (map entry_rec s.run.retained ++ stop_recs s.tail.sign)
       ∙ ap₂ (λ (cs : List Change) (l : List ℕ). changes_bytes key_mark cs ++ l) keys_are
-      (run_changes entry_mark entryRec (λ c. refl) s.run.retained (stop_recs s.tail.sign)
+      (run_changes entry_mark entry_rec (λ c. refl) s.run.retained (stop_recs s.tail.sign)
       ∙ ap (λ (l : List ℕ). entries ++ l) (run_stop r.index.stop_held r.index.stop)))
 
   module _ (long : length r.index.stop.nodes ≡ most_nodes)

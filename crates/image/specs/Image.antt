@@ -5,7 +5,7 @@ use Rattle.records.specs.Sealed.{sealed}
 use Rattle.entry.specs.declared.StopSign.{StopSign}
 use Rattle.model.specs.Numbers.{accepted_of}
 use Rattle.model.specs.Log.{Log, given, numbers_of, or_empty}
-use Rattle.image.specs.Layout.{head_fields, Rec, keyRec, entryRec, stop_rec, run_bytes}
+use Rattle.image.specs.Layout.{head_fields, Rec, key_rec, entry_rec, stop_rec, run_bytes}
 use Rattle.image.specs.declared.Head.{Head}
 
 abbrev pub metadata_held : Option StopSign → Bool
@@ -31,7 +31,7 @@ stop_recs none = []
 stop_recs (some g) = stop_rec g ∷ []
 
 abbrev pub recs_of : Log → List Rec
-recs_of s = map keyRec (or_empty s.run.held) ++ (map entryRec s.run.retained ++ stop_recs s.tail.sign)
+recs_of s = map key_rec (or_empty s.run.held) ++ (map entry_rec s.run.retained ++ stop_recs s.tail.sign)
 
 unfoldable pub image_of : Log → List ℕ
 image_of s = sealed (head_fields (head_of s)) ++ run_bytes (recs_of s)

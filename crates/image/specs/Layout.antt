@@ -52,7 +52,7 @@ head_fields h =
 
 -- the records after it
 pub data Rec : Type 0 where
-  keyRec entryRec : Change → Rec
+  key_rec entry_rec : Change → Rec
   stop_rec : StopSign → Rec
 
 -- "Key and entry records are two 64-bit words. Stop-sign: configuration id (32), node count (8), nodes (64 each),
@@ -69,8 +69,8 @@ stop_fields g =
     ++ (field 1 g.metadata_len ∷ map (field 1) (take g.metadata_len g.metadata)))
 
 abbrev pub fields_of : Rec → List Field
-fields_of (keyRec c) = change_fields key_mark c
-fields_of (entryRec c) = change_fields entry_mark c
+fields_of (key_rec c) = change_fields key_mark c
+fields_of (entry_rec c) = change_fields entry_mark c
 fields_of (stop_rec g) = stop_fields g
 
 abbrev pub rec_bytes : Rec → List ℕ

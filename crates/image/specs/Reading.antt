@@ -13,7 +13,7 @@ use Rattle.entry.specs.declared.StopSign.{StopSign}
 use Rattle.model.specs.Numbers.{Numbers, accepted_of, numbers_formed}
 use Rattle.model.specs.Log.{Log}
 use Rattle.image.specs.Layout.{key_mark, entry_mark, stop_mark, bit_held, head_size, head_widths, change_widths}
-use Rattle.image.specs.Layout.{stop_widths, Rec, keyRec, entryRec, stop_rec, rec_bytes, run_bytes}
+use Rattle.image.specs.Layout.{stop_widths, Rec, key_rec, entry_rec, stop_rec, rec_bytes, run_bytes}
 use Rattle.image.specs.declared.Head.{Head}
 use Rattle.image.specs.declared.Want.{Want}
 use Rattle.image.specs.declared.Want.TheVariants.{Key, Entry, Stop}
@@ -108,14 +108,14 @@ sign_at m bs =
     sign_from m (nodes_at bs) (metadata_at bs) (unpacked (stop_widths (nodes_at bs) (metadata_at bs)) bs)
 
 abbrev pub rec_at : Want → List ℕ → Rec
-rec_at Key bs = keyRec (change_from (unpacked change_widths bs))
-rec_at Entry bs = entryRec (change_from (unpacked change_widths bs))
+rec_at Key bs = key_rec (change_from (unpacked change_widths bs))
+rec_at Entry bs = entry_rec (change_from (unpacked change_widths bs))
 rec_at (Stop m) bs = stop_rec (sign_at m bs)
 
 -- "a key out of order spoils its record": a key is at least the floor, and the next floor is one above it
 abbrev pub floor_after : ℕ → Rec → ℕ
-floor_after f (keyRec c) = suc c.key
-floor_after f (entryRec c) = f
+floor_after f (key_rec c) = suc c.key
+floor_after f (entry_rec c) = f
 floor_after f (stop_rec g) = f
 
 abbrev pub iff : Bool → Bool → Bool
@@ -123,14 +123,14 @@ iff true b = b
 iff false b = not b
 
 abbrev pub rec_formed : ℕ → Want → Rec → Bool
-rec_formed f Key (keyRec c) = leb f c.key && change_formed c
-rec_formed f Key (entryRec c) = false
+rec_formed f Key (key_rec c) = leb f c.key && change_formed c
+rec_formed f Key (entry_rec c) = false
 rec_formed f Key (stop_rec g) = false
-rec_formed f Entry (keyRec c) = false
-rec_formed f Entry (entryRec c) = change_formed c
+rec_formed f Entry (key_rec c) = false
+rec_formed f Entry (entry_rec c) = change_formed c
 rec_formed f Entry (stop_rec g) = false
-rec_formed f (Stop m) (keyRec c) = false
-rec_formed f (Stop m) (entryRec c) = false
+rec_formed f (Stop m) (key_rec c) = false
+rec_formed f (Stop m) (entry_rec c) = false
 rec_formed f (Stop m) (stop_rec g) = iff m g.metadata_held && sign_formed g
 
 unfoldable pub sound_at : ℕ → Want → List ℕ → Bool
@@ -159,20 +159,20 @@ whole h bs = eqb (length (run_of h bs)) (length (wants h)) && eqb (run_end h bs)
 
 abbrev pub keys_in : List Rec → List Change
 keys_in [] = []
-keys_in (keyRec c ∷ rs) = c ∷ keys_in rs
-keys_in (entryRec c ∷ rs) = keys_in rs
+keys_in (key_rec c ∷ rs) = c ∷ keys_in rs
+keys_in (entry_rec c ∷ rs) = keys_in rs
 keys_in (stop_rec g ∷ rs) = keys_in rs
 
 abbrev pub entries_in : List Rec → List Change
 entries_in [] = []
-entries_in (keyRec c ∷ rs) = entries_in rs
-entries_in (entryRec c ∷ rs) = c ∷ entries_in rs
+entries_in (key_rec c ∷ rs) = entries_in rs
+entries_in (entry_rec c ∷ rs) = c ∷ entries_in rs
 entries_in (stop_rec g ∷ rs) = entries_in rs
 
 abbrev pub sign_in : List Rec → Option StopSign
 sign_in [] = none
-sign_in (keyRec c ∷ rs) = sign_in rs
-sign_in (entryRec c ∷ rs) = sign_in rs
+sign_in (key_rec c ∷ rs) = sign_in rs
+sign_in (entry_rec c ∷ rs) = sign_in rs
 sign_in (stop_rec g ∷ rs) = some g
 
 abbrev pub state_from : ℕ → Head → List Rec → Log

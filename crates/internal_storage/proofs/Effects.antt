@@ -13,7 +13,7 @@ use Rattle.model.specs.Numbers.{Numbers, accepted_of}
 use Rattle.model.specs.Log.{Log, if_given, numbers_of, waiting, with_tail}
 use Rattle.model.specs.Append.{Flushed, append_guards, append_stop_guards, set_stop_guards, joined, batch_with, fills}
 use Rattle.model.specs.Append.{appended, appended_now, flushed, stop_appended, stop_set, append_reply, flush_reply}
-use Rattle.model.specs.Calls.{Call, Reply, append, appendNow, flush, flushEntries, append_stop, set_stop, set_promise}
+use Rattle.model.specs.Calls.{Call, Reply, append, append_now, flush, flush_entries, append_stop, set_stop, set_promise}
 use Rattle.model.specs.Calls.{decide, malformed, further, effect, reply_of}
 use Rattle.model.specs.Inner.{Sound}
 use Rattle.state_cache.specs.{State.Raw, State.raw, State.numbers_in, State.formed, State.log_of, Inner.Small}
@@ -137,7 +137,7 @@ module _ (r : Raw) (ok : formed r ≡ true) where
     snapshot = st.snapshot;
   }
 
-  pub flush_says_lem : flush_says r.index ≡ reply_of flushEntries s
+  pub flush_says_lem : flush_says r.index ≡ reply_of flush_entries s
   unfolding reply_of flush_reply flush_says
   flush_says_lem =
       ap₂ (λ (k a : ℕ). if eqb k 0 then none else some (record { accepted = a; count = k })) (sym st.tail.count)
@@ -146,11 +146,11 @@ module _ (r : Raw) (ok : formed r ≡ true) where
 
   pub flush_entries_run : (a : Answer (Option Flushed)) (x : IndexRecord) → a ≡ replied (flush_says r.index)
       → x ≡ all_flushed r.index
-      → outcome a (raw x r.log r.snapshot) ≡ run flushEntries true r
+      → outcome a (raw x r.log r.snapshot) ≡ run flush_entries true r
   unfolding further malformed effect
   flush_entries_run a x e p =
       ap₂ (λ (b : Answer (Option Flushed)) (z : IndexRecord). outcome b (raw z r.log r.snapshot)) e p
-      ∙ quiet_stands flushEntries refl refl (flush_says r.index)
+      ∙ quiet_stands flush_entries refl refl (flush_says r.index)
       (raw (all_flushed r.index) r.log r.snapshot) flush_says_lem flushed_stands
 
   pub flush_run : (y : ℕ) (x : IndexRecord) → x ≡ all_flushed r.index → y ≡ accepted_of (numbers_in x)
@@ -334,10 +334,10 @@ module _ (r : Raw) (ok : formed r ≡ true) where
       pub now_run : entries_formed es ≡ true → passes ≡ first (append_guards n (numbers_in r.index)) → (y : ℕ)
           → y ≡ accepted_of (numbers_in (with_entries (r.index.retained + n) r.index.batched r.index))
           → outcome (replied y) (raw (with_entries (r.index.retained + n) r.index.batched r.index) words
-          r.snapshot) ≡ run (appendNow es) true r
+          r.snapshot) ≡ run (append_now es) true r
       unfolding malformed further effect reply_of
       now_run fine pass y e =
-          call_stands (appendNow es) r ok (rw fine) (rw (many, numbers) pass) y
+          call_stands (append_now es) r ok (rw fine) (rw (many, numbers) pass) y
           (raw (with_entries (r.index.retained + n) r.index.batched r.index) words r.snapshot)
           (e ∙ ap accepted_of (sym (numbers_are (appended_now es s) (raw
           (with_entries (r.index.retained + n) r.index.batched r.index) words r.snapshot) now_stands)))
@@ -353,10 +353,10 @@ module _ (r : Raw) (ok : formed r ≡ true) (n : ℕ) (entries : List ℕ)
       call_refused (append (entries_of n entries)) r ok (rw fine) k m
       (rw (entries_length change_code n entries, numbers r ok) e)
 
-  pub now_refused : outcome (refused k m) r ≡ run (appendNow (entries_of n entries)) true r
+  pub now_refused : outcome (refused k m) r ≡ run (append_now (entries_of n entries)) true r
   unfolding malformed further
   now_refused =
-      call_refused (appendNow (entries_of n entries)) r ok (rw fine) k m
+      call_refused (append_now (entries_of n entries)) r ok (rw fine) k m
       (rw (entries_length change_code n entries, numbers r ok) e)
 
 -- an append that no refusal stops has room

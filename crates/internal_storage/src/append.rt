@@ -1,7 +1,7 @@
 // Appends of entries, with and without batching.
 ghost use Rattle.std.specs.Prelude.{◌≡◌, true, [], ◌∷◌};
 ghost use Rattle.entry.specs.Change.{said_is, entries_in, whole_in};
-ghost use Rattle.model.specs.Calls.{append, appendNow};
+ghost use Rattle.model.specs.Calls.{append, append_now};
 ghost use Rattle.state_cache.specs.State.{raw};
 ghost use Rattle.state_cache.specs.Run.{outcome, run, index_said};
 ghost use Rattle.internal_storage.specs.Replies.{append_said, maybe_index_said, with_index_only};
@@ -61,7 +61,7 @@ pub fn append_entries_without_batching(
     entries: &[u64],
 ) -> IndexAnswerAt
     ensures { outcome (index_said result.answer) (raw result.index log.new snapshot.now)
-        ≡ run (appendNow (entries_in entries.now)) (whole_in entries.now)
+        ≡ run (append_now (entries_in entries.now)) (whole_in entries.now)
         (raw index log.old snapshot.now) }
 {
     if !state_cache::well_formed(index, log, snapshot) {

@@ -5,7 +5,7 @@ ghost use Rattle.entry.specs.Guards.{first};
 ghost use Rattle.entry.specs.Limits.{entry_room};
 ghost use Rattle.entry.specs.Change.{entries_of};
 ghost use Rattle.model.specs.Append.{append_guards};
-ghost use Rattle.model.specs.Calls.{append, appendNow};
+ghost use Rattle.model.specs.Calls.{append, append_now};
 ghost use Rattle.model.specs.Inner.{Sound};
 ghost use Rattle.state_cache.specs.State.{raw, numbers_in};
 ghost use Rattle.state_cache.specs.Run.{outcome, run, index_said};
@@ -108,7 +108,7 @@ pub fn append_now_at(
 ) -> IndexAnswerAt
     requires { Appends (raw index log.old snapshot.now) n entries.now }
     ensures { outcome (index_said result.answer) (raw result.index log.new snapshot.now)
-        ≡ run (appendNow (entries_of n entries.now)) true
+        ≡ run (append_now (entries_of n entries.now)) true
         (raw index log.old snapshot.now) }
 {
     let check = check_append(index, n);

@@ -22,7 +22,7 @@ use Rattle.model.specs.Compact.{target, passes_start, folded_upto, compact_guard
 use Rattle.model.specs.Diff.{Given, plain, complete, delta}
 use Rattle.model.specs.Sync.{Part, part_formed, delta_onto, run_then, part_number_guards, part_guards, round_guards}
 use Rattle.model.specs.Sync.{part_synced}
-use Rattle.model.specs.Calls.{Call, query, append, appendNow, flush, flushEntries, append_stop, set_stop}
+use Rattle.model.specs.Calls.{Call, query, append, append_now, flush, flush_entries, append_stop, set_stop}
 use Rattle.model.specs.Calls.{set_promise, decide, compact, sync, reload, write, malformed, decide_guards}
 use Rattle.model.specs.Calls.{sync_guards, further, guards, synced, effect, after, state_after}
 use Rattle.model.proofs.Forms.{log_min, Formed, formed_of, of_formed, snapshot_held_lem, snapshot_merge, of_snapshot}
@@ -402,10 +402,10 @@ unfolding further malformed effect
 keeps (query q) s f p = of_formed s f
 keeps (append es) s f p =
     of_formed _ (append_keeps s f es (not-false (entries_formed es) (argued (append es) s p)) (cleared (append es) s p))
-keeps (appendNow es) s f p = of_formed _ (now_keeps s f es (not-false (entries_formed es) (argued (appendNow es) s p))
-    (cleared (appendNow es) s p))
+keeps (append_now es) s f p = of_formed _ (now_keeps s f es (not-false (entries_formed es) (argued (append_now es) s p))
+    (cleared (append_now es) s p))
 keeps flush s f p = of_formed _ (flush_keeps s f)
-keeps flushEntries s f p = of_formed _ (flush_keeps s f)
+keeps flush_entries s f p = of_formed _ (flush_keeps s f)
 keeps (append_stop g) s f p =
     of_formed _ (stop_keeps g s f (not-false (sign_formed g) (argued (append_stop g) s p)) (cleared (append_stop g) s p))
 keeps (set_stop g) s f p = of_formed _ (set_stop_keeps s f g (not-false (if_given sign_formed g) (argued (set_stop g) s p))

@@ -8,14 +8,14 @@ use Rattle.entry.specs.declared.Compaction.TheVariants.{Trim, Snapshot}
 use Rattle.model.specs.Numbers.{Numbers}
 use Rattle.model.specs.Log.{Log, numbers_of}
 use Rattle.model.specs.Append.{append_guards, append_stop_guards, set_stop_guards}
-use Rattle.model.specs.Backend.{Op, append_entries, appendOnPrefix, setDecided, setCompacted, trim as opTrim}
-use Rattle.model.specs.Backend.{set_promise as opPromise, setRound, setSign, setSnapshot, Lent, Midst, midst, step}
+use Rattle.model.specs.Backend.{Op, append_entries, append_on_prefix, set_decided, set_compacted, trim as op_trim}
+use Rattle.model.specs.Backend.{set_promise as op_promise, set_round, set_sign, set_snapshot, Lent, Midst, midst, step}
 use Rattle.model.specs.Backend.{step_guards, last_guards, op_guards, write_guards}
 use Rattle.model.specs.Compact.{compact_guards, create_guards}
 use Rattle.model.specs.Diff.{diff_guards}
 use Rattle.model.specs.Sync.{part_number_guards, part_guards, round_guards}
-use Rattle.model.specs.Calls.{Query, read, readDecided, getSuffix, create, diff, lookup, lookup_many, get_entries}
-use Rattle.model.specs.Calls.{Call, query, append, appendNow, flush, flushEntries, append_stop, set_stop}
+use Rattle.model.specs.Calls.{Query, read, read_decided, get_suffix, create, diff, lookup, lookup_many, get_entries}
+use Rattle.model.specs.Calls.{Call, query, append, append_now, flush, flush_entries, append_stop, set_stop}
 use Rattle.model.specs.Calls.{set_promise, decide, compact, sync, reload, write, decide_guards, sync_guards}
 use Rattle.model.specs.Calls.{query_guards, further, guards}
 use Rattle.model.specs.Orders.{query_order, op_order, ops_order, order_of, carries_of}
@@ -31,14 +31,14 @@ op_rows : (n : Numbers) (l : Lent) (ops : List Op) (o : Op) (m : Midst)
     → rows (step_guards n l o m) ≡ due (write l ops) n (op_order o)
 unfolding step_guards carries_of
 op_rows n l ops append_entries m = refl
-op_rows n l ops (appendOnPrefix i) m = refl
-op_rows n l ops (setDecided i) m = refl
-op_rows n l ops (setCompacted i) m = refl
-op_rows n l ops (opTrim i) m = refl
-op_rows n l ops (opPromise b) m = refl
-op_rows n l ops (setRound b) m = refl
-op_rows n l ops (setSign t) m = refl
-op_rows n l ops (setSnapshot t) m = refl
+op_rows n l ops (append_on_prefix i) m = refl
+op_rows n l ops (set_decided i) m = refl
+op_rows n l ops (set_compacted i) m = refl
+op_rows n l ops (op_trim i) m = refl
+op_rows n l ops (op_promise b) m = refl
+op_rows n l ops (set_round b) m = refl
+op_rows n l ops (set_sign t) m = refl
+op_rows n l ops (set_snapshot t) m = refl
 
 -- all is the whole list that the call is given, ops what is left of it
 ops_rows : (n : Numbers) (l : Lent) (all ops : List Op) (m : Midst)
@@ -54,8 +54,8 @@ ops_rows n l all (o ∷ ops) m =
 query_rows : (q : Query) (s : Log) → rows (query_guards q s) ≡ due (query q) (numbers_of s) (query_order q)
 unfolding query_guards carries_of
 query_rows (read a b) s = refl
-query_rows (readDecided i) s = refl
-query_rows (getSuffix i) s = refl
+query_rows (read_decided i) s = refl
+query_rows (get_suffix i) s = refl
 query_rows (create i) s = unfold create_guards in refl
 query_rows (diff i) s = unfold diff_guards in refl
 query_rows (lookup k) s = refl
@@ -66,9 +66,9 @@ call_rows : (c : Call) (s : Log) → rows (further c s) ≡ due c (numbers_of s)
 unfolding further carries_of
 call_rows (query q) s = query_rows q s
 call_rows (append es) s = unfold append_guards in refl
-call_rows (appendNow es) s = unfold append_guards in refl
+call_rows (append_now es) s = unfold append_guards in refl
 call_rows flush s = refl
-call_rows flushEntries s = refl
+call_rows flush_entries s = refl
 call_rows (append_stop g) s = unfold append_stop_guards in refl
 call_rows (set_stop g) s = unfold set_stop_guards in refl
 call_rows (set_promise b) s = refl

@@ -17,7 +17,7 @@ use Rattle.model.specs.Append.{joined, batch_with, fills, appended, appended_now
 use Rattle.model.specs.Compact.{target, passes_start, folded_upto, compact_guards, held_then, compacted_to}
 use Rattle.model.specs.Diff.{Given, plain, complete, delta}
 use Rattle.model.specs.Sync.{delta_onto, run_then, part_number_guards, part_guards, part_synced}
-use Rattle.model.specs.Calls.{Call, query, append, appendNow, flush, flushEntries, append_stop, set_stop}
+use Rattle.model.specs.Calls.{Call, query, append, append_now, flush, flush_entries, append_stop, set_stop}
 use Rattle.model.specs.Calls.{set_promise, decide, compact, sync, reload, write, sync_guards, further}
 use Rattle.model.specs.Calls.{guards, synced, effect, after, state_after}
 use Rattle.model.specs.History.{synced_history, grown, Stands, Truthful, Event, Told, history_after, next, told}
@@ -154,9 +154,9 @@ stands : (c : Call) (x : List Change) (s : Log) (h : List Change) → well_forme
 unfolding effect grown
 stands (query q) x s h w p t a = a
 stands (append es) x s h w p t a = append_agrees es s h a
-stands (appendNow es) x s h w p t a = unfold appended_now in joined_agrees s.run h a es
+stands (append_now es) x s h w p t a = unfold appended_now in joined_agrees s.run h a es
 stands flush x s h w p t a = unfold flushed in joined_agrees s.run h a s.tail.batched
-stands flushEntries x s h w p t a = unfold flushed in joined_agrees s.run h a s.tail.batched
+stands flush_entries x s h w p t a = unfold flushed in joined_agrees s.run h a s.tail.batched
 stands (append_stop g) x s h w p t a = unfold stop_appended flushed in joined_agrees s.run h a s.tail.batched
 stands (set_stop g) x s h w p t a = unfold stop_set in a
 stands (set_promise b) x s h w p t a = a

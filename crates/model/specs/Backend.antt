@@ -17,9 +17,9 @@ use Rattle.model.specs.Log.{with_tail, with_marks}
 -- "those of `StorageOp` but `AppendEntry`"; the last two set what is lent, or none
 pub data Op : Type 0 where
   append_entries : Op
-  appendOnPrefix setDecided setCompacted trim : ℕ → Op
-  set_promise setRound : Ballot → Op
-  setSign setSnapshot : Bool → Op
+  append_on_prefix set_decided set_compacted trim : ℕ → Op
+  set_promise set_round : Ballot → Op
+  set_sign set_snapshot : Bool → Op
 
 -- "entries, snapshot and stop-sign are lent once beside it; each operation that needs one takes it whole"
 pub record Lent : Type 0 where
@@ -30,14 +30,14 @@ pub record Lent : Type 0 where
 -- "over eight operations or none", a lent part not in form, or one that an operation needs and that is not lent
 abbrev pub supplied : Lent → Op → Bool
 supplied l append_entries = true
-supplied l (appendOnPrefix i) = true
-supplied l (setDecided i) = true
-supplied l (setCompacted i) = true
+supplied l (append_on_prefix i) = true
+supplied l (set_decided i) = true
+supplied l (set_compacted i) = true
 supplied l (trim i) = true
 supplied l (set_promise b) = true
-supplied l (setRound b) = true
-supplied l (setSign t) = not t || given l.sign
-supplied l (setSnapshot t) = not t || given l.snapshot
+supplied l (set_round b) = true
+supplied l (set_sign t) = not t || given l.sign
+supplied l (set_snapshot t) = not t || given l.snapshot
 
 unfoldable pub ops_formed : Lent → List Op → Bool
 ops_formed l ops =
@@ -66,16 +66,16 @@ starting_at i m = record { start = i; log = m.log }
 -- what an operation does
 unfoldable pub step : Lent → Op → Midst → Midst
 step l append_entries m = on_run (retaining (m.log.run.retained ++ l.entries) m.log.run) m
-step l (appendOnPrefix i) m =
+step l (append_on_prefix i) m =
     on_run (retaining (take (i - m.start) m.log.run.retained ++ l.entries) m.log.run) m
-step l (setDecided i) m = on_marks (deciding i m.log.marks) m
-step l (setCompacted i) m = on_run (compacted_at i m.log.run) m
+step l (set_decided i) m = on_marks (deciding i m.log.marks) m
+step l (set_compacted i) m = on_run (compacted_at i m.log.run) m
 step l (trim i) m =
     starting_at (max m.start i) (on_run (retaining (drop (i - m.start) m.log.run.retained) m.log.run) m)
 step l (set_promise b) m = on_marks (promising b m.log.marks) m
-step l (setRound b) m = on_marks (rounding b m.log.marks) m
-step l (setSign t) m = on_tail (signed (if t then l.sign else none) m.log.tail) m
-step l (setSnapshot t) m = on_run (holding (if t then l.snapshot else none) m.log.run) m
+step l (set_round b) m = on_marks (rounding b m.log.marks) m
+step l (set_sign t) m = on_tail (signed (if t then l.sign else none) m.log.tail) m
+step l (set_snapshot t) m = on_run (holding (if t then l.snapshot else none) m.log.run) m
 
 unfoldable pub steps : Lent → List Op → Midst → Midst
 steps l [] m = m
@@ -86,17 +86,17 @@ unfoldable pub step_guards : Numbers → Lent → Op → Midst → List Guard
 step_guards n l append_entries m =
     guard 1 0 (ltb entry_room (length m.log.run.retained + length m.log.tail.batched + length l.entries))
     ∷ []
-step_guards n l (appendOnPrefix i) m =
+step_guards n l (append_on_prefix i) m =
     guard 7 (end_of n) (ltb i m.start || ltb (m.start + length m.log.run.retained) i)
     ∷ guard 1 0 (ltb entry_room ((i - m.start) + length m.log.tail.batched + length l.entries))
     ∷ []
-step_guards n l (setDecided i) m = []
-step_guards n l (setCompacted i) m = []
+step_guards n l (set_decided i) m = []
+step_guards n l (set_compacted i) m = []
 step_guards n l (trim i) m = []
 step_guards n l (set_promise b) m = []
-step_guards n l (setRound b) m = []
-step_guards n l (setSign t) m = []
-step_guards n l (setSnapshot t) m = []
+step_guards n l (set_round b) m = []
+step_guards n l (set_sign t) m = []
+step_guards n l (set_snapshot t) m = []
 
 -- "after the last: 9; then 12 if the run's start isn't compacted or the state isn't well formed"
 unfoldable pub last_guards : Numbers → Midst → List Guard

@@ -25,18 +25,18 @@ use Rattle.model.specs.Lookup.{lookup_reply, lookup_replies}
 -- create_diff_snapshot, lookup, lookup_many
 pub data Query : Type 0 where
   read : Bound → Bound → Query
-  readDecided getSuffix create diff lookup : ℕ → Query
+  read_decided get_suffix create diff lookup : ℕ → Query
   lookup_many : List ℕ → Query
   get_entries : ℕ → ℕ → Query
 
 -- the others, by the Rust's names: append_entry_with_batching and append_entries_with_batching (append),
--- append_entries_without_batching (appendNow), flush_batch, flush_batch_and_get_entries (flushEntries),
+-- append_entries_without_batching (append_now), flush_batch, flush_batch_and_get_entries (flush_entries),
 -- append_stopsign, set_stopsign, set_promise, set_decided_idx, try_trim and try_snapshot (compact), sync_log,
 -- load_cache (reload), write_atomically (write)
 pub data Call : Type 0 where
   query : Query → Call
-  append appendNow : List Change → Call
-  flush flushEntries : Call
+  append append_now : List Change → Call
+  flush flush_entries : Call
   append_stop : StopSign → Call
   set_stop : Option StopSign → Call
   set_promise : Ballot → Call
@@ -53,8 +53,8 @@ pub record Diff : Type 0 where
 
 abbrev pub QueryReply : Query → Type 0
 QueryReply (read a b) = Option Shown
-QueryReply (readDecided i) = Option Shown
-QueryReply (getSuffix i) = Span
+QueryReply (read_decided i) = Option Shown
+QueryReply (get_suffix i) = Span
 QueryReply (create i) = List Change
 QueryReply (diff i) = Diff
 QueryReply (lookup k) = Option Said
@@ -64,9 +64,9 @@ QueryReply (get_entries i j) = Span
 abbrev pub Reply : Call → Type 0
 Reply (query q) = QueryReply q
 Reply (append es) = Option Flushed
-Reply (appendNow es) = ℕ
+Reply (append_now es) = ℕ
 Reply flush = ℕ
-Reply flushEntries = Option Flushed
+Reply flush_entries = Option Flushed
 Reply (append_stop g) = Option Flushed
 Reply (set_stop g) = ℕ
 Reply (set_promise b) = Unit {0}
@@ -79,8 +79,8 @@ Reply (write l ops) = Unit {0}
 -- "11: an argument malformed"
 abbrev pub query_malformed : Query → Bool
 query_malformed (read a b) = start_past a || stop_past b
-query_malformed (readDecided i) = false
-query_malformed (getSuffix i) = false
+query_malformed (read_decided i) = false
+query_malformed (get_suffix i) = false
 query_malformed (create i) = false
 query_malformed (diff i) = false
 query_malformed (lookup k) = false
@@ -90,9 +90,9 @@ query_malformed (get_entries i j) = false
 unfoldable pub malformed : Call → Bool
 malformed (query q) = query_malformed q
 malformed (append es) = not (entries_formed es)
-malformed (appendNow es) = not (entries_formed es)
+malformed (append_now es) = not (entries_formed es)
 malformed flush = false
-malformed flushEntries = false
+malformed flush_entries = false
 malformed (append_stop g) = not (sign_formed g)
 malformed (set_stop g) = not (if_given sign_formed g)
 malformed (set_promise b) = false
@@ -112,8 +112,8 @@ sync_guards d (some p) s = part_guards d p s
 
 unfoldable pub query_guards : Query → Log → List Guard
 query_guards (read a b) s = []
-query_guards (readDecided i) s = []
-query_guards (getSuffix i) s = []
+query_guards (read_decided i) s = []
+query_guards (get_suffix i) s = []
 query_guards (create i) s = create_guards i s
 query_guards (diff i) s = diff_guards i s
 query_guards (lookup k) s = []
@@ -123,9 +123,9 @@ query_guards (get_entries i j) s = []
 unfoldable pub further : Call → Log → List Guard
 further (query q) s = query_guards q s
 further (append es) s = append_guards (length es) (numbers_of s)
-further (appendNow es) s = append_guards (length es) (numbers_of s)
+further (append_now es) s = append_guards (length es) (numbers_of s)
 further flush s = []
-further flushEntries s = []
+further flush_entries s = []
 further (append_stop g) s = append_stop_guards (numbers_of s)
 further (set_stop g) s = set_stop_guards (given g) (numbers_of s)
 further (set_promise b) s = []
@@ -147,9 +147,9 @@ synced b d (some p) s = part_synced b d p s
 unfoldable pub effect : Call → Log → Log
 effect (query q) s = s
 effect (append es) s = appended es s
-effect (appendNow es) s = appended_now es s
+effect (append_now es) s = appended_now es s
 effect flush s = flushed s
-effect flushEntries s = flushed s
+effect flush_entries s = flushed s
 effect (append_stop g) s = stop_appended g s
 effect (set_stop g) s = stop_set g s
 effect (set_promise b) s = with_marks (promising b s.marks) s
@@ -162,8 +162,8 @@ effect (write l ops) s = list_written l ops s
 -- its reply; where that is the accepted index, it is the one after the call
 unfoldable pub query_reply : (q : Query) → Log → QueryReply q
 query_reply (read a b) s = read_reply a b s
-query_reply (readDecided i) s = decided_suffix i s
-query_reply (getSuffix i) s = suffix_from i s
+query_reply (read_decided i) s = decided_suffix i s
+query_reply (get_suffix i) s = suffix_from i s
 query_reply (create i) s = created i s
 query_reply (diff i) s = record { given = diff_of i s; upto = log_decided (numbers_of s) }
 query_reply (lookup k) s = lookup_reply k s
@@ -173,9 +173,9 @@ query_reply (get_entries i j) s = entries_between i j s
 unfoldable pub reply_of : (c : Call) → Log → Reply c
 reply_of (query q) s = query_reply q s
 reply_of (append es) s = append_reply es s
-reply_of (appendNow es) s = accepted_of (numbers_of (appended_now es s))
+reply_of (append_now es) s = accepted_of (numbers_of (appended_now es s))
 reply_of flush s = accepted_of (numbers_of (flushed s))
-reply_of flushEntries s = flush_reply s
+reply_of flush_entries s = flush_reply s
 reply_of (append_stop g) s = flush_reply s
 reply_of (set_stop g) s = accepted_of (numbers_of (stop_set g s))
 reply_of (set_promise b) s = tt

@@ -11,7 +11,7 @@ use Rattle.model.specs.Append.{fills, batch_with}
 use Rattle.model.specs.Diff.{plain, complete, delta}
 use Rattle.model.specs.Sync.{Part}
 use Rattle.model.specs.Orders.{Moving, neither, synced, moving_of}
-use Rattle.model.specs.Calls.{Call, query, append, appendNow, flush, flushEntries, append_stop, set_stop}
+use Rattle.model.specs.Calls.{Call, query, append, append_now, flush, flush_entries, append_stop, set_stop}
 use Rattle.model.specs.Calls.{set_promise, decide, compact, sync, reload, write, guards, state_after}
 
 -- "A plain sync keeps the first sync_idx and joins the suffix. A complete sync stands for a list of sync_idx entries,
@@ -29,9 +29,9 @@ synced_history p x s h =
 unfoldable pub grown : Call → List Change → Log → List Change → List Change
 grown (query q) x s h = h
 grown (append es) x s h = if fills es s then h ++ batch_with es s else h
-grown (appendNow es) x s h = h ++ es
+grown (append_now es) x s h = h ++ es
 grown flush x s h = h ++ s.tail.batched
-grown flushEntries x s h = h ++ s.tail.batched
+grown flush_entries x s h = h ++ s.tail.batched
 grown (append_stop g) x s h = h ++ s.tail.batched
 grown (set_stop g) x s h = h
 grown (set_promise b) x s h = h
@@ -55,9 +55,9 @@ Stands p x s =
 abbrev pub admitted : Call → Bool
 admitted (query q) = true
 admitted (append es) = true
-admitted (appendNow es) = true
+admitted (append_now es) = true
 admitted flush = true
-admitted flushEntries = true
+admitted flush_entries = true
 admitted (append_stop g) = true
 admitted (set_stop g) = true
 admitted (set_promise b) = true

@@ -5,16 +5,16 @@ use Rattle.words.specs.If.{if◌then◌else◌}
 use Rattle.model.specs.Numbers.{Numbers, end_of, accepted_of}
 use Rattle.model.specs.Compact.{snapshots_only}
 use Rattle.model.specs.Sync.{Part, part_numbers, decided_then, accepted_then}
-use Rattle.model.specs.Backend.{Op, append_entries, appendOnPrefix, setDecided, setCompacted, trim as opTrim}
-use Rattle.model.specs.Backend.{set_promise as opPromise, setRound, setSign, setSnapshot}
-use Rattle.model.specs.Calls.{Query, read, readDecided, getSuffix, create, diff, lookup, lookup_many, get_entries}
-use Rattle.model.specs.Calls.{Call, query, append, appendNow, flush, flushEntries, append_stop, set_stop}
+use Rattle.model.specs.Backend.{Op, append_entries, append_on_prefix, set_decided, set_compacted, trim as op_trim}
+use Rattle.model.specs.Backend.{set_promise as op_promise, set_round, set_sign, set_snapshot}
+use Rattle.model.specs.Calls.{Query, read, read_decided, get_suffix, create, diff, lookup, lookup_many, get_entries}
+use Rattle.model.specs.Calls.{Call, query, append, append_now, flush, flush_entries, append_stop, set_stop}
 use Rattle.model.specs.Calls.{set_promise, decide, compact, sync, reload, write}
 
 abbrev pub query_order : Query → List ℕ
 query_order (read a b) = []
-query_order (readDecided i) = []
-query_order (getSuffix i) = []
+query_order (read_decided i) = []
+query_order (get_suffix i) = []
 query_order (create i) = 3 ∷ 2 ∷ 16 ∷ 8 ∷ []
 query_order (diff i) = 16 ∷ 8 ∷ []
 query_order (lookup k) = []
@@ -24,14 +24,14 @@ query_order (get_entries i j) = []
 -- the operation list has its own rule: 7, then 1, of each operation; after the last 9, then 12
 abbrev pub op_order : Op → List ℕ
 op_order append_entries = 1 ∷ []
-op_order (appendOnPrefix i) = 7 ∷ 1 ∷ []
-op_order (setDecided i) = []
-op_order (setCompacted i) = []
-op_order (opTrim i) = []
-op_order (opPromise b) = []
-op_order (setRound b) = []
-op_order (setSign t) = []
-op_order (setSnapshot t) = []
+op_order (append_on_prefix i) = 7 ∷ 1 ∷ []
+op_order (set_decided i) = []
+op_order (set_compacted i) = []
+op_order (op_trim i) = []
+op_order (op_promise b) = []
+op_order (set_round b) = []
+op_order (set_sign t) = []
+op_order (set_snapshot t) = []
 
 abbrev pub ops_order : List Op → List ℕ
 ops_order [] = 9 ∷ 12 ∷ []
@@ -40,9 +40,9 @@ ops_order (o ∷ ops) = op_order o ++ ops_order ops
 abbrev pub order_of : Call → List ℕ
 order_of (query q) = query_order q
 order_of (append es) = 4 ∷ 9 ∷ 1 ∷ []
-order_of (appendNow es) = 4 ∷ 9 ∷ 1 ∷ []
+order_of (append_now es) = 4 ∷ 9 ∷ 1 ∷ []
 order_of flush = []
-order_of flushEntries = []
+order_of flush_entries = []
 order_of (append_stop g) = 4 ∷ 9 ∷ []
 order_of (set_stop g) = 4 ∷ 10 ∷ 9 ∷ []
 order_of (set_promise b) = []
@@ -61,9 +61,9 @@ pub data Moving : Type 0 where
 abbrev pub moving_of : Call → Moving
 moving_of (query q) = neither
 moving_of (append es) = neither
-moving_of (appendNow es) = neither
+moving_of (append_now es) = neither
 moving_of flush = neither
-moving_of flushEntries = neither
+moving_of flush_entries = neither
 moving_of (append_stop g) = neither
 moving_of (set_stop g) = neither
 moving_of (set_promise b) = neither

@@ -11,7 +11,7 @@ use Rattle.entry.specs.{declared.LogIndex.LogIndex, declared.StopSign.StopSign}
 use Rattle.model.specs.Numbers.{Numbers, end_of, accepted_of, stop_decided}
 use Rattle.model.specs.Read.{Bound, start_at, stop_at, start_past, stop_past, Marker, trimmed, snapshotted, marker_of, Span}
 use Rattle.model.specs.Read.{span, Shown, shown, full_run, read_from, read_reply, decided_suffix}
-use Rattle.model.specs.Calls.{query, read, readDecided, get_entries, getSuffix, query_reply, query_guards}
+use Rattle.model.specs.Calls.{query, read, read_decided, get_entries, get_suffix, query_reply, query_guards}
 use Rattle.state_cache.specs.{State.Raw, State.numbers_in, State.log_of, Inner.Ready, Run.run}
 use Rattle.state_cache.specs.{declared.IndexRecord.IndexRecord}
 use Rattle.state_cache.proofs.{Small.accepted_le, Small.end_le, Stands.ready_of}
@@ -193,17 +193,17 @@ module _ (r : Raw) (g : Ready r) where
 
   module _ (from : ℕ) where
     pub suffix_answer : from < x.decided.0
-        → read_said r (read_in from x.decided.0 x) ≡ (run (query (readDecided from)) true r).answer
+        → read_said r (read_in from x.decided.0 x) ≡ (run (query (read_decided from)) true r).answer
     unfolding query_reply query_guards decided_suffix log_of
     suffix_answer h =
         reply_said_lem from x.decided.0
         ∙ ap replied (sym (rw (lt-ltb from x.decided.0 h)))
-        ∙ answer_is (readDecided from) r g.okay refl refl (decided_suffix from (log_of r)) refl
+        ∙ answer_is (read_decided from) r g.okay refl refl (decided_suffix from (log_of r)) refl
 
-    pub suffix_none : x.decided.0 ≤ from → replied none ≡ (run (query (readDecided from)) true r).answer
+    pub suffix_none : x.decided.0 ≤ from → replied none ≡ (run (query (read_decided from)) true r).answer
     unfolding query_reply query_guards decided_suffix log_of
     suffix_none h = ap replied (sym (rw (le-ltb from x.decided.0 h)))
-        ∙ answer_is (readDecided from) r g.okay refl refl (decided_suffix from (log_of r)) refl
+        ∙ answer_is (read_decided from) r g.okay refl refl (decided_suffix from (log_of r)) refl
 
   -- entries among those retained lie in the log
   inside : (first count : ℕ) → first + count ≤ x.retained → Lent r.log (lent_span r.log first count)
@@ -248,15 +248,15 @@ module _ (r : Raw) where
       subst (ShownLent r.log) (read_answer r g a b (start_at a) (stop_at b last) last m refl refl refl)
       (in_read r g (start_at a) (stop_at b last)))
 
-  pub decided_lent : (from : ℕ) → ShownLent r.log (run (query (readDecided from)) true r).answer
-  decided_lent from = answered (readDecided from) r (ShownLent r.log) (λ _ _. tt)
+  pub decided_lent : (from : ℕ) → ShownLent r.log (run (query (read_decided from)) true r).answer
+  decided_lent from = answered (read_decided from) r (ShownLent r.log) (λ _ _. tt)
       (λ ok _. go (ready_of r ok) (ltb from decided) refl)
     where
       decided : ℕ
       decided = r.index.decided.0
 
       go : Ready r → (t : Bool) → ltb from decided ≡ t
-          → ShownLent r.log (run (query (readDecided from)) true r).answer
+          → ShownLent r.log (run (query (read_decided from)) true r).answer
       go g true e = subst (ShownLent r.log) (suffix_answer r g from (ltb-true from decided e))
           (in_read r g from decided)
       go g false e = subst (ShownLent r.log) (suffix_none r g from (ltb-false from decided e)) tt
@@ -265,7 +265,7 @@ module _ (r : Raw) where
   entries_lent from to = answered (get_entries from to) r (SpanLent r.log) (λ _ _. tt) (λ ok _.
       subst (SpanLent r.log) (entries_answer r (ready_of r ok) from to) (in_span r (ready_of r ok) from to))
 
-  pub suffix_lent : (from : ℕ) → SpanLent r.log (run (query (getSuffix from)) true r).answer
-  suffix_lent from = answered (getSuffix from) r (SpanLent r.log) (λ _ _. tt) (λ ok _.
+  pub suffix_lent : (from : ℕ) → SpanLent r.log (run (query (get_suffix from)) true r).answer
+  suffix_lent from = answered (get_suffix from) r (SpanLent r.log) (λ _ _. tt) (λ ok _.
       let last = end_of (numbers_in r.index) in
       subst (SpanLent r.log) (end-answer r (ready_of r ok) from last refl) (in_span r (ready_of r ok) from last))

@@ -9,7 +9,7 @@ use Rattle.words.proofs.CodedLaws.{entries_length, entries_take, entries_drop, e
 use Rattle.entry.specs.{Limits.width, Change.Change, Change.change_code, Change.entries_of, Change.entries_in}
 use Rattle.entry.specs.{Guards.replied}
 use Rattle.model.specs.{Numbers.Numbers, Numbers.end_of, Log.numbers_of, Read.span, Read.entries_between, Read.suffix_from}
-use Rattle.model.specs.{Calls.query, Calls.get_entries, Calls.getSuffix, Calls.query_reply, Calls.query_guards}
+use Rattle.model.specs.{Calls.query, Calls.get_entries, Calls.get_suffix, Calls.query_reply, Calls.query_guards}
 use Rattle.state_cache.specs.{State.Raw, State.numbers_in, State.log_of, Inner.Ready, Run.run}
 use Rattle.state_cache.proofs.Stands.{stands_of, numbers_are}
 use Rattle.reading.specs.{Parts.part, Parts.word_at, Parts.part_at, Replies.lent_span, Replies.span_says}
@@ -129,9 +129,9 @@ module _ (r : Raw) (g : Ready r) where
       ∙ answer_is (get_entries from to) r g.okay refl refl (entries_between from to (log_of r)) refl
 
   pub suffix_answer : (from to : ℕ) → to ≡ end_of (numbers_in r.index)
-      → span_says r.log (span_in from to (numbers_in r.index)) ≡ (run (query (getSuffix from)) true r).answer
+      → span_says r.log (span_in from to (numbers_in r.index)) ≡ (run (query (get_suffix from)) true r).answer
   unfolding query_reply query_guards suffix_from
   suffix_answer from to e =
       says_between from to
       ∙ ap (λ (j : ℕ). replied (entries_between from j (log_of r))) (e ∙ ap end_of (sym numbers))
-      ∙ answer_is (getSuffix from) r g.okay refl refl (suffix_from from (log_of r)) refl
+      ∙ answer_is (get_suffix from) r g.okay refl refl (suffix_from from (log_of r)) refl

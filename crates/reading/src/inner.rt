@@ -10,7 +10,7 @@ ghost use Rattle.snapshot.specs.Calls.{found};
 ghost use Rattle.model.specs.Numbers.{accepted_of};
 ghost use Rattle.model.specs.Read.{start_past, stop_past, start_at, stop_at};
 ghost use Rattle.model.specs.Lookup.{lookup_replies};
-ghost use Rattle.model.specs.Calls.{query, lookup, lookup_many, get_entries, getSuffix, read, readDecided};
+ghost use Rattle.model.specs.Calls.{query, lookup, lookup_many, get_entries, get_suffix, read, read_decided};
 ghost use Rattle.state_cache.specs.State.{raw, numbers_in, log_of};
 ghost use Rattle.state_cache.specs.Inner.{Small, Ready};
 ghost use Rattle.state_cache.specs.Run.{run, settled};
@@ -367,7 +367,7 @@ pub fn get_entries_reply(
 pub fn get_suffix_reply(index: IndexRecord, log: &[u64], snapshot: &[u64], from: LogIndex) -> Span
     requires { Ready (raw index log.now snapshot.now) }
     ensures { span_says log.now result
-        ≡ (run (query (getSuffix from.0)) true (raw index log.now snapshot.now)).answer }
+        ≡ (run (query (get_suffix from.0)) true (raw index log.now snapshot.now)).answer }
 {
     between(index, from.0, state_cache::inner::end(index))
 }
@@ -403,7 +403,7 @@ pub fn read_decided_suffix_reply(
 ) -> ReadReply
     requires { Ready (raw index log.now snapshot.now) }
     ensures { read_said (raw index log.now snapshot.now) result
-        ≡ (run (query (readDecided from.0)) true (raw index log.now snapshot.now)).answer }
+        ≡ (run (query (read_decided from.0)) true (raw index log.now snapshot.now)).answer }
 {
     if index.decided.0 <= from.0 {
         return ReadReply::Nothing;

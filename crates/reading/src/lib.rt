@@ -3,8 +3,8 @@
 // the call.
 ghost use Rattle.std.specs.Prelude.{◌≡◌, true};
 ghost use Rattle.snapshot.specs.Calls.{found};
-ghost use Rattle.model.specs.Calls.{query, lookup as lookupCall, lookup_many, get_entries, getSuffix, read as read_call};
-ghost use Rattle.model.specs.Calls.{readDecided};
+ghost use Rattle.model.specs.Calls.{query, lookup as lookupCall, lookup_many, get_entries, get_suffix, read as read_call};
+ghost use Rattle.model.specs.Calls.{read_decided};
 ghost use Rattle.state_cache.specs.State.{Raw, raw};
 ghost use Rattle.state_cache.specs.Run.{run, settled};
 ghost use Rattle.reading.specs.Many.{room_for, filled_out};
@@ -119,7 +119,7 @@ pub fn get_entries_reply(
 // The same from an index to the end.
 pub fn get_suffix_reply(index: IndexRecord, log: &[u64], snapshot: &[u64], from: LogIndex) -> Span
     ensures { span_says log.now result
-        ≡ (run (query (getSuffix from.0)) true (raw index log.now snapshot.now)).answer }
+        ≡ (run (query (get_suffix from.0)) true (raw index log.now snapshot.now)).answer }
 {
     if !state_cache::well_formed(index, log, snapshot) {
         return Span::Refused(Refusal::IllFormed);
@@ -182,7 +182,7 @@ pub fn read_decided_suffix_reply(
     from: LogIndex,
 ) -> ReadReply
     ensures { read_said (raw index log.now snapshot.now) result
-        ≡ (run (query (readDecided from.0)) true (raw index log.now snapshot.now)).answer }
+        ≡ (run (query (read_decided from.0)) true (raw index log.now snapshot.now)).answer }
 {
     if !state_cache::well_formed(index, log, snapshot) {
         return ReadReply::Refused(Refusal::IllFormed);

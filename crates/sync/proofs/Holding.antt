@@ -3,7 +3,7 @@ use Rattle.words.proofs.Prelude.{arith, ◌≡◌, sym, ap₂, ◌∙◌, ℕ, �
 use Rattle.words.proofs.CodedLaws.{entries_length}
 use Rattle.entry.specs.{Limits.snapshot_words, Change.change_code, Change.entries_of, Guards.replied}
 use Rattle.entry.proofs.SliceLaws.{laid_stored}
-use Rattle.snapshot.specs.{Folds.fold_onto, Calls.Outcome, Calls.outcome as snapshotOutcome, Inner.Holds, Inner.Shows}
+use Rattle.snapshot.specs.{Folds.fold_onto, Calls.Outcome, Calls.outcome as snapshot_outcome, Inner.Holds, Inner.Shows}
 use Rattle.snapshot.specs.{Inner.fold_written}
 use Rattle.snapshot.proofs.Calling.{over_written}
 use Rattle.model.specs.Numbers.{log_decided}
@@ -14,10 +14,10 @@ use Rattle.sync.specs.declared.SnapshotType.TheVariants.{Plain, Complete, Delta}
 
 -- a snapshot in form, as it stands in its words
 pub held_written_lem : (n : ℕ) (ws out : List ℕ) → Holds snapshot_words n ws
-    → snapshotOutcome (replied n) ws ≡ fold_written (entries_of n ws) out
+    → snapshot_outcome (replied n) ws ≡ fold_written (entries_of n ws) out
 held_written_lem n ws out h =
     let k : length (entries_of n ws) ≡ n = entries_length change_code n ws in
-    ap₂ (λ (j : ℕ) (t : List ℕ). snapshotOutcome (replied j) t) (sym k) (laid_stored snapshot_words n ws h.laid)
+    ap₂ (λ (j : ℕ) (t : List ℕ). snapshot_outcome (replied j) t) (sym k) (laid_stored snapshot_words n ws h.laid)
     ∙ over_written (entries_of n ws) out (omega (arith, k, h.laid.fits))
 
 pub held_shows : (n : ℕ) (ws : List ℕ) → Holds snapshot_words n ws → Shows n ws
@@ -30,11 +30,11 @@ module _ (kind : SnapshotType) (r : Raw) (g : Ready r) (keys : ℕ) (incoming : 
       fold_written (snapshot_then kind (entries_of r.index.keys r.snapshot) (entries_of (log_decided
       (numbers_in r.index) - r.index.compacted.0) r.log) (entries_of keys incoming)) r.snapshot
 
-  pub hold_plain : kind ≡ Plain → snapshotOutcome (replied r.index.keys) r.snapshot ≡ told
+  pub hold_plain : kind ≡ Plain → snapshot_outcome (replied r.index.keys) r.snapshot ≡ told
   hold_plain e = rw e (held_written_lem r.index.keys r.snapshot r.snapshot g.snapshot)
 
   pub hold_complete : kind ≡ Complete → Holds snapshot_words keys incoming → (exit : List ℕ) → exit ≡ incoming
-      → snapshotOutcome (replied keys) exit ≡ told
+      → snapshot_outcome (replied keys) exit ≡ told
   hold_complete e h exit q = rw (e, q) (held_written_lem keys incoming r.snapshot h)
 
   pub hold_delta : kind ≡ Delta → (last : ℕ) → last ≡ log_decided (numbers_in r.index)

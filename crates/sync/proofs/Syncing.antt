@@ -12,7 +12,7 @@ use Rattle.entry.specs.{Guards.replied, Guards.refused_by, Refusals.number_of, R
 use Rattle.entry.specs.{declared.Refusal.Refusal}
 use Rattle.entry.proofs.ChangeLaws.{change_ok}
 use Rattle.entry.proofs.GuardLaws.{first_left, first_right, first_refuses, first_goes_on, Clear, clear, passed}
-use Rattle.snapshot.specs.{Folds.fold_onto, Folds.merge, Calls.outcome as snapshotOutcome, Calls.folded}
+use Rattle.snapshot.specs.{Folds.fold_onto, Folds.merge, Calls.outcome as snapshot_outcome, Calls.folded}
 use Rattle.snapshot.specs.{Calls.fold_guards, Inner.Holds, Inner.fold_written, declared.Folded.Folded}
 use Rattle.snapshot.specs.{declared.Folded.TheVariants.Keys, declared.Folded.TheVariants.Refused}
 use Rattle.snapshot.proofs.Calling.{wrote_nothing, wrote_keys}
@@ -184,7 +184,7 @@ module _ (r : Raw) (x : LogSync) (incoming suffix : List ℕ) (w : Syncs r x inc
     tested Delta h = ap (λ (u : List Change). first (fold_guards u)) (sym delta_is)
 
     module _ (whole : (delta_by kind && hole_in r.index) ≡ false) (a : Folded) (exit : List ℕ)
-        (f : snapshotOutcome (folded a) exit ≡ fold_written (snapshot_then kind held decided lent) r.snapshot) where
+        (f : snapshot_outcome (folded a) exit ≡ fold_written (snapshot_then kind held decided lent) r.snapshot) where
       abbrev snapshot : List Change
       snapshot = snapshot_then kind held decided lent
 

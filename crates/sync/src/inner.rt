@@ -5,7 +5,7 @@ ghost use Rattle.words.specs.If.{if◌then◌else◌};
 ghost use Rattle.entry.specs.Guards.{first};
 ghost use Rattle.entry.specs.Limits.{snapshot_words};
 ghost use Rattle.entry.specs.Change.{entries_of};
-ghost use Rattle.snapshot.specs.Calls.{outcome as snapshotOutcome, folded};
+ghost use Rattle.snapshot.specs.Calls.{outcome as snapshot_outcome, folded};
 ghost use Rattle.snapshot.specs.Inner.{Holds, fold_written};
 ghost use Rattle.model.specs.Numbers.{accepted_of, log_decided};
 ghost use Rattle.model.specs.Sync.{part_number_guards, round_guards};
@@ -158,7 +158,7 @@ fn hold(
 ) -> Folded
     requires { Ready (raw index log.now snapshot.old)
         × (plain_by kind ≡ false → Holds snapshot_words keys incoming.now) }
-    ensures { snapshotOutcome (folded result) snapshot.new
+    ensures { snapshot_outcome (folded result) snapshot.new
         ≡ fold_written
         (snapshot_then kind
         (entries_of index.keys snapshot.old)

@@ -2,7 +2,7 @@
 ghost use Rattle.std.specs.Prelude.{◌≡◌, true, [], ◌≤◌, length};
 ghost use Rattle.entry.specs.Limits.{snapshot_words};
 ghost use Rattle.entry.specs.Change.{entries_in, slice_formed};
-ghost use Rattle.model.specs.Backend.{appendOnPrefix, trim, supplied, step};
+ghost use Rattle.model.specs.Backend.{append_on_prefix, trim, supplied, step};
 ghost use Rattle.state_cache.specs.State.{raw, numbers_in};
 ghost use Rattle.state_cache.specs.Inner.{Small, with_promise, with_decided, with_stop};
 ghost use Rattle.backend.specs.Ops.{op_of, lent_of};
@@ -86,7 +86,7 @@ fn put_on_prefix(
     requires kept { Kept (raw index log.old snapshot.now) }
     requires small { Small (numbers_in before) }
     requires entries_value { slice_formed entries.now ≡ true }
-    ensures { Steps (numbers_in before) (only_entries entries.now) (appendOnPrefix from.0)
+    ensures { Steps (numbers_in before) (only_entries entries.now) (append_on_prefix from.0)
         (midst_of start (raw index log.old snapshot.now))
         result log.new snapshot.now }
 {

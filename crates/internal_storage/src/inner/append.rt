@@ -1,7 +1,7 @@
 // Appends of entries to a log that is known to be well formed: not for a user, whose calls are in append.rt.
 ghost use Rattle.std.specs.Prelude.{◌≡◌, true, [], ◌∷◌};
 ghost use Rattle.entry.specs.Change.{said_is, entries_in, whole_in};
-ghost use Rattle.model.specs.Calls.{append, appendNow};
+ghost use Rattle.model.specs.Calls.{append, append_now};
 ghost use Rattle.state_cache.specs.State.{raw};
 ghost use Rattle.state_cache.specs.Inner.{Ready};
 ghost use Rattle.state_cache.specs.Run.{outcome, run, index_said};
@@ -57,7 +57,7 @@ pub fn append_entries_without_batching(
 ) -> IndexAnswerAt
     requires { Ready (raw index log.old snapshot.now) }
     ensures { outcome (index_said result.answer) (raw result.index log.new snapshot.now)
-        ≡ run (appendNow (entries_in entries.now)) (whole_in entries.now)
+        ≡ run (append_now (entries_in entries.now)) (whole_in entries.now)
         (raw index log.old snapshot.now) }
 {
     if !entry::entries_formed(entries) {

@@ -1,7 +1,7 @@
 // Flushes of a log that is known to be well formed: not for a user, whose calls are in flush.rt.
 ghost use Rattle.std.specs.Prelude.{◌≡◌, true};
 ghost use Rattle.entry.specs.Guards.{replied};
-ghost use Rattle.model.specs.Calls.{flush as flushCall, flushEntries};
+ghost use Rattle.model.specs.Calls.{flush as flushCall, flush_entries};
 ghost use Rattle.model.specs.Inner.{Sound};
 ghost use Rattle.state_cache.specs.State.{raw, numbers_in};
 ghost use Rattle.state_cache.specs.Inner.{Ready};
@@ -57,7 +57,7 @@ pub fn flush_batch(index: IndexRecord, log: &[u64], snapshot: &[u64]) -> IndexAn
 pub fn flush_batch_and_get_entries(index: IndexRecord, log: &[u64], snapshot: &[u64]) -> AppendedAt
     requires { Ready (raw index log.now snapshot.now) }
     ensures { outcome (append_said result.answer) (raw result.index log.now snapshot.now)
-        ≡ run flushEntries true (raw index log.now snapshot.now) }
+        ≡ run flush_entries true (raw index log.now snapshot.now) }
 {
     let answer = flush_answer(index);
     let next = flush(index);

@@ -2,7 +2,7 @@
 -- well-formed log comes to.
 use Rattle.words.proofs.Prelude.{needs, now, sym, ◌∙◌, not-true, not-false}
 use Rattle.entry.specs.Change.{entries_in, whole_in}
-use Rattle.model.specs.Calls.{appendNow}
+use Rattle.model.specs.Calls.{append_now}
 use Rattle.state_cache.specs.State.{raw}
 use Rattle.state_cache.proofs.{Stands.ready_of, Runs.ill_formed}
 use Rattle.internal_storage.proofs.append.append_entries_without_batching.Statement.{statement}
@@ -11,7 +11,7 @@ use Rattle.internal_storage.proofs.append.append_entries_without_batching.Tie as
 returns : tie.Need-returns
 returns c =
     let st = c.before.before.before.before.before.before in
-    ill_formed (appendNow (entries_in (now st.args.entries))) (whole_in (now st.args.entries))
+    ill_formed (append_now (entries_in (now st.args.entries))) (whole_in (now st.args.entries))
     (raw st.args.index (now st.args.log) (now st.args.snapshot))
     (sym c.before.well-formed-2.ensures ∙ not-true _ c.if1.true)
 

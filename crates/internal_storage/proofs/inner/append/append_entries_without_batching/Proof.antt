@@ -1,7 +1,7 @@
 -- `internal_storage::inner::append::append_entries_without_batching` meets its contract: refusal 11, then the append.
 use Rattle.words.proofs.Prelude.{needs, now, refl, sym, ◌∙◌, not-true, not-false}
 use Rattle.entry.specs.Change.{entries_in}
-use Rattle.model.specs.Calls.{appendNow, malformed}
+use Rattle.model.specs.Calls.{append_now, malformed}
 use Rattle.state_cache.specs.State.{Raw, raw}
 use Rattle.internal_storage.proofs.Arguments.{slice_refused, slice-run, slice_appends}
 use Rattle.internal_storage.proofs.inner.append.append_entries_without_batching.Statement.{statement}
@@ -14,7 +14,7 @@ returns : tie.Need-returns
 unfolding malformed
 returns c =
     let st = c.before.before.before.before.before in
-    slice_refused (appendNow (entries_in (now st.args.entries))) (now st.args.entries) (stateAt st) refl
+    slice_refused (append_now (entries_in (now st.args.entries))) (now st.args.entries) (stateAt st) refl
     st.requires.okay (sym c.before.entries-formed.ensures ∙ not-true _ c.if1.true)
 
 append-now-at-requires : tie.Need-append-now-at-requires
@@ -29,7 +29,7 @@ returns-2 c =
     let p = c.before.before in
     let f = p.before.before in
     let st = f.before.before.before.before.before in
-    p.append-now-at.ensures ∙ slice-run (appendNow (entries_in (now st.args.entries))) (now st.args.entries)
+    p.append-now-at.ensures ∙ slice-run (append_now (entries_in (now st.args.entries))) (now st.args.entries)
     (stateAt st) (sym f.before.entries-formed.ensures ∙ not-false _ f.if1.false)
 
 pub append-entries-without-batching-spec : {M : Type 1} → statement M

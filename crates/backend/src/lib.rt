@@ -1,5 +1,7 @@
 // Module 4 of document 01: the operation list. The contract is one equation with `run`: the reply, the record and
 // every lent word after the call. Names are the Rust's.
+#![tactic(auto)]
+
 ghost use Rattle.std.specs.Prelude.{◌≡◌, map};
 ghost use Rattle.model.specs.Calls.{write};
 ghost use Rattle.state_cache.specs.State.{raw};
@@ -17,7 +19,7 @@ pub const OPERATIONS: usize = 8;
 pub const TOO_MANY: usize = OPERATIONS + 1;
 
 // The Rust's `StorageOp` but `AppendEntry`.
-#[derive(Drop)]
+#[derive(Clone, Copy)]
 pub enum OpKind {
     AppendEntries,
     AppendOnPrefix,
@@ -32,7 +34,7 @@ pub enum OpKind {
 
 // An operation; fields that its kind does not use are not looked at. `given` says whether the last two kinds set what
 // is lent, or none.
-#[derive(Drop)]
+#[derive(Clone, Copy)]
 pub struct Op {
     pub kind: OpKind,
     pub index: LogIndex,
@@ -41,7 +43,7 @@ pub struct Op {
 }
 
 // Operations by value. A count above OPERATIONS says that there were more.
-#[derive(Drop)]
+#[derive(Clone, Copy)]
 pub struct OpList {
     pub count: usize,
     pub ops: [Op; OPERATIONS],
@@ -49,7 +51,7 @@ pub struct OpList {
 
 // What is lent beside the operations and the entries: a snapshot, with its number of keys, and a stop-sign, or none.
 #[repr(C)]
-#[derive(Drop)]
+#[derive(Clone, Copy)]
 pub struct Lent {
     pub snapshot_lent: bool,
     pub keys: usize,

@@ -1,6 +1,8 @@
 // The leader election of document 003, request E8 of document 02. It stands apart from the log: a node's state goes
 // into a call by value and comes back beside the answer. A contract is one equation: the answer and the whole state
 // after the call. Names are the Rust's.
+#![tactic(auto)]
+
 ghost use Rattle.std.specs.Prelude.{◌≡◌};
 ghost use Rattle.ballot_leader_election.specs.State.{laid_replies, laid_messages, formed};
 ghost use Rattle.ballot_leader_election.specs.Calls.{set_priority, outgoing_mut, handle, new_hb_round, hb_timeout};
@@ -32,7 +34,7 @@ const RECOVERY_ROUND: u32 = 0;
 
 // A reply to a heartbeat: of which round, and where its sender stood.
 #[repr(C)]
-#[derive(Drop)]
+#[derive(Clone, Copy)]
 pub struct HeartbeatReply {
     pub round: u32,
     pub ballot: Ballot,
@@ -43,7 +45,7 @@ pub struct HeartbeatReply {
 // A message from one node to another: the reply to a heartbeat, or the request of one, which has a round and nothing
 // else of a reply.
 #[repr(C)]
-#[derive(Drop)]
+#[derive(Clone, Copy)]
 pub struct BLEMessage {
     pub from: u64,
     pub to: u64,
@@ -53,21 +55,21 @@ pub struct BLEMessage {
 
 // Lists by value: the first `count` elements are held, and the others are zero.
 #[repr(C)]
-#[derive(Drop)]
+#[derive(Clone, Copy)]
 pub struct Peers {
     pub count: usize,
     pub held: [u64; PEERS],
 }
 
 #[repr(C)]
-#[derive(Drop)]
+#[derive(Clone, Copy)]
 pub struct Replies {
     pub count: usize,
     pub held: [HeartbeatReply; REPLIES],
 }
 
 #[repr(C)]
-#[derive(Drop)]
+#[derive(Clone, Copy)]
 pub struct Outgoing {
     pub count: usize,
     pub held: [BLEMessage; OUTGOING],
@@ -75,7 +77,7 @@ pub struct Outgoing {
 
 // A node's state.
 #[repr(C)]
-#[derive(Drop)]
+#[derive(Clone, Copy)]
 pub struct BallotLeaderElection {
     pub configuration_id: u32,
     pub pid: u64,
@@ -91,7 +93,7 @@ pub struct BallotLeaderElection {
 
 // What a node starts from, beside its peers.
 #[repr(C)]
-#[derive(Drop)]
+#[derive(Clone, Copy)]
 pub struct BLEConfig {
     pub configuration_id: u32,
     pub pid: u64,
@@ -99,55 +101,55 @@ pub struct BLEConfig {
 }
 
 // The Rust's `Option<Ballot>` of a recovered leader.
-#[derive(Drop)]
+#[derive(Clone, Copy)]
 pub enum Recovered {
     Nothing,
     Leader(Ballot),
 }
 
 // The reply of a call that has nothing more to say.
-#[derive(Drop)]
+#[derive(Clone, Copy)]
 pub enum Answer {
     Done,
     Refused(Refusal),
 }
 
-#[derive(Drop)]
+#[derive(Clone, Copy)]
 pub struct Answered {
     pub answer: Answer,
     pub election: BallotLeaderElection,
 }
 
 // The reply of a timeout: the node's ballot where it leads.
-#[derive(Drop)]
+#[derive(Clone, Copy)]
 pub enum Led {
     Leads(Ballot),
     Nothing,
     Refused(Refusal),
 }
 
-#[derive(Drop)]
+#[derive(Clone, Copy)]
 pub struct TimedOut {
     pub answer: Led,
     pub election: BallotLeaderElection,
 }
 
 // The reply of a call that tells a ballot.
-#[derive(Drop)]
+#[derive(Clone, Copy)]
 pub enum BallotAnswer {
     Is(Ballot),
     Refused(Refusal),
 }
 
 // Replies handed out, none where the call is refused.
-#[derive(Drop)]
+#[derive(Clone, Copy)]
 pub struct Ballots {
     pub answer: Answer,
     pub replies: Replies,
 }
 
 // Messages handed out, none where the call is refused, and the state without them.
-#[derive(Drop)]
+#[derive(Clone, Copy)]
 pub struct Taken {
     pub answer: Answer,
     pub outgoing: Outgoing,

@@ -11,7 +11,7 @@ use super::{HeartbeatReply, Replies};
 use entry::{Ballot, Ordering};
 
 // Which happy replies are looked for: any, those with a ballot, those whose leader is above one.
-#[derive(Drop)]
+#[derive(Clone, Copy)]
 pub(crate) enum Sought {
     Any,
     Of(Ballot),

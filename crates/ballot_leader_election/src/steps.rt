@@ -15,7 +15,7 @@ use super::{BallotLeaderElection, Led, Replies, seen};
 use entry::Ballot;
 
 // Where a node stands: its own ballot, the leader's, and whether it is happy with that.
-#[derive(Drop)]
+#[derive(Clone, Copy)]
 pub struct Standing {
     pub current_ballot: Ballot,
     pub leader: Ballot,

@@ -38,7 +38,7 @@ fn target(index: IndexRecord, upto: Upto) -> u64
 }
 
 // What becomes of the run's start: it stays, with the answer to that, or it moves up to an index.
-#[derive(Drop)]
+#[derive(Clone, Copy)]
 pub enum Reach {
     Stays(Settled),
     To(u64),

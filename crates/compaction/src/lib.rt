@@ -1,5 +1,7 @@
 // The calls of document 01's module 6 on a lent log. Each contract is one equation with `run`: the reply, the record
 // and every lent word after the call. `compact` is the Rust's `try_trim` and `try_snapshot` in one.
+#![tactic(auto)]
+
 ghost use Rattle.std.specs.Prelude.{◌≡◌, true, eqb, length};
 ghost use Rattle.entry.specs.Limits.{snapshot_words};
 ghost use Rattle.entry.specs.Upto.{upto_of};

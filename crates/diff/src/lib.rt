@@ -1,4 +1,6 @@
 // What a follower lacks: module 7 of document 01 on a lent log.
+#![tactic(auto)]
+
 ghost use Rattle.std.specs.Prelude.{◌≡◌, eqb, length};
 ghost use Rattle.entry.specs.Limits.{snapshot_words};
 ghost use Rattle.model.specs.Calls.{query, diff};
@@ -13,7 +15,7 @@ pub mod inner;
 
 // What was written to the output slice, with its number of keys: a snapshot of all that is decided, one of what is
 // decided from an index on, or none. Beside each the index up to which it goes.
-#[derive(Drop)]
+#[derive(Clone, Copy)]
 pub enum Diff {
     Nothing { log_decided: LogIndex },
     Complete { keys: usize, log_decided: LogIndex },

@@ -14,7 +14,7 @@ const NODES: usize = super::NUMBERS;
 
 const LINKS: usize = NODES * NODES;
 
-#[derive(Drop)]
+#[derive(Clone, Copy)]
 pub struct Cluster {
     pub count: usize,
     pub nodes: [BallotLeaderElection; NODES],

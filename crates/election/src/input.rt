@@ -10,7 +10,7 @@ use text::inner::Partial;
 const CHUNK: usize = 4096;
 
 // Which bytes of the part are yet to be taken, the line so far, whether it has ended, and whether there may be more.
-#[derive(Drop)]
+#[derive(Clone, Copy)]
 pub struct Input {
     pub at: usize,
     pub end: usize,

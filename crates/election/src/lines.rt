@@ -12,14 +12,14 @@ const LARGEST: u64 = 0xffff_ffff;
 pub const CONFIGURATION: u32 = 1;
 
 // All nodes, or the one at a place.
-#[derive(Drop)]
+#[derive(Clone, Copy)]
 pub enum Whom {
     All,
     At(usize),
 }
 
 // A line, with the places of the nodes that it names.
-#[derive(Drop)]
+#[derive(Clone, Copy)]
 pub enum Command {
     Nodes,
     Link(usize, Whom, bool),
@@ -31,14 +31,14 @@ pub enum Command {
 }
 
 // A line's numbers; `fine` where each of its words after the first is one, and they are not too many.
-#[derive(Drop)]
+#[derive(Clone, Copy)]
 pub struct Spelled {
     pub fine: bool,
     pub count: usize,
     pub held: [u64; super::NUMBERS],
 }
 
-#[derive(Drop)]
+#[derive(Clone, Copy)]
 pub struct Asked {
     pub command: Command,
     pub numbers: Spelled,

@@ -1,5 +1,7 @@
 // Plays a cluster of nodes that elect a leader, by the lines of standard input, and prints what each answers. Nothing is
 // sent or timed but by a line, so that an election can be watched, and told again.
+#![tactic(auto)]
+
 ghost use Rattle.election.specs.Sizes.{Within};
 
 use cluster::Cluster;

@@ -1,4 +1,6 @@
 // Entries, replies on their keys, ballots, stop-signs and refusals: module 1 of document 01, and its table of refusals.
+#![tactic(auto)]
+
 ghost use Rattle.std.specs.Prelude.{◌≡◌};
 ghost use Rattle.entry.specs.Change.{word_formed, slice_formed};
 ghost use Rattle.entry.specs.Reply.{known_is, reply_at};
@@ -43,23 +45,23 @@ pub const UNKNOWN: u64 = 0xffff_ffff_ffff_fffe;
 
 // The number of a change in the log.
 #[repr(C)]
-#[derive(Drop)]
+#[derive(Clone, Copy)]
 pub struct LogIndex(pub u64);
 
 // The number of a block on disk.
 #[repr(C)]
-#[derive(Drop)]
+#[derive(Clone, Copy)]
 pub struct BlockPlace(pub u64);
 
 // What an entry says of its key: a block place, or that it is removed.
-#[derive(Drop)]
+#[derive(Clone, Copy)]
 pub enum Said {
     Place(BlockPlace),
     Removed,
 }
 
 // What is known of a key: what an entry says of it, or nothing.
-#[derive(Drop)]
+#[derive(Clone, Copy)]
 pub enum Known {
     Says(Said),
     Unknown,
@@ -67,21 +69,21 @@ pub enum Known {
 
 // What a compaction does with the entries that leave the log: a trim drops them, and the held snapshot, which then
 // lacks them; a snapshot folds them onto it.
-#[derive(Drop)]
+#[derive(Clone, Copy)]
 pub enum Compaction {
     Trim,
     Snapshot,
 }
 
 // How far a compaction goes, the Rust's `Option`: over all that is log-decided, or up to an index.
-#[derive(Drop)]
+#[derive(Clone, Copy)]
 pub enum Upto {
     All,
     Index(LogIndex),
 }
 
 #[repr(C)]
-#[derive(Drop)]
+#[derive(Clone, Copy)]
 pub struct Ballot {
     pub config_id: u32,
     pub n: u32,
@@ -89,7 +91,7 @@ pub struct Ballot {
     pub pid: u64,
 }
 
-#[derive(Drop)]
+#[derive(Clone, Copy)]
 pub enum Ordering {
     Less,
     Equal,
@@ -152,7 +154,7 @@ impl Ballot {
 
 // The next configuration: up to seven nodes and up to 32 bytes of metadata, or none. Unused elements are zero.
 #[repr(C)]
-#[derive(Drop)]
+#[derive(Clone, Copy)]
 pub struct StopSign {
     pub config_id: u32,
     pub node_count: usize,
@@ -163,7 +165,7 @@ pub struct StopSign {
 }
 
 // The refusals of document 01, in its order, and of document 02; each holds the number that it carries.
-#[derive(Drop)]
+#[derive(Clone, Copy)]
 pub enum Refusal {
     NoRoom,
     AboveDecided(LogIndex),

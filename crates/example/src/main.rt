@@ -1,5 +1,7 @@
 // The library from a program: the entries of two logs are folded, the folds are merged, and keys are looked up; then
 // a log takes an entry, which is decided and looked up, alone and with another key in one call.
+#![tactic(auto)]
+
 use entry::{BlockPlace, Known, LogIndex, Said};
 use reading::Bound;
 use snapshot::{Folded, Found};

@@ -2,6 +2,8 @@
 // and come back by value, slices are lent as a pointer and a length, and each answer is one struct of numbers. A
 // contract is the library's, with the same right side: what document 01's model says, read by `plainly`. docs/HOST.md
 // is the reference.
+#![tactic(auto)]
+
 use ballot_leader_election::{BallotLeaderElection, Outgoing, Replies};
 use entry::{Ballot, LogIndex, StopSign};
 use state_cache::IndexRecord;
@@ -22,7 +24,7 @@ pub mod state;
 // Number 0: the call stands, and where `told` is not 0 `first` and `second` are what it tells. Any other: the
 // refusal, and what it carries.
 #[repr(C)]
-#[derive(Drop)]
+#[derive(Clone, Copy)]
 pub struct Said {
     pub number: u64,
     pub carried: u64,
@@ -33,7 +35,7 @@ pub struct Said {
 
 // What a call says, and the record after it.
 #[repr(C)]
-#[derive(Drop)]
+#[derive(Clone, Copy)]
 pub struct Reply {
     pub said: Said,
     pub index: IndexRecord,
@@ -42,7 +44,7 @@ pub struct Reply {
 // What a read says: where `told` is 1, the marker (0: none; 1: trimmed; 2: a snapshot), the part of the lent log, and
 // the stop-sign.
 #[repr(C)]
-#[derive(Drop)]
+#[derive(Clone, Copy)]
 pub struct ShownSaid {
     pub number: u64,
     pub carried: u64,
@@ -59,7 +61,7 @@ pub struct ShownSaid {
 
 // One end of a range, kind 0: included; 1: excluded; 2: none.
 #[repr(C)]
-#[derive(Drop)]
+#[derive(Clone, Copy)]
 pub struct PlainBound {
     pub kind: u64,
     pub index: LogIndex,
@@ -67,7 +69,7 @@ pub struct PlainBound {
 
 // An operation: its kind is the place in `backend::OpKind`, from 0.
 #[repr(C)]
-#[derive(Drop)]
+#[derive(Clone, Copy)]
 pub struct PlainOp {
     pub kind: u64,
     pub index: LogIndex,
@@ -77,7 +79,7 @@ pub struct PlainOp {
 
 // Up to eight, the bytes of an array of them.
 #[repr(C)]
-#[derive(Drop)]
+#[derive(Clone, Copy)]
 pub struct PlainOps {
     pub count: usize,
     pub a: PlainOp,
@@ -92,7 +94,7 @@ pub struct PlainOps {
 
 // A sync's log part: its kind is the place in `sync::SnapshotType`, from 0.
 #[repr(C)]
-#[derive(Drop)]
+#[derive(Clone, Copy)]
 pub struct PlainSync {
     pub sync_idx: LogIndex,
     pub kind: u64,
@@ -103,7 +105,7 @@ pub struct PlainSync {
 
 // What a call of the election says, and the node's state after it.
 #[repr(C)]
-#[derive(Drop)]
+#[derive(Clone, Copy)]
 pub struct ElectionReply {
     pub said: Said,
     pub election: BallotLeaderElection,
@@ -111,7 +113,7 @@ pub struct ElectionReply {
 
 // The same with the messages that it hands out; none where it is refused.
 #[repr(C)]
-#[derive(Drop)]
+#[derive(Clone, Copy)]
 pub struct ElectionTaken {
     pub said: Said,
     pub outgoing: Outgoing,
@@ -120,14 +122,14 @@ pub struct ElectionTaken {
 
 // What a call says that hands out a ballot, zeros where it is refused; or replies, none where it is refused.
 #[repr(C)]
-#[derive(Drop)]
+#[derive(Clone, Copy)]
 pub struct ElectionBallot {
     pub said: Said,
     pub ballot: Ballot,
 }
 
 #[repr(C)]
-#[derive(Drop)]
+#[derive(Clone, Copy)]
 pub struct ElectionBallots {
     pub said: Said,
     pub replies: Replies,

@@ -41,7 +41,7 @@ pub(crate) fn put_changes(s: &mut [u8], at: usize, mark: u64, words: &[u64], n: 
 }
 
 // Whether a sound record stands somewhere, and then its key.
-#[derive(Drop)]
+#[derive(Clone, Copy)]
 pub struct Seen {
     pub sound: bool,
     pub key: u64,

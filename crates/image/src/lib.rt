@@ -1,5 +1,7 @@
 // The stored image of a log: a header, the snapshot's keys, the retained entries and the stop-sign, each a record of
 // bytes with its own mark and sum. A batch is not written. Reading judges every record before a word is loaded.
+#![tactic(auto)]
+
 ghost use Rattle.std.specs.Prelude.{◌≡◌};
 ghost use Rattle.entry.specs.Guards.{first};
 ghost use Rattle.snapshot.specs.Calls.{outcome as output};
@@ -42,7 +44,7 @@ pub const ROOM: usize = HEAD
     + entry::METADATA;
 
 // What a header says.
-#[derive(Drop)]
+#[derive(Clone, Copy)]
 pub struct Head {
     pub snapshot: bool,
     pub stop: bool,
@@ -57,7 +59,7 @@ pub struct Head {
 }
 
 // A record that a header lets one expect behind it; a stop-sign's with metadata or without.
-#[derive(Drop)]
+#[derive(Clone, Copy)]
 pub enum Want {
     Key,
     Entry,
@@ -65,14 +67,14 @@ pub enum Want {
 }
 
 // The reply of a write: how many bytes it wrote.
-#[derive(Drop)]
+#[derive(Clone, Copy)]
 pub enum Written {
     Bytes(usize),
     Refused(Refusal),
 }
 
 // Whether some bytes are an image.
-#[derive(Drop)]
+#[derive(Clone, Copy)]
 pub enum Judged {
     Sound,
     Refused(Refusal),

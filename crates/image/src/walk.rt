@@ -24,7 +24,7 @@ fn want_at(h: Head, i: usize) -> Want
 
 // How many bytes the sound record that stands somewhere has, 0 where none does; and after it, whether the next key
 // may be any, or else which it must be above.
-#[derive(Drop)]
+#[derive(Clone, Copy)]
 pub struct Step {
     pub size: usize,
     pub any: bool,
@@ -74,7 +74,7 @@ fn record_at(s: &[u8], at: usize, want: Want, any: bool, before: u64) -> Step
 }
 
 // Where the leading sound records end, and whether they are all that is wanted and all that is there.
-#[derive(Drop)]
+#[derive(Clone, Copy)]
 pub struct Walked {
     pub end: usize,
     pub whole: bool,

@@ -1,5 +1,7 @@
 // `image check FILE` says whether a file is the image of a log. `image show FILE` shows what the log holds, or which
 // record of a bad file is bad, where it stands, and what is wrong with it.
+#![tactic(auto)]
+
 use image::Judged;
 use keep::Loaded;
 use libc::STDOUT_FILENO;
@@ -12,7 +14,7 @@ const WORD: usize = 5;
 
 const LINE: usize = 128;
 
-#[derive(Drop)]
+#[derive(Clone, Copy)]
 enum Task {
     Check,
     Show,

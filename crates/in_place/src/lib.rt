@@ -1,5 +1,7 @@
 // Module 10: the host keeps one index record, and decide and trim alter it where it stands. Each is the call by value
 // on the record that is there, and what it hands back is stored.
+#![tactic(auto)]
+
 ghost use Rattle.std.specs.Prelude.{◌≡◌, true};
 ghost use Rattle.entry.specs.Upto.{upto_of};
 ghost use Rattle.entry.specs.declared.Compaction.TheVariants.{Trim};

@@ -22,7 +22,7 @@ pub mod flush;
 pub mod stop;
 
 // What a call's refusals come to: the first that applies, or none.
-#[derive(Drop)]
+#[derive(Clone, Copy)]
 pub enum Check {
     Passed,
     Refused(Refusal),

@@ -1,5 +1,7 @@
 // A file that is saved whole or not at all, and read back. What a file holds no contract can say; what each function
 // says of its arguments it says for all of them.
+#![tactic(auto)]
+
 ghost use Rattle.std.specs.Prelude.{◌≡◌, ◌++◌, ℕ, ◌+◌, ◌<◌, ◌≤◌, length, take, get_or};
 ghost use Rattle.io.specs.Counts.{IsPrefixLen};
 ghost use Rattle.keep.specs.Files.{tail, longest, slash, Holds};
@@ -12,7 +14,7 @@ const TAIL: usize = 7;
 pub const LONGEST: usize = libc::PATH_MAX - 1 - TAIL;
 
 // What a save comes to. Where it is neither Done nor NotSynced the old file stands, or none where there was none.
-#[derive(Drop)]
+#[derive(Clone, Copy)]
 pub enum Saved {
     // The new file stands, and its bytes and its name have reached the device.
     Done,
@@ -27,7 +29,7 @@ pub enum Saved {
 }
 
 // What a load comes to: how many bytes it read, no such file, or one that cannot be read.
-#[derive(Drop)]
+#[derive(Clone, Copy)]
 pub enum Loaded {
     Bytes(usize),
     Missing,

@@ -25,7 +25,7 @@ use snapshot::Found;
 use state_cache::{IndexRecord, Settled};
 
 // Where the newest entry of a key stands, or none.
-#[derive(Drop)]
+#[derive(Clone, Copy)]
 pub enum Newest {
     At(usize),
     Nowhere,
@@ -215,14 +215,14 @@ pub fn stop_at(b: Bound, last: u64) -> u64
 }
 
 // What stands at an index of the log.
-#[derive(Drop)]
+#[derive(Clone, Copy)]
 pub enum IndexEntry {
     Compacted,
     Entry,
     StopSign,
 }
 
-#[derive(Drop)]
+#[derive(Clone, Copy)]
 pub enum Kind {
     Nothing,
     Is(IndexEntry),

@@ -1,6 +1,8 @@
 // The calls that read a lent log and change nothing: module 9's lookup, of one key or of many, the reads of module 4
 // and module 5's read. Each contract is an equation with the answer of `run`. Names are the Rust's where the Rust has
 // the call.
+#![tactic(auto)]
+
 ghost use Rattle.std.specs.Prelude.{◌≡◌, true};
 ghost use Rattle.snapshot.specs.Calls.{found};
 ghost use Rattle.model.specs.Calls.{query, lookup as lookupCall, lookup_many, get_entries, get_suffix, read as read_call};
@@ -18,14 +20,14 @@ use state_cache::{IndexRecord, Settled};
 pub mod inner;
 
 // A part of the lent log, in entries from its start: `entries_of` is that part.
-#[derive(Drop)]
+#[derive(Clone, Copy)]
 pub enum Span {
     Run { first: usize, count: usize },
     Refused(Refusal),
 }
 
 // One end of a range.
-#[derive(Drop)]
+#[derive(Clone, Copy)]
 pub enum Bound {
     Included(LogIndex),
     Excluded(LogIndex),
@@ -33,7 +35,7 @@ pub enum Bound {
 }
 
 // What stands for the entries below the compacted index; the snapshot's words are those lent.
-#[derive(Drop)]
+#[derive(Clone, Copy)]
 pub enum Marker {
     None,
     Trimmed(LogIndex),
@@ -42,7 +44,7 @@ pub enum Marker {
 
 // A run that is read: its marker; its entries, a part of the lent log, with the number of them decided; and whether the
 // stop-sign, which stays in the record, comes last, and is decided.
-#[derive(Drop)]
+#[derive(Clone, Copy)]
 pub struct ShownRun {
     pub marker: Marker,
     pub first: usize,
@@ -52,7 +54,7 @@ pub struct ShownRun {
     pub stop_decided: bool,
 }
 
-#[derive(Drop)]
+#[derive(Clone, Copy)]
 pub enum ReadReply {
     Nothing,
     Run(ShownRun),
@@ -60,7 +62,7 @@ pub enum ReadReply {
 }
 
 // What a read in one call gives: the reply, and the part of the lent log beside it.
-#[derive(Drop)]
+#[derive(Clone, Copy)]
 pub struct Shown<'a> {
     pub entries: &'a [u64],
     pub reply: ReadReply,

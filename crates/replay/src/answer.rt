@@ -21,21 +21,21 @@ use state_cache::{IndexAnswer, IndexRecord, Settled};
 use text::{Command, Line};
 
 // What answers a command: a line, or what a read shows.
-#[derive(Drop)]
+#[derive(Clone, Copy)]
 pub enum Reply {
     Line(Line),
     Read(ReadReply),
 }
 
 // The record after a command, and its answer.
-#[derive(Drop)]
+#[derive(Clone, Copy)]
 pub struct Answered {
     pub index: IndexRecord,
     pub reply: Reply,
 }
 
 // The record after a command, and the index after its answer's bytes.
-#[derive(Drop)]
+#[derive(Clone, Copy)]
 pub struct Stepped {
     pub index: IndexRecord,
     pub at: usize,

@@ -13,7 +13,7 @@ use text::inner::Partial;
 
 // What is kept from one part to the next: the record, the line, how many bytes of answers wait, and whether there may
 // be more input.
-#[derive(Drop)]
+#[derive(Clone, Copy)]
 pub struct Feed {
     pub index: IndexRecord,
     pub held: Partial,

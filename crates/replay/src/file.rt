@@ -10,7 +10,7 @@ use keep::{Loaded, Saved};
 use state_cache::{IndexAnswer, IndexRecord};
 
 // What the program was started with: no file, one whose name has so many bytes, or what can be no file's name.
-#[derive(Drop)]
+#[derive(Clone, Copy)]
 pub enum Given {
     Nothing,
     File(usize),
@@ -18,7 +18,7 @@ pub enum Given {
 }
 
 // The log before the first line, or what is told where there is none.
-#[derive(Drop)]
+#[derive(Clone, Copy)]
 pub struct Begun {
     pub index: IndexRecord,
     pub told: Told,

@@ -1,5 +1,7 @@
 // Replays the lines of standard input on a log, and prints what each answers. With a file as its argument the log is
 // the one that the file holds, and is saved to it after the last line.
+#![tactic(auto)]
+
 ghost use Rattle.std.specs.Prelude.{ℕ, ◌≤◌, List, take};
 ghost use Rattle.state_cache.specs.State.{Raw, raw};
 ghost use Rattle.text.specs.Rooms.{input_line};

@@ -9,7 +9,7 @@ use libc::STDOUT_FILENO;
 const TOLD_ROOM: usize = 128;
 
 // A refusal is told by its number and what it carries.
-#[derive(Drop)]
+#[derive(Clone, Copy)]
 pub enum Told {
     Nothing,
     // Before the first line: no file can have the name; the file cannot be read; it has no image.

@@ -30,7 +30,7 @@ pub fn keys_ascend(s: &[u64], n: usize) -> bool
 }
 
 // Where a key stands, or before which entry it would.
-#[derive(Drop)]
+#[derive(Clone, Copy)]
 pub enum Spot {
     At(usize),
     Before(usize),

@@ -1,5 +1,7 @@
 // Snapshots: module 2 of document 01. A snapshot is a lent slice of SNAPSHOT_WORDS words and a number of keys: so
 // many entries, ascending by key, and zeros after them.
+#![tactic(auto)]
+
 ghost use Rattle.std.specs.Prelude.{◌≡◌};
 ghost use Rattle.snapshot.specs.Calls.{snapshot_formed, outcome, folded, fold_call, merge_call, found, find_call};
 
@@ -8,14 +10,14 @@ use entry::{BlockPlace, Refusal};
 pub mod inner;
 
 // What a fold or a merge comes to: so many keys, written out.
-#[derive(Drop)]
+#[derive(Clone, Copy)]
 pub enum Folded {
     Keys(usize),
     Refused(Refusal),
 }
 
 // What a search comes to: what the newest word on a key says, or that there is none.
-#[derive(Drop)]
+#[derive(Clone, Copy)]
 pub enum Found {
     Place(BlockPlace),
     Removed,

@@ -1,5 +1,7 @@
 // The index record: a log's numbers by value, beside its lent words. When the two are well formed; a fresh log, and a
 // log reloaded; and what a user asks for that no field of the record says.
+#![tactic(auto)]
+
 ghost use Rattle.std.specs.Prelude.{◌≡◌, true};
 ghost use Rattle.model.specs.Numbers.{accepted_of, stop_decided, log_decided};
 ghost use Rattle.model.specs.Calls.{reload};
@@ -11,7 +13,7 @@ use entry::{Ballot, LogIndex, Refusal, StopSign};
 pub mod inner;
 
 #[repr(C)]
-#[derive(Drop)]
+#[derive(Clone, Copy)]
 pub struct IndexRecord {
     pub batch_size: u64,
     pub retained: usize,
@@ -27,33 +29,33 @@ pub struct IndexRecord {
 }
 
 // The reply of a call that has nothing more to say.
-#[derive(Drop)]
+#[derive(Clone, Copy)]
 pub enum Settled {
     Done,
     Refused(Refusal),
 }
 
-#[derive(Drop)]
+#[derive(Clone, Copy)]
 pub struct SettledAt {
     pub answer: Settled,
     pub index: IndexRecord,
 }
 
 // The reply of a call that tells an index of the log: the accepted one, or log-decided.
-#[derive(Drop)]
+#[derive(Clone, Copy)]
 pub enum IndexAnswer {
     At(LogIndex),
     Refused(Refusal),
 }
 
-#[derive(Drop)]
+#[derive(Clone, Copy)]
 pub struct IndexAnswerAt {
     pub answer: IndexAnswer,
     pub index: IndexRecord,
 }
 
 // The reply of a question that is answered by yes or no.
-#[derive(Drop)]
+#[derive(Clone, Copy)]
 pub enum Flag {
     Is(bool),
     Refused(Refusal),

@@ -1,4 +1,6 @@
 // A leader's sync: module 8 of document 01 on a lent log. The name is the Rust's.
+#![tactic(auto)]
+
 ghost use Rattle.std.specs.Prelude.{◌≡◌};
 ghost use Rattle.model.specs.Calls.{sync as syncCall};
 ghost use Rattle.state_cache.specs.State.{raw};
@@ -12,7 +14,7 @@ pub mod inner;
 
 // What a sync brings for the entries below its index, the Rust's `Option<SnapshotType>`: nothing, all of them, or
 // those from our log-decided index on.
-#[derive(Drop)]
+#[derive(Clone, Copy)]
 pub enum SnapshotType {
     Plain,
     Complete,
@@ -20,7 +22,7 @@ pub enum SnapshotType {
 }
 
 // A sync's log part. Its suffix and its snapshot are lent beside it; the snapshot has so many keys.
-#[derive(Drop)]
+#[derive(Clone, Copy)]
 pub struct LogSync {
     pub sync_idx: LogIndex,
     pub decided_snapshot: SnapshotType,

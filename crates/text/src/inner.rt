@@ -233,7 +233,7 @@ pub fn put_run(out: &mut [u8], at: usize, entries: &[u64], n: usize, decided: us
 }
 
 // A line of which parts have come: how many bytes stand in its buffer, and whether there were more than it holds.
-#[derive(Drop)]
+#[derive(Clone, Copy)]
 pub struct Partial {
     pub len: usize,
     pub over: bool,

@@ -1,4 +1,6 @@
 // The text of a replay: what a line of input means, and the lines that are printed.
+#![tactic(auto)]
+
 ghost use Rattle.std.specs.Prelude.{◌≡◌};
 ghost use Rattle.text.specs.Parse.{same_of, bare_of, compact_of, numbered_of, with_one, with_two, parse_of};
 
@@ -17,14 +19,14 @@ pub const INPUT_LINE: usize = 4 + 2 * (1 + DIGITS);
 pub const OUTPUT_LINE: usize = 10 + 2 * (DIGITS + 1);
 
 // What a word is when it is read as a number.
-#[derive(Drop)]
+#[derive(Clone, Copy)]
 pub enum Parsed {
     Value(u64),
     NoNumber,
 }
 
 // A line of input.
-#[derive(Drop)]
+#[derive(Clone, Copy)]
 pub enum Command {
     Batch(u64),
     Put(u64, u64),
@@ -39,7 +41,7 @@ pub enum Command {
 }
 
 // A line of output, but for those of a run's entries.
-#[derive(Drop)]
+#[derive(Clone, Copy)]
 pub enum Line {
     Done,
     Held,

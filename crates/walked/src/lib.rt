@@ -1,5 +1,7 @@
 // The two calls that take or give references to structs, as functions on plain slices and values that the boundary can
 // export: what a read shows, and an operation list as a slice.
+#![tactic(auto)]
+
 ghost use Rattle.std.specs.Prelude.{◌≡◌, true};
 ghost use Rattle.model.specs.Calls.{query, read};
 ghost use Rattle.state_cache.specs.State.{raw};

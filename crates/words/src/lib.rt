@@ -1,6 +1,8 @@
 // Words moved, copied and cleared in place, in a lent slice of any length. `paste d at s n` is d with the first n
 // words of s over its own from `at` on; `laid` and `spliced` are definitions of specs/Words.antt. What a function
 // needs of its arguments it requires: its callers have tested it.
+#![tactic(auto)]
+
 ghost use Rattle.std.specs.Prelude.{◌≡◌, [], ◌+◌, ◌-◌, ◌≤◌, length, take, drop, replicate};
 ghost use Rattle.std.proofs.Math.Seq.{paste};
 ghost use Rattle.words.specs.Words.{laid, spliced, all_zero};

@@ -15,7 +15,7 @@ use entry::{Ballot, LogIndex, Refusal, StopSign};
 use state_cache::{IndexRecord, Settled};
 
 // A list's state after an operation, and the start of the run, which may not be compacted.
-#[derive(Drop)]
+#[derive(Clone, Copy)]
 pub struct Stepped {
     pub answer: Settled,
     pub start: u64,

@@ -1,0 +1,11 @@
+-- `ballot_leader_election::forms::messages_blank` meets its contract: those passed and those that are left are together what is asked.
+use Rattle.words.proofs.Prelude.{◌≡◌, ◌-◌, ◌&&◌, length, drop}
+use Rattle.words.specs.All.{all_of}
+use Rattle.ballot_leader_election.specs.State.{message_blank}
+use Rattle.ballot_leader_election.proofs.forms.messages_blank.Given as goal
+
+abbrev pub invariant-loop-i : goal.invariant-loop-i
+invariant-loop-i l = (l.ok && all_of message_blank (drop l.i l.held)) ≡ all_of message_blank (drop l.from l.held)
+
+abbrev pub decreases-loop-i : goal.decreases-loop-i
+decreases-loop-i l = length l.held - l.i

@@ -1,0 +1,15 @@
+-- `ballot_leader_election::forms::peers_formed` meets its contract: the array is as long as it is, and both tests are joined.
+use Rattle.words.proofs.Prelude.{◌≡◌, eq-eqb, length-map, length}
+use Rattle.entry.specs.Limits.{most_peers}
+use Rattle.ballot_leader_election.specs.State.{list_formed}
+use Rattle.ballot_leader_election.proofs.forms.peers_formed.Goals as goal
+use Rattle.ballot_leader_election.proofs.forms.peers_formed.Goals.{Start}
+
+long : (st : Start) → length st.args.peers.held ≡ most_peers
+long st =
+    simp length-map at st.well_formed_lem.0.1.1.1.0.1.0.1
+
+pub returns : goal.returns
+unfolding list_formed
+returns c =
+    simp (eq-eqb _ _ (long (goal.at.returns c).Start), c.zero_from-rest.ensures)

@@ -1,0 +1,10 @@
+-- `reading::inner::newest_at` meets its contract: the newest of all entries is that of those not yet looked at.
+use Rattle.words.proofs.Prelude.{◌-◌}
+use Rattle.reading.proofs.Looking.{Left}
+use Rattle.reading.proofs.inner.newest_at.Given as goal
+
+abbrev pub invariant-loop-i : goal.invariant-loop-i
+invariant-loop-i l = Left l.n l.log l.key l.i
+
+abbrev pub decreases-loop-i : goal.decreases-loop-i
+decreases-loop-i l = l.i

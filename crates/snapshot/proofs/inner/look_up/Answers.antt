@@ -1,0 +1,25 @@
+-- `snapshot::inner::look_up` meets its contract: by where the search ended.
+use Rattle.words.proofs.Prelude.{arith, sym, ap, ◌∙◌, Option, some}
+use Rattle.entry.specs.{Change.Said, Guards.replied}
+use Rattle.snapshot.proofs.{Searching.spot_inside, Calling.look_none, Calling.look_at}
+use Rattle.snapshot.proofs.inner.look_up.Goals as goal
+
+pub returns-in_default : goal.returns-in_default
+returns-in_default c =
+    look_none c.args.n c.args.s.now c.args.key _ (sym c.in_default.is ∙ c.search-spot.ensures)
+
+pub said_at-requires : goal.said_at-requires
+said_at-requires c =
+    omega (
+      arith,
+      c.requires.laid.fits,
+      spot_inside c.args.n c.args.s.now
+          c.args.key _ (sym c.in-At.is ∙ c.search-spot.ensures),
+    )
+
+pub returns : goal.returns
+returns c =
+    c.found_of.ensures
+    ∙ ap (λ (x : Said). replied (some x)) c.Said-at.ensures
+    ∙ ap (λ (o : Option Said). replied o)
+    (look_at c.args.n c.args.s.now c.args.key _ (sym c.in-At.is ∙ c.search-spot.ensures))

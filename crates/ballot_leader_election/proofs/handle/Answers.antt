@@ -1,5 +1,5 @@
 -- `ballot_leader_election::handle` meets its contract: 12, else by whether it is a reply.
-use Rattle.words.proofs.Prelude.{sym, ap, ◌∙◌, Bool, not-true, not-false, if◌then◌else◌}
+use Rattle.words.proofs.Prelude.{sym, ap, ◌∙◌, Bool, if◌then◌else◌}
 use Rattle.ballot_leader_election.specs.{declared.BLEMessage.BLEMessage, declared.BallotLeaderElection.BallotLeaderElection, State.election_of, Calls.handle}
 use Rattle.ballot_leader_election.specs.{Steps.requested, Steps.replying, Calls.request_guards, Calls.reply_guards, Run.Outcome, Run.comes}
 use Rattle.ballot_leader_election.proofs.{Forming.formed_facts, Coming.ill_formed, Coming.well_formed_lem}
@@ -14,24 +14,24 @@ byReply e m b =
 pub returns-then-not-well_formed : goal.returns-then-not-well_formed
 returns-then-not-well_formed c =
     c.refuse.ensures
-    ∙ ill_formed (handle c.args.m) c.args.e (sym c.well-formed-2.ensures ∙ not-true _ c.if-not-well_formed.true)
+    ∙ ill_formed (handle c.args.m) c.args.e (sym c.well-formed-2.ensures ∙ c.if-not-well_formed.true)
 
 pub returns-then-m : goal.returns-then-m
 unfolding byReply
 returns-then-m c =
     c.handle_reply.ensures ∙ ap (byReply c.args.e c.args.m) (sym c.if-m.true)
-    ∙ well_formed_lem (handle c.args.m) c.args.e (sym c.well-formed-2.ensures ∙ not-false _ c.if-not-well_formed.false)
+    ∙ well_formed_lem (handle c.args.m) c.args.e (sym c.well-formed-2.ensures ∙ c.if-not-well_formed.false)
 
 pub returns : goal.returns
 unfolding byReply
 returns c =
     c.handle_request.ensures ∙ ap (byReply c.args.e c.args.m) (sym c.if-m.false)
-    ∙ well_formed_lem (handle c.args.m) c.args.e (sym c.well-formed-2.ensures ∙ not-false _ c.if-not-well_formed.false)
+    ∙ well_formed_lem (handle c.args.m) c.args.e (sym c.well-formed-2.ensures ∙ c.if-not-well_formed.false)
 
 pub handle_reply-requires : goal.handle_reply-requires
 handle_reply-requires c =
-    formed_facts _ (sym c.well-formed-2.ensures ∙ not-false _ c.if-not-well_formed.false)
+    formed_facts _ (sym c.well-formed-2.ensures ∙ c.if-not-well_formed.false)
 
 pub handle_request-requires : goal.handle_request-requires
 handle_request-requires c =
-    formed_facts _ (sym c.well-formed-2.ensures ∙ not-false _ c.if-not-well_formed.false)
+    formed_facts _ (sym c.well-formed-2.ensures ∙ c.if-not-well_formed.false)

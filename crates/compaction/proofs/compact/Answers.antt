@@ -1,6 +1,6 @@
 -- `compaction::compact` meets its contract: refusal 12, or what a compaction of a well-formed log comes to.
 use Rattle.words.proofs.Prelude.{rules}
-use Rattle.words.proofs.Prelude.{sym, ◌∙◌, true, not-true, not-false}
+use Rattle.words.proofs.Prelude.{sym, ◌∙◌, true}
 use Rattle.model.specs.Calls.{compact}
 use Rattle.state_cache.specs.State.{raw}
 use Rattle.state_cache.proofs.{Stands.ready_of, Runs.ill_formed}
@@ -11,12 +11,12 @@ pub returns-then-not-well_formed : goal.returns-then-not-well_formed
 returns-then-not-well_formed c =
     ill_formed (compact c.args.what (upto_of c.args.upto)) true
     (raw c.args.index c.args.log.now c.args.snapshot.now)
-    (sym c.well-formed-2.ensures ∙ not-true _ c.if-not-well_formed.true)
+    (sym c.well-formed-2.ensures ∙ c.if-not-well_formed.true)
 
 pub compact_at-requires : goal.compact_at-requires
 compact_at-requires c =
     ready_of (raw c.args.index c.args.log.now c.args.snapshot.now)
-    (sym c.well-formed-2.ensures ∙ not-false _ c.if-not-well_formed.false)
+    (sym c.well-formed-2.ensures ∙ c.if-not-well_formed.false)
 
 pub returns : goal.returns
 returns c =

@@ -1,6 +1,6 @@
 -- `compaction::create_snapshot` meets its contract: refusals 12 and 11, or what a creation from a well-formed log comes
 -- to.
-use Rattle.words.proofs.Prelude.{◌≡◌, sym, ap, ◌∙◌, Bool, true, eqb, not-true, not-false, eqb-true, length}
+use Rattle.words.proofs.Prelude.{◌≡◌, sym, ap, ◌∙◌, Bool, true, eqb, eqb-true, length}
 use Rattle.entry.specs.Limits.{snapshot_words}
 use Rattle.model.specs.Calls.{query, create}
 use Rattle.state_cache.specs.{State.raw, State.formed, Run.run}
@@ -12,26 +12,26 @@ use Rattle.compaction.proofs.create_snapshot.Goals.{Else-not-well_formed}
 
 okay : (e : Else-not-well_formed) → formed (raw e.args.index e.args.log.now e.args.snapshot.now) ≡ true
 okay e =
-    sym e.well-formed-2.ensures ∙ not-false _ e.if-not-well_formed.false
+    sym e.well-formed-2.ensures ∙ e.if-not-well_formed.false
 
 pub returns-then-not-well_formed : goal.returns-then-not-well_formed
 returns-then-not-well_formed c =
     create_ill_formed (raw c.args.index c.args.log.now c.args.snapshot.now) c.args.idx.0 c.args.out.now
     (eqb (length c.args.out.now) snapshot_words)
-    (sym c.well-formed-2.ensures ∙ not-true _ c.if-not-well_formed.true)
+    (sym c.well-formed-2.ensures ∙ c.if-not-well_formed.true)
 
 pub returns-then-not-roomy : goal.returns-then-not-roomy
 returns-then-not-roomy c =
     create_malformed (raw c.args.index c.args.log.now c.args.snapshot.now) c.args.idx.0 c.args.out.now (okay (goal.at.returns-then-not-roomy c).Else-not-well_formed)
-    (eqb (length c.args.out.now) snapshot_words) (not-true _ c.if-not-roomy.true)
+    (eqb (length c.args.out.now) snapshot_words) (c.if-not-roomy.true)
 
 pub create_at-requires : goal.create_at-requires
 create_at-requires c = (
   ready_of (raw c.args.index c.args.log.now c.args.snapshot.now) (okay (goal.at.create_at-requires c).Else-not-well_formed),
-  eqb-true (length c.args.out.now) snapshot_words (not-false _ c.if-not-roomy.false),
+  eqb-true (length c.args.out.now) snapshot_words (c.if-not-roomy.false),
 )
 
 pub returns : goal.returns
 returns c =
     c.create_at.ensures ∙ ap (λ (t : Bool). written_out (run (query (create c.args.idx.0)) t
-    (raw c.args.index c.args.log.now c.args.snapshot.now)).answer c.args.out.now) (sym (not-false _ c.if-not-roomy.false))
+    (raw c.args.index c.args.log.now c.args.snapshot.now)).answer c.args.out.now) (sym (c.if-not-roomy.false))

@@ -1,5 +1,5 @@
 -- `diff::create_diff_snapshot` meets its contract: refusals 12 and 11, or what a diff of a well-formed log comes to.
-use Rattle.words.proofs.Prelude.{◌≡◌, sym, ◌∙◌, true, eqb, not-true, not-false, eqb-true, length}
+use Rattle.words.proofs.Prelude.{◌≡◌, sym, ◌∙◌, true, eqb, eqb-true, length}
 use Rattle.entry.specs.Limits.{snapshot_words}
 use Rattle.state_cache.specs.State.{raw, formed}
 use Rattle.state_cache.proofs.Stands.{ready_of}
@@ -9,27 +9,27 @@ use Rattle.diff.proofs.create_diff_snapshot.Goals.{Else-not-well_formed}
 
 okay : (e : Else-not-well_formed) → formed (raw e.args.index e.args.log.now e.args.snapshot.now) ≡ true
 okay e =
-    sym e.well-formed-2.ensures ∙ not-false _ e.if-not-well_formed.false
+    sym e.well-formed-2.ensures ∙ e.if-not-well_formed.false
 
 pub returns-then-not-well_formed : goal.returns-then-not-well_formed
 returns-then-not-well_formed c =
     diff_ill_formed (raw c.args.index c.args.log.now c.args.snapshot.now) c.args.from.0 c.args.out.now
     (eqb (length c.args.out.now) snapshot_words)
-    (sym c.well-formed-2.ensures ∙ not-true _ c.if-not-well_formed.true)
+    (sym c.well-formed-2.ensures ∙ c.if-not-well_formed.true)
 
 pub returns-then-not-roomy : goal.returns-then-not-roomy
 returns-then-not-roomy c =
     diff_malformed (raw c.args.index c.args.log.now c.args.snapshot.now) c.args.from.0 c.args.out.now (okay (goal.at.returns-then-not-roomy c).Else-not-well_formed)
-    (eqb (length c.args.out.now) snapshot_words) (not-true _ c.if-not-roomy.true)
+    (eqb (length c.args.out.now) snapshot_words) (c.if-not-roomy.true)
 
 pub diff_at-requires : goal.diff_at-requires
 diff_at-requires c = (
   ready_of (raw c.args.index c.args.log.now c.args.snapshot.now) (okay (goal.at.diff_at-requires c).Else-not-well_formed),
-  eqb-true (length c.args.out.now) snapshot_words (not-false _ c.if-not-roomy.false),
+  eqb-true (length c.args.out.now) snapshot_words (c.if-not-roomy.false),
 )
 
 pub returns : goal.returns
 returns c =
     told_whole (raw c.args.index c.args.log.now c.args.snapshot.now) c.args.from.0 c.args.out.now c.diff_at.result
     c.diff_at.new.1.1.1.1.0 (eqb (length c.args.out.now) snapshot_words)
-    (not-false _ c.if-not-roomy.false) c.diff_at.ensures
+    (c.if-not-roomy.false) c.diff_at.ensures

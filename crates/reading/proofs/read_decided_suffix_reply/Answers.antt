@@ -1,6 +1,6 @@
 -- `reading::read_decided_suffix_reply` meets its contract: refusal 12, then the read of a well-formed log.
 use Rattle.words.proofs.Prelude.{rules}
-use Rattle.words.proofs.Prelude.{sym, ◌∙◌, not-true, not-false}
+use Rattle.words.proofs.Prelude.{sym, ◌∙◌}
 use Rattle.model.specs.Calls.{read_decided}
 use Rattle.state_cache.specs.State.{raw}
 use Rattle.state_cache.proofs.Stands.{ready_of}
@@ -10,11 +10,11 @@ use Rattle.reading.proofs.read_decided_suffix_reply.Goals as goal
 pub returns-then-not-well_formed : goal.returns-then-not-well_formed
 returns-then-not-well_formed c =
     ill_formed_answer (read_decided c.args.from.0) (raw c.args.index c.args.log.now c.args.snapshot.now)
-    (sym c.well-formed-2.ensures ∙ not-true _ c.if-not-well_formed.true)
+    (sym c.well-formed-2.ensures ∙ c.if-not-well_formed.true)
 
 pub read_decided_suffix_reply-requires : goal.read_decided_suffix_reply-requires
 read_decided_suffix_reply-requires c =
-    ready_of _ (sym c.well-formed-2.ensures ∙ not-false _ c.if-not-well_formed.false)
+    ready_of _ (sym c.well-formed-2.ensures ∙ c.if-not-well_formed.false)
 
 pub returns : goal.returns
 returns c =

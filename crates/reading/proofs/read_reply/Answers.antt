@@ -1,6 +1,6 @@
 -- `reading::read_reply` meets its contract: refusal 12, then the read of a well-formed log.
 use Rattle.words.proofs.Prelude.{rules}
-use Rattle.words.proofs.Prelude.{sym, ◌∙◌, not-true, not-false}
+use Rattle.words.proofs.Prelude.{sym, ◌∙◌}
 use Rattle.model.specs.Calls.{read}
 use Rattle.state_cache.specs.State.{raw}
 use Rattle.state_cache.proofs.Stands.{ready_of}
@@ -11,11 +11,11 @@ use Rattle.reading.proofs.read_reply.Goals as goal
 pub returns-then-not-well_formed : goal.returns-then-not-well_formed
 returns-then-not-well_formed c =
     ill_formed_answer (read (bound_of c.args.from) (bound_of c.args.to)) (raw c.args.index c.args.log.now c.args.snapshot.now)
-    (sym c.well-formed-2.ensures ∙ not-true _ c.if-not-well_formed.true)
+    (sym c.well-formed-2.ensures ∙ c.if-not-well_formed.true)
 
 pub read_reply-requires : goal.read_reply-requires
 read_reply-requires c =
-    ready_of _ (sym c.well-formed-2.ensures ∙ not-false _ c.if-not-well_formed.false)
+    ready_of _ (sym c.well-formed-2.ensures ∙ c.if-not-well_formed.false)
 
 pub returns : goal.returns
 returns c =

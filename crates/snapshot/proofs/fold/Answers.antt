@@ -1,5 +1,5 @@
 -- `snapshot::fold` meets its contract: refusal 11, or a fold onto the empty snapshot.
-use Rattle.words.proofs.Prelude.{◌≡◌, sym, ap, ◌∙◌, Bool, true, false, ◌&&◌, eqb, not-true, not-false}
+use Rattle.words.proofs.Prelude.{◌≡◌, sym, ap, ◌∙◌, Bool, true, false, ◌&&◌, eqb}
 use Rattle.words.proofs.Prelude.{length}
 use Rattle.entry.specs.Limits.{snapshot_words}
 use Rattle.snapshot.proofs.Calling.{foldable, fold_malformed, fold_needs, fold_stands}
@@ -16,13 +16,13 @@ tested e t q =
 pub returns-then-not-fine-roomy : goal.returns-then-not-fine-roomy
 returns-then-not-fine-roomy c =
     fold_malformed c.args.entries.now c.args.out.now
-    (tested (goal.at.returns-then-not-fine-roomy c).After-entries_formed-fine false (not-true _ c.if-not-fine-roomy.true))
+    (tested (goal.at.returns-then-not-fine-roomy c).After-entries_formed-fine false (c.if-not-fine-roomy.true))
 
 pub fold_out-requires : goal.fold_out-requires
 fold_out-requires c =
-    fold_needs c.args.entries.now c.args.out.now (tested (goal.at.fold_out-requires c).After-entries_formed-fine true (not-false _ c.if-not-fine-roomy.false))
+    fold_needs c.args.entries.now c.args.out.now (tested (goal.at.fold_out-requires c).After-entries_formed-fine true (c.if-not-fine-roomy.false))
 
 pub returns : goal.returns
 returns c =
     c.fold_out.ensures
-    ∙ fold_stands c.args.entries.now c.args.out.now (tested (goal.at.returns c).After-entries_formed-fine true (not-false _ c.if-not-fine-roomy.false))
+    ∙ fold_stands c.args.entries.now c.args.out.now (tested (goal.at.returns c).After-entries_formed-fine true (c.if-not-fine-roomy.false))

@@ -7,7 +7,7 @@ use Rattle.ballot_leader_election.proofs.forms.outgoing_formed.Goals.{Start}
 
 long : (st : Start) → length st.args.outgoing.held ≡ most_outgoing
 long st =
-    simp length-map at st.well_formed_lem.0.1.1.1.0.1.0.1
+    simp length-map at st.well_formed.0.1.1.1.0.1.0.1
 
 pub returns : goal.returns
 unfolding list_formed

@@ -33,4 +33,4 @@ overflow_add-e c =
 
 pub new_round-requires : goal.new_round-requires
 new_round-requires c =
-    begins c.args.e c.requires c.if-e-gt-OUTGOING.false (omega (arith, c.well_formed_lem)) (ne_eqb _ _ c.if-e-eq-LAST_ROUND.false)
+    begins c.args.e c.requires c.if-e-gt-OUTGOING.false (omega (arith, c.well_formed)) (ne_eqb _ _ c.if-e-eq-LAST_ROUND.false)

@@ -23,7 +23,7 @@ taken-room l =
 
 begins-at : (l : Else-spent) → Begins (l.args.e)
 begins-at l =
-    begins (l.args.e) l.requires (ltb-false _ _ l.if-full.false) (omega (arith, l.well_formed_lem))
+    begins (l.args.e) l.requires (ltb-false _ _ l.if-full.false) (omega (arith, l.well_formed))
     (or_left _ _ l.if-spent.false)
 
 pub returns-then-full : goal.returns-then-full
@@ -31,7 +31,7 @@ returns-then-full c =
     let e = c.args.e in
     comes_refused (timeout_guards (election_of e)) (leading (timed_out c.args.promise (election_of e)).standing)
     (timed_out c.args.promise (election_of e)) e 18 0
-    (timeout_short e c.pre c.args.promise c.update_leader-updated.result c.update_happiness-judged.result c.takeover_due-due.result (updated-is (goal.at.returns-then-full c).After-takeover_due-due)
+    (timeout_short e c.requires c.args.promise c.update_leader-updated.result c.update_happiness-judged.result c.takeover_due-due.result (updated-is (goal.at.returns-then-full c).After-takeover_due-due)
     c.update_happiness-judged.ensures c.takeover_due-due.ensures (eqb (c.args.e).hb_round last_round || (c.takeover_due-due.result && eqb c.update_happiness-judged.result.leader.n last_round)) refl (ltb-true _ _ c.if-full.true))
 
 pub returns-then-spent : goal.returns-then-spent
@@ -39,7 +39,7 @@ returns-then-spent c =
     let e = c.args.e in
     comes_refused (timeout_guards (election_of e)) (leading (timed_out c.args.promise (election_of e)).standing)
     (timed_out c.args.promise (election_of e)) e 19 0
-    (timeout_spent e c.pre c.args.promise c.update_leader-updated.result c.update_happiness-judged.result c.takeover_due-due.result (updated-is (goal.at.returns-then-spent c).After-takeover_due-due)
+    (timeout_spent e c.requires c.args.promise c.update_leader-updated.result c.update_happiness-judged.result c.takeover_due-due.result (updated-is (goal.at.returns-then-spent c).After-takeover_due-due)
     c.update_happiness-judged.ensures c.takeover_due-due.ensures (eqb (c.args.e).hb_round last_round || (c.takeover_due-due.result && eqb c.update_happiness-judged.result.leader.n last_round)) refl
     (ltb-false _ _ c.if-full.false) c.if-spent.true)
 
@@ -47,14 +47,14 @@ pub returns : goal.returns
 returns c =
     let e = c.args.e in
     let p = c.args.promise in
-    timed_out_lem e c.pre p c.update_leader-updated.result c.update_happiness-judged.result c.takeover_due-due.result (updated-is (goal.at.returns c).After-takeover_due-due)
+    timed_out_lem e c.requires p c.update_leader-updated.result c.update_happiness-judged.result c.takeover_due-due.result (updated-is (goal.at.returns c).After-takeover_due-due)
     c.update_happiness-judged.ensures c.takeover_due-due.ensures c.check_takeover-taken.result
     c.sync_promise-stands.result c.check_takeover-taken.ensures c.sync_promise-stands.ensures c.leads.result
     c.new_round-begun.result c.with_standing.result c.leads.ensures c.new_round-begun.ensures
     c.with_standing.ensures
     ∙ comes_stands (timeout_guards (election_of e)) (leading (timed_out p (election_of e)).standing)
     (timed_out p (election_of e)) e
-    (timeout_stands e c.pre p c.update_leader-updated.result c.update_happiness-judged.result c.takeover_due-due.result (updated-is (goal.at.returns c).After-takeover_due-due)
+    (timeout_stands e c.requires p c.update_leader-updated.result c.update_happiness-judged.result c.takeover_due-due.result (updated-is (goal.at.returns c).After-takeover_due-due)
     c.update_happiness-judged.ensures c.takeover_due-due.ensures (eqb (c.args.e).hb_round last_round || (c.takeover_due-due.result && eqb c.update_happiness-judged.result.leader.n last_round)) refl
     (ltb-false _ _ c.if-full.false) c.if-spent.false)
 

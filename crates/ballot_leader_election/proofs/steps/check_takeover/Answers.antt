@@ -8,7 +8,7 @@ returns-then-not-due c =
 
 pub overflow_add-mine : goal.overflow_add-mine
 overflow_add-mine c =
-    omega (arith, c.requires (not-false _ c.if-not-due.false))
+    omega (arith, c.requires (c.if-not-due.false))
 
 pub returns : goal.returns
 returns c =

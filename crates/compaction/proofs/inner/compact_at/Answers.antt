@@ -18,11 +18,11 @@ reach_of-way-requires c =
 
 pub hold-held-requires : goal.hold-held-requires
 hold-held-requires c =
-    (c.pre, movable (raw c.args.index c.args.log.now c.args.snapshot.now) c.pre.okay c.args.what (upto_of c.args.upto) _ (up (goal.at.hold-held-requires c).In-To))
+    (c.requires, movable (raw c.args.index c.args.log.now c.args.snapshot.now) c.requires.okay c.args.what (upto_of c.args.upto) _ (up (goal.at.hold-held-requires c).In-To))
 
 pub move_to-next-requires : goal.move_to-next-requires
 move_to-next-requires c =
-    movable (raw c.args.index c.args.log.now c.args.snapshot.now) c.pre.okay c.args.what (upto_of c.args.upto) _ (up (goal.at.move_to-next-requires c).In-To)
+    movable (raw c.args.index c.args.log.now c.args.snapshot.now) c.requires.okay c.args.what (upto_of c.args.upto) _ (up (goal.at.move_to-next-requires c).In-To)
 
 pub returns-in-Stays : goal.returns-in-Stays
 returns-in-Stays c =
@@ -31,11 +31,11 @@ returns-in-Stays c =
 
 pub returns-in-Refused : goal.returns-in-Refused
 returns-in-Refused c =
-    compact_over (raw c.args.index c.args.log.now c.args.snapshot.now) c.pre.okay c.args.what (upto_of c.args.upto) _ (up (goal.at.returns-in-Refused c).In-To) c.hold-held.result
+    compact_over (raw c.args.index c.args.log.now c.args.snapshot.now) c.requires.okay c.args.what (upto_of c.args.upto) _ (up (goal.at.returns-in-Refused c).In-To) c.hold-held.result
     c.hold-held.new.1.1.0 c.hold-held.ensures _ c.in-Refused.is
 
 pub returns-in-Keys : goal.returns-in-Keys
 returns-in-Keys c =
-    compact_moves (raw c.args.index c.args.log.now c.args.snapshot.now) c.pre.okay c.args.what (upto_of c.args.upto) _ (up (goal.at.returns-in-Keys c).In-To) c.hold-held.result
+    compact_moves (raw c.args.index c.args.log.now c.args.snapshot.now) c.requires.okay c.args.what (upto_of c.args.upto) _ (up (goal.at.returns-in-Keys c).In-To) c.hold-held.result
     c.hold-held.new.1.1.0 c.hold-held.ensures _ c.in-Keys.is c.holds.result c.holds.ensures
     c.move_to-next.result c.move_to-next.new.1.0 c.move_to-next.ensures

@@ -11,7 +11,7 @@ within : (k : After-target-to)
     → k.target-to.result ≤ k.args.index.compacted.0
     + k.args.index.retained
 within k =
-    omega (arith, k.target-to.ensures, target_in (raw k.args.index k.args.log.now k.args.snapshot.now) k.pre.0.okay (some k.args.idx.0))
+    omega (arith, k.target-to.ensures, target_in (raw k.args.index k.args.log.now k.args.snapshot.now) k.requires.0.okay (some k.args.idx.0))
 
 pub returns-then-idx-start : goal.returns-then-idx-start
 returns-then-idx-start c =
@@ -19,12 +19,12 @@ returns-then-idx-start c =
 
 pub returns-then-past_decided : goal.returns-then-past_decided
 returns-then-past_decided c =
-    create_above (raw c.args.index c.args.log.now c.args.snapshot.now) c.args.idx.0 c.args.out.now c.pre.0.okay c.if-idx-start.false
+    create_above (raw c.args.index c.args.log.now c.args.snapshot.now) c.args.idx.0 c.args.out.now c.requires.0.okay c.if-idx-start.false
     (sym c.past_decided.ensures ∙ c.if-past_decided.true)
 
 pub returns-then-holed : goal.returns-then-holed
 returns-then-holed c =
-    create_holed (raw c.args.index c.args.log.now c.args.snapshot.now) c.args.idx.0 c.args.out.now c.pre.0.okay c.if-idx-start.left
+    create_holed (raw c.args.index c.args.log.now c.args.snapshot.now) c.args.idx.0 c.args.out.now c.requires.0.okay c.if-idx-start.left
     (sym c.past_decided.ensures ∙ c.if-past_decided.false) (sym c.hole-holed.ensures ∙ c.if-holed.true)
 
 pub target-to-requires : goal.target-to-requires
@@ -36,16 +36,16 @@ overflow_sub-n c =
     omega (
       arith,
       c.target-to.ensures,
-      target_from c.args.idx.0 (numbers_in c.args.index) c.pre.0.numbers c.if-idx-start.left,
+      target_from c.args.idx.0 (numbers_in c.args.index) c.requires.0.numbers c.if-idx-start.left,
     )
 
 pub fold_aside-requires : goal.fold_aside-requires
 fold_aside-requires c =
-    fold_needs (raw c.args.index c.args.log.now c.args.snapshot.now) c.pre.0.okay c.target-to.result (within (goal.at.fold_aside-requires c).After-target-to) c.args.out.now c.pre.1
+    fold_needs (raw c.args.index c.args.log.now c.args.snapshot.now) c.requires.0.okay c.target-to.result (within (goal.at.fold_aside-requires c).After-target-to) c.args.out.now c.requires.1
 
 pub returns : goal.returns
 returns c =
     c.fold_aside.ensures
-    ∙ create_folds (raw c.args.index c.args.log.now c.args.snapshot.now) c.args.idx.0 c.args.out.now c.pre.0.okay c.if-idx-start.left
+    ∙ create_folds (raw c.args.index c.args.log.now c.args.snapshot.now) c.args.idx.0 c.args.out.now c.requires.0.okay c.if-idx-start.left
     (sym c.past_decided.ensures ∙ c.if-past_decided.left)
     (sym c.hole-holed.ensures ∙ c.if-holed.false) c.target-to.result c.target-to.ensures (within (goal.at.returns c).After-target-to)

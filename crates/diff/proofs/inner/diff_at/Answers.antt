@@ -1,5 +1,5 @@
 -- `diff::inner::diff_at` meets its contract: a delta past compacted, else nothing or the fold onto the held snapshot.
-use Rattle.words.proofs.Prelude.{arith, sym, ◌∙◌, not-true, not-false}
+use Rattle.words.proofs.Prelude.{arith, sym, ◌∙◌, not-false}
 use Rattle.state_cache.specs.State.{raw, numbers_in}
 use Rattle.state_cache.proofs.Small.{sound_small}
 use Rattle.compaction.proofs.Folding.{decided_low, decided_high, fold_needs}
@@ -16,58 +16,58 @@ pub overflow_sub-start : goal.overflow_sub-start
 overflow_sub-start c =
     omega (
       arith,
-      start_low (let c = c in raw c.args.index c.args.log.now c.args.snapshot.now) c.pre.0.okay c.args.from.0 c.log_decided-last.result
+      start_low (let c = c in raw c.args.index c.args.log.now c.args.snapshot.now) c.requires.0.okay c.args.from.0 c.log_decided-last.result
           c.log_decided-last.ensures c.if-low-from.true c.least-start.result c.least-start.ensures,
       c.least-start.ensures,
     )
 
 pub fold_part-r-requires : goal.fold_part-r-requires
 fold_part-r-requires c = (
-  part_inside (let c = c in raw c.args.index c.args.log.now c.args.snapshot.now) c.pre.0.okay c.args.from.0 c.log_decided-last.result c.log_decided-last.ensures
+  part_inside (let c = c in raw c.args.index c.args.log.now c.args.snapshot.now) c.requires.0.okay c.args.from.0 c.log_decided-last.result c.log_decided-last.ensures
       c.if-low-from.true c.least-start.result c.least-start.ensures,
   (
-    part_shows (let c = c in raw c.args.index c.args.log.now c.args.snapshot.now) c.pre.0.okay c.args.from.0 c.log_decided-last.result c.log_decided-last.ensures
+    part_shows (let c = c in raw c.args.index c.args.log.now c.args.snapshot.now) c.requires.0.okay c.args.from.0 c.log_decided-last.result c.log_decided-last.ensures
         c.if-low-from.true c.least-start.result c.least-start.ensures,
-    c.pre.1,
+    c.requires.1,
   ),
 )
 
 pub returns-then-low-from : goal.returns-then-low-from
 returns-then-low-from c =
     rw c.tell.ensures
-    (delta_wrote (let c = c in raw c.args.index c.args.log.now c.args.snapshot.now) c.args.from.0 c.args.out.now c.pre.0.okay c.log_decided-last.result
+    (delta_wrote (let c = c in raw c.args.index c.args.log.now c.args.snapshot.now) c.args.from.0 c.args.out.now c.requires.0.okay c.log_decided-last.result
     c.log_decided-last.ensures c.if-low-from.true c.least-start.result c.least-start.ensures c.fold_part-r.result
     c.fold_part-r.new.1.1.1.0 c.fold_part-r.ensures)
 
 pub returns-then-not-index-low : goal.returns-then-not-index-low
 returns-then-not-index-low c =
-    diff_nothing (let c = c in raw c.args.index c.args.log.now c.args.snapshot.now) c.args.from.0 c.args.out.now c.pre.0.okay c.log_decided-last.result
-    c.log_decided-last.ensures c.if-low-from.false (not-true _ c.if-not-index-low.true)
+    diff_nothing (let c = c in raw c.args.index c.args.log.now c.args.snapshot.now) c.args.from.0 c.args.out.now c.requires.0.okay c.log_decided-last.result
+    c.log_decided-last.ensures c.if-low-from.false (c.if-not-index-low.true)
 
 pub returns-then-hole : goal.returns-then-hole
 returns-then-hole c =
-    diff_holed (let c = c in raw c.args.index c.args.log.now c.args.snapshot.now) c.args.from.0 c.args.out.now c.pre.0.okay c.log_decided-last.result
-    c.log_decided-last.ensures c.if-low-from.false (not-false _ c.if-not-index-low.false)
+    diff_holed (let c = c in raw c.args.index c.args.log.now c.args.snapshot.now) c.args.from.0 c.args.out.now c.requires.0.okay c.log_decided-last.result
+    c.log_decided-last.ensures c.if-low-from.false (c.if-not-index-low.false)
     (sym c.hole.ensures ∙ c.if-hole.true)
 
 pub overflow_sub-last-2 : goal.overflow_sub-last-2
 overflow_sub-last-2 c =
     omega (
       arith,
-      decided_low (numbers_in c.args.index) c.pre.0.numbers c.log_decided-last.result
+      decided_low (numbers_in c.args.index) c.requires.0.numbers c.log_decided-last.result
           c.log_decided-last.ensures,
     )
 
 pub fold_aside-r-requires : goal.fold_aside-r-requires
 fold_aside-r-requires c =
-    fold_needs (let c = c in raw c.args.index c.args.log.now c.args.snapshot.now) c.pre.0.okay c.log_decided-last.result
-    (decided_high (numbers_in c.args.index) c.pre.0.numbers c.log_decided-last.result
-    c.log_decided-last.ensures) c.args.out.now c.pre.1
+    fold_needs (let c = c in raw c.args.index c.args.log.now c.args.snapshot.now) c.requires.0.okay c.log_decided-last.result
+    (decided_high (numbers_in c.args.index) c.requires.0.numbers c.log_decided-last.result
+    c.log_decided-last.ensures) c.args.out.now c.requires.1
 
 pub returns : goal.returns
 returns c =
     rw c.tell-2.ensures
-    (complete_wrote (let c = c in raw c.args.index c.args.log.now c.args.snapshot.now) c.args.from.0 c.args.out.now c.pre.0.okay c.log_decided-last.result
+    (complete_wrote (let c = c in raw c.args.index c.args.log.now c.args.snapshot.now) c.args.from.0 c.args.out.now c.requires.0.okay c.log_decided-last.result
     c.log_decided-last.ensures c.if-low-from.left (not-false _ c.if-not-index-low.left)
     (sym c.hole.ensures ∙ c.if-hole.false) c.fold_aside-r.result
     c.fold_aside-r.new.1.1.1.1.0 c.fold_aside-r.ensures)

@@ -1,7 +1,7 @@
 -- `internal_storage::append::append_entry_with_batching` meets its contract: refusal 12, or what the append to a
 -- well-formed log comes to.
 use Rattle.words.proofs.Prelude.{rules}
-use Rattle.words.proofs.Prelude.{sym, ◌∙◌, true, not-true, not-false, [], ◌∷◌}
+use Rattle.words.proofs.Prelude.{sym, ◌∙◌, true, [], ◌∷◌}
 use Rattle.entry.specs.Change.{said_is}
 use Rattle.model.specs.Calls.{append}
 use Rattle.state_cache.specs.State.{raw}
@@ -12,12 +12,12 @@ pub returns-then-not-well_formed : goal.returns-then-not-well_formed
 returns-then-not-well_formed c =
     ill_formed (append (record { key = c.args.key; said = said_is c.args.said } ∷ [])) true
     (raw c.args.index c.args.log.now c.args.snapshot.now)
-    (sym c.well-formed-2.ensures ∙ not-true _ c.if-not-well_formed.true)
+    (sym c.well-formed-2.ensures ∙ c.if-not-well_formed.true)
 
 pub append_entry_with_batching-requires : goal.append_entry_with_batching-requires
 append_entry_with_batching-requires c =
     ready_of (raw c.args.index c.args.log.now c.args.snapshot.now)
-    (sym c.well-formed-2.ensures ∙ not-false _ c.if-not-well_formed.false)
+    (sym c.well-formed-2.ensures ∙ c.if-not-well_formed.false)
 
 pub returns : goal.returns
 returns c =

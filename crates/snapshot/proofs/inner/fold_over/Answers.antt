@@ -23,18 +23,18 @@ fold_onto-r-requires c =
 pub returns-in_default : goal.returns-in_default
 returns-in_default c =
     twice_refused c.args.kept c.args.snapshot.now c.args.n c.args.entries.now c.args.m
-    c.args.more.now c.pre.0 c.pre.1 c.fold_onto-r.result c.fold_onto-r.new.s (folded_is (goal.at.returns-in_default c).After-fold_onto-r) _
+    c.args.more.now c.requires.0 c.requires.1 c.fold_onto-r.result c.fold_onto-r.new.s (folded_is (goal.at.returns-in_default c).After-fold_onto-r) _
     c.in_default.is
 
 pub fold_out-requires : goal.fold_out-requires
 fold_out-requires c =
     twice_next c.args.kept c.args.snapshot.now c.args.n c.args.entries.now c.args.m
-    c.args.more.now c.pre.0 c.pre.1 c.fold_onto-r.result c.fold_onto-r.new.s (folded_is (goal.at.fold_out-requires c).After-fold_onto-r) _
+    c.args.more.now c.requires.0 c.requires.1 c.fold_onto-r.result c.fold_onto-r.new.s (folded_is (goal.at.fold_out-requires c).After-fold_onto-r) _
     c.in-Keys.is
 
 pub returns : goal.returns
 returns c =
     c.fold_out.ensures
     ∙ twice_folds c.args.kept c.args.snapshot.now c.args.n c.args.entries.now c.args.m
-    c.args.more.now c.pre.0 c.pre.1 c.fold_onto-r.result c.fold_onto-r.new.s (folded_is (goal.at.returns c).After-fold_onto-r) _
+    c.args.more.now c.requires.0 c.requires.1 c.fold_onto-r.result c.fold_onto-r.new.s (folded_is (goal.at.returns c).After-fold_onto-r) _
     c.in-Keys.is

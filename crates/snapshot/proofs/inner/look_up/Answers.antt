@@ -20,6 +20,6 @@ said_at-requires c =
 pub returns : goal.returns
 returns c =
     c.found_of.ensures
-    ∙ ap (λ (x : Said). replied (some x)) c.Said-at.ensures
+    ∙ ap (λ (x : Said). replied (some x)) c.said_at.ensures
     ∙ ap (λ (o : Option Said). replied o)
     (look_at c.args.n c.args.s.now c.args.key _ (sym c.in-At.is ∙ c.search-spot.ensures))

@@ -17,7 +17,12 @@ pub splice-requires : goal.splice-requires
 splice-requires c =
     let i = spot_inside c.args.n
     c.args.s.now _ _ (sym c.in-At.is ∙ c.search-spot.ensures) in
-    (omega arith, (omega arith, (omega arith, c.requires.0.laid.zeros)))
+    record {
+      cut_bound = omega arith;
+      used_in_bounds = omega arith;
+      insert_in_bounds = omega arith;
+      s_value = c.requires.0.laid.zeros;
+    }
 
 pub returns-then-s-used-lt-WIDTH : goal.returns-then-s-used-lt-WIDTH
 returns-then-s-used-lt-WIDTH c =
@@ -37,7 +42,12 @@ pub splice-requires-in-Before : goal.splice-requires-in-Before
 splice-requires-in-Before c =
     let i = before_inside c.args.s.now c.args.n c.args.item.now c.requires.0 c.requires.1 _
     (sym c.in-Before.is ∙ c.search-spot.ensures) in
-    (omega arith, (omega arith, (omega arith, c.requires.0.laid.zeros)))
+    record {
+      cut_bound = omega arith;
+      used_in_bounds = omega arith;
+      insert_in_bounds = omega arith;
+      s_value = c.requires.0.laid.zeros;
+    }
 
 pub returns-in-At : goal.returns-in-At
 returns-in-At c =

@@ -17,15 +17,15 @@ log_decided-decided-requires c =
 
 pub overflow_sub-n : goal.overflow_sub-n
 overflow_sub-n c =
-    decided_low (numbers_in c.args.index) c.pre.0.numbers c.log_decided-decided.result c.log_decided-decided.ensures
+    decided_low (numbers_in c.args.index) c.requires.0.numbers c.log_decided-decided.result c.log_decided-decided.ensures
 
 pub fold_over-requires : goal.fold_over-requires
 fold_over-requires c = (
-  fold_needs (raw c.args.index c.args.log.now c.args.snapshot.now) c.pre.0.okay c.log_decided-decided.result
-      (decided_high (numbers_in c.args.index) c.pre.0.numbers c.log_decided-decided.result
-      c.log_decided-decided.ensures) c.args.snapshot.now c.pre.0.snapshot.laid.long,
+  fold_needs (raw c.args.index c.args.log.now c.args.snapshot.now) c.requires.0.okay c.log_decided-decided.result
+      (decided_high (numbers_in c.args.index) c.requires.0.numbers c.log_decided-decided.result
+      c.log_decided-decided.ensures) c.args.snapshot.now c.requires.0.snapshot.laid.long,
   held_shows c.args.keys c.args.incoming.now
-      (c.pre.1 (ap plain_by c.in-Delta.is)),
+      (c.requires.1 (ap plain_by c.in-Delta.is)),
 )
 
 pub returns-in-Plain : goal.returns-in-Plain
@@ -41,5 +41,5 @@ returns-in-Complete c =
 pub returns-in-Delta : goal.returns-in-Delta
 returns-in-Delta c =
     c.fold_over.ensures
-    ∙ hold_delta c.args.kind (raw c.args.index c.args.log.now c.args.snapshot.now) c.pre.0 c.args.keys c.args.incoming.now
+    ∙ hold_delta c.args.kind (raw c.args.index c.args.log.now c.args.snapshot.now) c.requires.0 c.args.keys c.args.incoming.now
     c.in-Delta.is c.log_decided-decided.result c.log_decided-decided.ensures

@@ -43,29 +43,29 @@ returns-in-Refused c =
 
 pub returns-then-is_delta-hole : goal.returns-then-is_delta-hole
 returns-then-is_delta-hole c =
-    sync_holed (raw c.args.index c.args.log.now c.args.snapshot.now) c.args.log_sync c.args.incoming.now c.args.suffix.now c.pre
+    sync_holed (raw c.args.index c.args.log.now c.args.snapshot.now) c.args.log_sync c.args.incoming.now c.args.suffix.now c.requires
     c.args.accepted_round c.args.decided_idx.0 (pass (goal.at.returns-then-is_delta-hole c).In_default)
     (holed (goal.at.returns-then-is_delta-hole c).In_default _ _ true c.is_delta.ensures c.hole.ensures c.if-is_delta-hole.true)
 
 pub take_suffix-next-requires : goal.take_suffix-next-requires
 take_suffix-next-requires c =
     rw c.mark-marked.ensures (fits (raw c.args.index c.args.log.now c.args.snapshot.now) c.args.log_sync c.args.incoming.now
-    c.args.suffix.now c.pre c.args.accepted_round c.args.decided_idx.0 (pass (goal.at.take_suffix-next-requires c).In_default))
+    c.args.suffix.now c.requires c.args.accepted_round c.args.decided_idx.0 (pass (goal.at.take_suffix-next-requires c).In_default))
 
 pub accepted-accepted-requires : goal.accepted-accepted-requires
 accepted-accepted-requires c =
-    fits_small (raw c.args.index c.args.log.now c.args.snapshot.now) c.args.log_sync c.args.incoming.now c.args.suffix.now c.pre
+    fits_small (raw c.args.index c.args.log.now c.args.snapshot.now) c.args.log_sync c.args.incoming.now c.args.suffix.now c.requires
     c.args.accepted_round c.args.decided_idx.0 (pass (goal.at.accepted-accepted-requires c).In_default) _ c.take_suffix-next.result (took (goal.at.accepted-accepted-requires c).After-take_suffix-next).index
 
 pub returns-in-Refused-r : goal.returns-in-Refused-r
 returns-in-Refused-r c =
-    sync_over (raw c.args.index c.args.log.now c.args.snapshot.now) c.args.log_sync c.args.incoming.now c.args.suffix.now c.pre
+    sync_over (raw c.args.index c.args.log.now c.args.snapshot.now) c.args.log_sync c.args.incoming.now c.args.suffix.now c.requires
     c.args.accepted_round c.args.decided_idx.0 (pass (goal.at.returns-in-Refused-r c).In_default) (whole (c)) c.hold-r.result
     c.hold-r.new.1.1.0 c.hold-r.ensures _ c.in-Refused-r.is
 
 pub returns-in-Keys : goal.returns-in-Keys
 returns-in-Keys c =
-    sync_stands (raw c.args.index c.args.log.now c.args.snapshot.now) c.args.log_sync c.args.incoming.now c.args.suffix.now c.pre
+    sync_stands (raw c.args.index c.args.log.now c.args.snapshot.now) c.args.log_sync c.args.incoming.now c.args.suffix.now c.requires
     c.args.accepted_round c.args.decided_idx.0 (pass (goal.at.returns-in-Keys c).In_default) (whole (c)) c.hold-r.result
     c.hold-r.last.1.1.0 c.hold-r.ensures _ c.in-Keys.is c.take_suffix-next.result
     c.take_suffix-next.new.1.0 (took (goal.at.returns-in-Keys c).After-take_suffix-next) c.accepted-accepted.result c.accepted-accepted.ensures

@@ -7,7 +7,7 @@ use Rattle.sync.proofs.inner.take_suffix.Goals.{After-kept_of-kept}
 few : (k : After-kept_of-kept) → k.kept_of-kept.result ≤ k.args.index.retained
 few k =
     kept_few k.args.log_sync k.args.n k.args.keys k.args.index k.args.log.now
-    k.args.suffix.now k.pre k.is_plain-plain.result k.is_plain-plain.ensures
+    k.args.suffix.now k.requires k.is_plain-plain.result k.is_plain-plain.ensures
     k.kept_of-kept.result k.kept_of-kept.ensures
 
 pub overflow_mul-kept : goal.overflow_mul-kept
@@ -25,16 +25,16 @@ overflow_mul-index-2 c =
 pub splice-requires : goal.splice-requires
 splice-requires c =
     splice_needs c.args.log_sync c.args.n c.args.keys c.args.index c.args.log.now
-    c.args.suffix.now c.pre c.is_plain-plain.result c.is_plain-plain.ensures
+    c.args.suffix.now c.requires c.is_plain-plain.result c.is_plain-plain.ensures
     c.kept_of-kept.result c.kept_of-kept.ensures
 
 pub overflow_add-next : goal.overflow_add-next
 overflow_add-next c =
-    omega (arith, c.pre.room, kept_is c.args.log_sync c.args.n c.args.keys c.args.index c.args.log.now c.args.suffix.now c.pre c.is_plain-plain.result c.is_plain-plain.ensures c.kept_of-kept.result c.kept_of-kept.ensures)
+    omega (arith, c.requires.room, kept_is c.args.log_sync c.args.n c.args.keys c.args.index c.args.log.now c.args.suffix.now c.requires c.is_plain-plain.result c.is_plain-plain.ensures c.kept_of-kept.result c.kept_of-kept.ensures)
 
 pub returns : goal.returns
 returns c =
     taken c.args.log_sync c.args.n c.args.keys c.args.index c.args.log.now
-    c.args.suffix.now c.pre c.is_plain-plain.result c.is_plain-plain.ensures
-    c.kept_of-kept.result c.kept_of-kept.ensures c.start_of_lem.result c.start_of_lem.ensures
+    c.args.suffix.now c.requires c.is_plain-plain.result c.is_plain-plain.ensures
+    c.kept_of-kept.result c.kept_of-kept.ensures c.start_of-start.result c.start_of-start.ensures
     c.sign_if-stop.result c.sign_if-stop.ensures _ c.splice.ensures

@@ -1,4 +1,4 @@
-use Rattle.words.proofs.Prelude.{arith, ◌≡◌, sym, ◌∙◌, ◌+◌, ltb, not-true, not-false, ne_eqb}
+use Rattle.words.proofs.Prelude.{arith, ◌≡◌, sym, ◌∙◌, ◌+◌, ltb, ne_eqb}
 use Rattle.entry.specs.Limits.{last_index}
 use Rattle.model.specs.Numbers.{accepted_of}
 use Rattle.state_cache.specs.State.{raw, numbers_in}
@@ -42,10 +42,10 @@ pub returns-then-not-numbers_formed : goal.returns-then-not-numbers_formed
 returns-then-not-numbers_formed c =
     last_unformed (numbers_in c.args) c.args.start (raw c.args.index c.args.log.now c.args.snapshot.now) c.requires.kept
     (sym (past (goal.at.returns-then-not-numbers_formed c).After-past_last) ∙ c.if-past_last.false)
-    (sym (formed_numbers (raw c.args.index c.args.log.now c.args.snapshot.now) c.requires.kept) ∙ sym c.numbers_formed.ensures ∙ not-true _ c.if-not-numbers_formed.true)
+    (sym (formed_numbers (raw c.args.index c.args.log.now c.args.snapshot.now) c.requires.kept) ∙ sym c.numbers_formed.ensures ∙ c.if-not-numbers_formed.true)
 
 pub returns : goal.returns
 returns c =
     last_stands (numbers_in c.args) c.args.start (raw c.args.index c.args.log.now c.args.snapshot.now) c.requires.kept
     (sym (past (goal.at.returns c).After-past_last) ∙ c.if-past_last.false) c.if-start-index.false
-    (sym (formed_numbers (raw c.args.index c.args.log.now c.args.snapshot.now) c.requires.kept) ∙ sym c.numbers_formed.ensures ∙ not-false _ c.if-not-numbers_formed.false)
+    (sym (formed_numbers (raw c.args.index c.args.log.now c.args.snapshot.now) c.requires.kept) ∙ sym c.numbers_formed.ensures ∙ c.if-not-numbers_formed.false)

@@ -34,14 +34,14 @@ step-s-requires c =
     let v = c.loop-i in (
       v.invariant.1.0,
       (
-        sound_small (numbers_in c.args) c.pre.ready.numbers,
+        sound_small (numbers_in c.args) c.requires.ready.numbers,
         (
-          c.pre.lends,
-          is_supplied (numbers_in c.args) (lent_at c) c.args.list.ops c.args.list.count c.pre.few (eight c)
+          c.requires.lends,
+          is_supplied (numbers_in c.args) (lent_at c) c.args.list.ops c.args.list.count c.requires.few (eight c)
               (asked (stateAt c) (lent_at c) (ops_in c.args.list)) (end (stateAt c) (lent_at c) (ops_in c.args.list))
               (midst_of v.start (raw v.index v.log v.snapshot)) v.i v.invariant.1.1
               c.loop-i-test.true
-              (ops_supplied (lent_at c) (ops_in c.args.list) c.pre.okay),
+              (ops_supplied (lent_at c) (ops_in c.args.list) c.requires.okay),
         ),
       ),
     )
@@ -59,7 +59,7 @@ returns-in-Refused c =
     let v = c.loop-i in
     wrote_refused (stateAt c) (lent_at c)
     (ops_in c.args.list) _ (raw v.index c.step-s.new.snapshot.1.1.0 c.step-s.new.snapshot.1.1.1.0)
-    (turn_refused (numbers_in c.args) (lent_at c) c.args.list.ops c.args.list.count c.pre.few
+    (turn_refused (numbers_in c.args) (lent_at c) c.args.list.ops c.args.list.count c.requires.few
     (eight c) (asked (stateAt c) (lent_at c) (ops_in c.args.list)) (end (stateAt c) (lent_at c) (ops_in c.args.list))
     (midst_of v.start (raw v.index v.log v.snapshot)) v.i v.invariant.1.1 c.loop-i-test.true
     c.step-s.result c.step-s.new.snapshot.1.1.0 c.step-s.new.snapshot.1.1.1.0
@@ -74,10 +74,10 @@ loop-i-preserved c =
     let m = midst_of v.start (raw v.index v.log v.snapshot) in (
       omega (arith, c.loop-i-test.true),
       (
-        turn_held n (lent_at c) c.args.list.ops c.args.list.count c.pre.few (eight c) k z m v.i v.invariant.1.1
+        turn_held n (lent_at c) c.args.list.ops c.args.list.count c.requires.few (eight c) k z m v.i v.invariant.1.1
             c.loop-i-test.true c.step-s.result c.step-s.new.snapshot.1.1.0 c.step-s.new.snapshot.1.1.1.0
             c.step-s.ensures c.in_default.is,
-        turn_left n (lent_at c) c.args.list.ops c.args.list.count c.pre.few (eight c) k z m v.i v.invariant.1.1
+        turn_left n (lent_at c) c.args.list.ops c.args.list.count c.requires.few (eight c) k z m v.i v.invariant.1.1
             c.loop-i-test.true c.step-s.result c.step-s.new.snapshot.1.1.0 c.step-s.new.snapshot.1.1.1.0
             c.step-s.ensures c.in_default.is,
       ),
@@ -104,7 +104,7 @@ returns c =
     let x = raw v.index v.log v.snapshot in
     wrote (stateAt c) (lent_at c) (ops_in c.args.list) (numbers_in c.args)
     v.start x c.judge_last-answer.result v.invariant.1.0
-    (ended (numbers_in c.args) (lent_at c) c.args.list.ops c.args.list.count c.pre.few
+    (ended (numbers_in c.args) (lent_at c) c.args.list.ops c.args.list.count c.requires.few
     (eight c) (asked (stateAt c) (lent_at c) (ops_in c.args.list)) (end (stateAt c) (lent_at c) (ops_in c.args.list))
     (midst_of v.start x) v.i v.invariant.1.1 c.loop-i-test.false)
     c.judge_last-answer.ensures

@@ -7,7 +7,7 @@ use Rattle.backend.proofs.inner.request.request_formed.Goals.{Start}
 
 eight : (st : Start) → length st.args.list.ops ≡ most_ops
 eight st =
-    simp length-map at st.well_formed_lem.1.1.1.0.1.1.1.0.1.0.1
+    simp length-map at st.well_formed.1.1.1.0.1.1.1.0.1.0.1
 
 pub returns-then-count-gt-OPERATIONS : goal.returns-then-count-gt-OPERATIONS
 returns-then-count-gt-OPERATIONS c =
@@ -15,6 +15,6 @@ returns-then-count-gt-OPERATIONS c =
 
 pub returns : goal.returns
 returns c =
-    simp (c.all_supplied-ready.ensures, c.sign_formed_lem.ensures, c.incoming_formed-keys.ensures, c.entries_formed-fine.ensures)
+    simp (c.all_supplied-ready.ensures, c.sign_formed-sign.ensures, c.incoming_formed-keys.ensures, c.entries_formed-fine.ensures)
     (request_is c.args.lent c.args.entries.now c.args.incoming.now c.args.list
     c.if-count-gt-OPERATIONS.false (eight (goal.at.returns c).Start))

@@ -12,7 +12,12 @@ returns-then-at-index-gt-ENTRIES c =
 pub splice-requires : goal.splice-requires
 splice-requires c =
     let w = slice_whole c.args.entries.now c.requires.entries_value in
-    (omega (arith, c.requires.at_le_retained), (omega (arith, c.requires.kept.log.fits, c.requires.kept.log.long), (omega (arith, c.if-at-index-gt-ENTRIES.false, c.requires.kept.log.long, c.requires.at_le_retained, w), c.requires.kept.log.zeros)))
+    record {
+      cut_bound = omega (arith, c.requires.at_le_retained);
+      used_in_bounds = omega (arith, c.requires.kept.log.fits, c.requires.kept.log.long);
+      insert_in_bounds = omega (arith, c.if-at-index-gt-ENTRIES.false, c.requires.kept.log.long, c.requires.at_le_retained, w);
+      s_value = c.requires.kept.log.zeros;
+    }
 
 pub returns : goal.returns
 returns c =

@@ -1,5 +1,5 @@
 -- `internal_storage::inner::append::append_entries_with_batching` meets its contract: refusal 11, then the append.
-use Rattle.words.proofs.Prelude.{refl, sym, ◌∙◌, not-true, not-false}
+use Rattle.words.proofs.Prelude.{refl, sym, ◌∙◌}
 use Rattle.entry.specs.Change.{entries_in}
 use Rattle.model.specs.Calls.{append, malformed}
 use Rattle.state_cache.specs.State.{raw}
@@ -10,14 +10,14 @@ pub returns-then-not-entries_formed : goal.returns-then-not-entries_formed
 unfolding malformed
 returns-then-not-entries_formed c =
     slice_refused (append (entries_in c.args.entries.now)) c.args.entries.now (raw c.args.index c.args.log.now c.args.snapshot.now) refl
-    c.requires.okay (sym c.entries_formed.ensures ∙ not-true _ c.if-not-entries_formed.true)
+    c.requires.okay (sym c.entries_formed.ensures ∙ c.if-not-entries_formed.true)
 
 pub append_at-requires : goal.append_at-requires
 append_at-requires c =
     slice_appends c.args.entries.now (raw c.args.index c.args.log.now c.args.snapshot.now) c.requires.okay
-    (sym c.entries_formed.ensures ∙ not-false _ c.if-not-entries_formed.false)
+    (sym c.entries_formed.ensures ∙ c.if-not-entries_formed.false)
 
 pub returns : goal.returns
 returns c =
     c.append_at.ensures ∙ slice-run (append (entries_in c.args.entries.now)) c.args.entries.now
-    (raw c.args.index c.args.log.now c.args.snapshot.now) (sym c.entries_formed.ensures ∙ not-false _ c.if-not-entries_formed.false)
+    (raw c.args.index c.args.log.now c.args.snapshot.now) (sym c.entries_formed.ensures ∙ c.if-not-entries_formed.false)

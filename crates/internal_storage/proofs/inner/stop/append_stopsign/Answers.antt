@@ -1,5 +1,5 @@
 -- `internal_storage::inner::stop::append_stopsign` meets its contract: refusal 11, then by the numbers.
-use Rattle.words.proofs.Prelude.{sym, ap, ◌∙◌, not, not-true, not-false}
+use Rattle.words.proofs.Prelude.{sym, ap, ◌∙◌, not}
 use Rattle.model.specs.Calls.{append_stop, malformed}
 use Rattle.state_cache.specs.State.{raw}
 use Rattle.state_cache.proofs.Runs.{bad_call}
@@ -11,7 +11,7 @@ pub returns-then-not-sign_formed : goal.returns-then-not-sign_formed
 unfolding malformed
 returns-then-not-sign_formed c =
     bad_call (append_stop c.args.ss) (raw c.args.index c.args.log.now c.args.snapshot.now) c.requires.okay
-    (ap not (sym c.sign_formed_lem.ensures ∙ not-true _ c.if-not-sign_formed.true))
+    (ap not (sym c.sign_formed.ensures ∙ c.if-not-sign_formed.true))
 
 pub append_stop_at-requires : goal.append_stop_at-requires
 append_stop_at-requires c =
@@ -20,6 +20,6 @@ append_stop_at-requires c =
 pub returns : goal.returns
 returns c =
     append_stop_run (raw c.args.index c.args.log.now c.args.snapshot.now) c.requires.okay c.args.ss
-    (sym c.sign_formed_lem.ensures ∙ not-false _ c.if-not-sign_formed.false)
+    (sym c.sign_formed.ensures ∙ c.if-not-sign_formed.false)
     (append_said c.append_stop_at.result.answer) c.append_stop_at.result.index
     c.append_stop_at.ensures

@@ -10,7 +10,7 @@ use Rattle.backend.proofs.write_list.Goals.{Else-not-request_formed, Else-not-we
 
 okay : (e : Else-not-well_formed) → formed (raw e.args.index e.args.log.now e.args.snapshot.now) ≡ true
 okay e =
-    sym e.well-formed-2.ensures ∙ e.if-not-well_formed.false
+    sym e.well_formed-2.ensures ∙ e.if-not-well_formed.false
 
 asked : (f : Else-not-request_formed)
     → (whole_list f.args.lent f.args.entries.now
@@ -23,7 +23,7 @@ pub returns-then-not-well_formed : goal.returns-then-not-well_formed
 returns-then-not-well_formed c =
     ill_formed (write (lent_of c.args.lent c.args.entries.now c.args.incoming.now) (ops_in c.args.list))
     (whole_list c.args.lent c.args.entries.now c.args.incoming.now c.args.list) (raw c.args.index c.args.log.now c.args.snapshot.now)
-    (sym c.well-formed-2.ensures ∙ c.if-not-well_formed.true)
+    (sym c.well_formed-2.ensures ∙ c.if-not-well_formed.true)
 
 pub returns-then-not-request_formed : goal.returns-then-not-request_formed
 returns-then-not-request_formed c =

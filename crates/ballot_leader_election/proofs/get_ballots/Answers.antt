@@ -12,12 +12,12 @@ returns-then-not-well_formed c =
     let e = c.args.e in
     ap (λ (l : Replies). handed (refused 12 0) l e) c.no_replies.ensures
     ∙ ap (handed_out laid_replies)
-    (ill_formed get_ballots e (sym c.well-formed-2.ensures ∙ c.if-not-well_formed.true))
+    (ill_formed get_ballots e (sym c.well_formed-2.ensures ∙ c.if-not-well_formed.true))
 
 pub returns : goal.returns
 returns c =
     let e = c.args.e in
-    let h = sym c.well-formed-2.ensures ∙ c.if-not-well_formed.false in
+    let h = sym c.well_formed-2.ensures ∙ c.if-not-well_formed.false in
     let f = formed_facts e h in
     ap₂ (handed (replied tt)) (sym (back_replies e.prev_replies f.prev)) (laid_back e f)
     ∙ ap (handed_out laid_replies) (stands get_ballots e h (found clear_all))

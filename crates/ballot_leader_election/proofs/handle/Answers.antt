@@ -14,24 +14,24 @@ byReply e m b =
 pub returns-then-not-well_formed : goal.returns-then-not-well_formed
 returns-then-not-well_formed c =
     c.refuse.ensures
-    ∙ ill_formed (handle c.args.m) c.args.e (sym c.well-formed-2.ensures ∙ c.if-not-well_formed.true)
+    ∙ ill_formed (handle c.args.m) c.args.e (sym c.well_formed-2.ensures ∙ c.if-not-well_formed.true)
 
 pub returns-then-m : goal.returns-then-m
 unfolding byReply
 returns-then-m c =
     c.handle_reply.ensures ∙ ap (byReply c.args.e c.args.m) (sym c.if-m.true)
-    ∙ well_formed_lem (handle c.args.m) c.args.e (sym c.well-formed-2.ensures ∙ c.if-not-well_formed.false)
+    ∙ well_formed_lem (handle c.args.m) c.args.e (sym c.well_formed-2.ensures ∙ c.if-not-well_formed.false)
 
 pub returns : goal.returns
 unfolding byReply
 returns c =
     c.handle_request.ensures ∙ ap (byReply c.args.e c.args.m) (sym c.if-m.false)
-    ∙ well_formed_lem (handle c.args.m) c.args.e (sym c.well-formed-2.ensures ∙ c.if-not-well_formed.false)
+    ∙ well_formed_lem (handle c.args.m) c.args.e (sym c.well_formed-2.ensures ∙ c.if-not-well_formed.false)
 
 pub handle_reply-requires : goal.handle_reply-requires
 handle_reply-requires c =
-    formed_facts _ (sym c.well-formed-2.ensures ∙ c.if-not-well_formed.false)
+    formed_facts _ (sym c.well_formed-2.ensures ∙ c.if-not-well_formed.false)
 
 pub handle_request-requires : goal.handle_request-requires
 handle_request-requires c =
-    formed_facts _ (sym c.well-formed-2.ensures ∙ c.if-not-well_formed.false)
+    formed_facts _ (sym c.well_formed-2.ensures ∙ c.if-not-well_formed.false)

@@ -6,13 +6,13 @@ use Rattle.ballot_leader_election.proofs.hb_timeout.Goals as goal
 
 pub returns-then-not-well_formed : goal.returns-then-not-well_formed
 returns-then-not-well_formed c =
-    ill_formed (hb_timeout c.args.promise) c.args.e (sym c.well-formed-2.ensures ∙ c.if-not-well_formed.true)
+    ill_formed (hb_timeout c.args.promise) c.args.e (sym c.well_formed-2.ensures ∙ c.if-not-well_formed.true)
 
 pub returns : goal.returns
 returns c =
     c.time_out.ensures
-    ∙ well_formed_lem (hb_timeout c.args.promise) c.args.e (sym c.well-formed-2.ensures ∙ c.if-not-well_formed.false)
+    ∙ well_formed_lem (hb_timeout c.args.promise) c.args.e (sym c.well_formed-2.ensures ∙ c.if-not-well_formed.false)
 
 pub time_out-requires : goal.time_out-requires
 time_out-requires c =
-    formed_facts _ (sym c.well-formed-2.ensures ∙ c.if-not-well_formed.false)
+    formed_facts _ (sym c.well_formed-2.ensures ∙ c.if-not-well_formed.false)

@@ -12,12 +12,12 @@ returns-then-not-well_formed c =
     let e = c.args.e in
     ap (λ (l : Outgoing). handed (refused 12 0) l e) c.no_messages.ensures
     ∙ ap (handed_out laid_messages)
-    (ill_formed outgoing_mut e (sym c.well-formed-2.ensures ∙ c.if-not-well_formed.true))
+    (ill_formed outgoing_mut e (sym c.well_formed-2.ensures ∙ c.if-not-well_formed.true))
 
 pub returns : goal.returns
 returns c =
     let e = c.args.e in
-    let h = sym c.well-formed-2.ensures ∙ c.if-not-well_formed.false in
+    let h = sym c.well_formed-2.ensures ∙ c.if-not-well_formed.false in
     let f = formed_facts e h in
     ap₂ (handed (replied tt)) (sym (back_messages e.outgoing f.outgoing))
     (laid_parts e f.peers e.hb_round e.heartbeat_replies e.prev_replies

@@ -10,12 +10,12 @@ use Rattle.ballot_leader_election.proofs.set_priority.Goals as goal
 pub returns-then-not-well_formed : goal.returns-then-not-well_formed
 returns-then-not-well_formed c =
     c.refuse.ensures
-    ∙ ill_formed (set_priority c.args.p) c.args.e (sym c.well-formed-2.ensures ∙ c.if-not-well_formed.true)
+    ∙ ill_formed (set_priority c.args.p) c.args.e (sym c.well_formed-2.ensures ∙ c.if-not-well_formed.true)
 
 pub returns : goal.returns
 returns c =
     let e = c.args.e in
-    let h = sym c.well-formed-2.ensures ∙ c.if-not-well_formed.false in
+    let h = sym c.well_formed-2.ensures ∙ c.if-not-well_formed.false in
     let f = formed_facts e h in
     ap (λ (x : BallotLeaderElection). outcome (replied tt) x)
     (laid_parts e f.peers e.hb_round e.heartbeat_replies e.prev_replies

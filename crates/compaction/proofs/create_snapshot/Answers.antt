@@ -12,13 +12,13 @@ use Rattle.compaction.proofs.create_snapshot.Goals.{Else-not-well_formed}
 
 okay : (e : Else-not-well_formed) → formed (raw e.args.index e.args.log.now e.args.snapshot.now) ≡ true
 okay e =
-    sym e.well-formed-2.ensures ∙ e.if-not-well_formed.false
+    sym e.well_formed-2.ensures ∙ e.if-not-well_formed.false
 
 pub returns-then-not-well_formed : goal.returns-then-not-well_formed
 returns-then-not-well_formed c =
     create_ill_formed (raw c.args.index c.args.log.now c.args.snapshot.now) c.args.idx.0 c.args.out.now
     (eqb (length c.args.out.now) snapshot_words)
-    (sym c.well-formed-2.ensures ∙ c.if-not-well_formed.true)
+    (sym c.well_formed-2.ensures ∙ c.if-not-well_formed.true)
 
 pub returns-then-not-roomy : goal.returns-then-not-roomy
 returns-then-not-roomy c =

@@ -10,11 +10,11 @@ use Rattle.reading.proofs.lookup.Goals as goal
 pub returns-then-not-well_formed : goal.returns-then-not-well_formed
 returns-then-not-well_formed c =
     ill_formed_answer (lookup c.args.key) (raw c.args.index c.args.log.now c.args.snapshot.now)
-    (sym c.well-formed-2.ensures ∙ c.if-not-well_formed.true)
+    (sym c.well_formed-2.ensures ∙ c.if-not-well_formed.true)
 
 pub look-requires : goal.look-requires
 look-requires c =
-    ready_of _ (sym c.well-formed-2.ensures ∙ c.if-not-well_formed.false)
+    ready_of _ (sym c.well_formed-2.ensures ∙ c.if-not-well_formed.false)
 
 pub returns : goal.returns
 returns c =

@@ -9,11 +9,11 @@ use Rattle.reading.proofs.lookup_many.Goals as goal
 pub returns-then-not-well_formed : goal.returns-then-not-well_formed
 returns-then-not-well_formed c =
     many_ill_formed (raw c.args.index c.args.log.now c.args.snapshot.now) c.args.keys.now c.args.replies.now
-    (sym c.well-formed-2.ensures ∙ c.if-not-well_formed.true)
+    (sym c.well_formed-2.ensures ∙ c.if-not-well_formed.true)
 
 pub look_many-requires : goal.look_many-requires
 look_many-requires c =
-    ready_of _ (sym c.well-formed-2.ensures ∙ c.if-not-well_formed.false)
+    ready_of _ (sym c.well_formed-2.ensures ∙ c.if-not-well_formed.false)
 
 pub returns : goal.returns
 returns c =

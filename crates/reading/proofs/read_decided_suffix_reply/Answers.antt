@@ -10,11 +10,11 @@ use Rattle.reading.proofs.read_decided_suffix_reply.Goals as goal
 pub returns-then-not-well_formed : goal.returns-then-not-well_formed
 returns-then-not-well_formed c =
     ill_formed_answer (read_decided c.args.from.0) (raw c.args.index c.args.log.now c.args.snapshot.now)
-    (sym c.well-formed-2.ensures ∙ c.if-not-well_formed.true)
+    (sym c.well_formed-2.ensures ∙ c.if-not-well_formed.true)
 
 pub read_decided_suffix_reply-requires : goal.read_decided_suffix_reply-requires
 read_decided_suffix_reply-requires c =
-    ready_of _ (sym c.well-formed-2.ensures ∙ c.if-not-well_formed.false)
+    ready_of _ (sym c.well_formed-2.ensures ∙ c.if-not-well_formed.false)
 
 pub returns : goal.returns
 returns c =

@@ -11,11 +11,11 @@ use Rattle.reading.proofs.read_reply.Goals as goal
 pub returns-then-not-well_formed : goal.returns-then-not-well_formed
 returns-then-not-well_formed c =
     ill_formed_answer (read (bound_of c.args.from) (bound_of c.args.to)) (raw c.args.index c.args.log.now c.args.snapshot.now)
-    (sym c.well-formed-2.ensures ∙ c.if-not-well_formed.true)
+    (sym c.well_formed-2.ensures ∙ c.if-not-well_formed.true)
 
 pub read_reply-requires : goal.read_reply-requires
 read_reply-requires c =
-    ready_of _ (sym c.well-formed-2.ensures ∙ c.if-not-well_formed.false)
+    ready_of _ (sym c.well_formed-2.ensures ∙ c.if-not-well_formed.false)
 
 pub returns : goal.returns
 returns c =

@@ -9,12 +9,12 @@ use Rattle.state_cache.proofs.get_decided_idx_without_stopsign.Goals.{Else-not-w
 
 okay : (e : Else-not-well_formed) → formed (raw e.args.index e.args.log.now e.args.snapshot.now) ≡ true
 okay e =
-    sym e.well-formed-2.ensures ∙ e.if-not-well_formed.false
+    sym e.well_formed-2.ensures ∙ e.if-not-well_formed.false
 
 pub returns-then-not-well_formed : goal.returns-then-not-well_formed
 returns-then-not-well_formed c =
     not_asked log_decided (raw c.args.index c.args.log.now c.args.snapshot.now)
-    (sym c.well-formed-2.ensures ∙ c.if-not-well_formed.true)
+    (sym c.well_formed-2.ensures ∙ c.if-not-well_formed.true)
 
 pub log_decided-decided-requires : goal.log_decided-decided-requires
 log_decided-decided-requires c =

@@ -8,12 +8,12 @@ use Rattle.state_cache.proofs.stopsign_is_decided.Goals.{Else-not-well_formed}
 
 okay : (e : Else-not-well_formed) → formed (raw e.args.index e.args.log.now e.args.snapshot.now) ≡ true
 okay e =
-    sym e.well-formed-2.ensures ∙ e.if-not-well_formed.false
+    sym e.well_formed-2.ensures ∙ e.if-not-well_formed.false
 
 pub returns-then-not-well_formed : goal.returns-then-not-well_formed
 returns-then-not-well_formed c =
     not_asked stop_decided (raw c.args.index c.args.log.now c.args.snapshot.now)
-    (sym c.well-formed-2.ensures ∙ c.if-not-well_formed.true)
+    (sym c.well_formed-2.ensures ∙ c.if-not-well_formed.true)
 
 pub stop_decided-decided-requires : goal.stop_decided-decided-requires
 stop_decided-decided-requires c =

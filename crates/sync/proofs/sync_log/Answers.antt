@@ -11,7 +11,7 @@ use Rattle.sync.proofs.sync_log.Goals.{Else-not-request_formed, Else-not-well_fo
 
 okay : (e : Else-not-well_formed) → formed (raw e.args.index e.args.log.now e.args.snapshot.now) ≡ true
 okay e =
-    sym e.well-formed-2.ensures ∙ e.if-not-well_formed.false
+    sym e.well_formed-2.ensures ∙ e.if-not-well_formed.false
 
 -- the request is in form, with its flag as it is then known
 asked : (f : Else-not-request_formed) (held : Bool) → f.args.held ≡ held
@@ -25,7 +25,7 @@ pub returns-then-not-well_formed : goal.returns-then-not-well_formed
 returns-then-not-well_formed c =
     ill_formed (sync c.args.accepted_round c.args.decided_idx.0 (part_of c.args.held c.args.log_sync c.args.incoming.now
     c.args.suffix.now)) (lent_whole c.args.held c.args.log_sync c.args.incoming.now c.args.suffix.now) (raw c.args.index c.args.log.now c.args.snapshot.now)
-    (sym c.well-formed-2.ensures ∙ c.if-not-well_formed.true)
+    (sym c.well_formed-2.ensures ∙ c.if-not-well_formed.true)
 
 pub returns-then-not-request_formed : goal.returns-then-not-request_formed
 returns-then-not-request_formed c =

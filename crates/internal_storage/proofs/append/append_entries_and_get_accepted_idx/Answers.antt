@@ -13,12 +13,12 @@ pub returns-then-not-well_formed : goal.returns-then-not-well_formed
 returns-then-not-well_formed c =
     ap with_index_only (ill_formed (append (entries_in c.args.entries.now))
     (whole_in c.args.entries.now) (raw c.args.index c.args.log.now c.args.snapshot.now)
-    (sym c.well-formed-2.ensures ∙ c.if-not-well_formed.true))
+    (sym c.well_formed-2.ensures ∙ c.if-not-well_formed.true))
 
 pub append_entries_and_get_accepted_idx-requires : goal.append_entries_and_get_accepted_idx-requires
 append_entries_and_get_accepted_idx-requires c =
     ready_of (raw c.args.index c.args.log.now c.args.snapshot.now)
-    (sym c.well-formed-2.ensures ∙ c.if-not-well_formed.false)
+    (sym c.well_formed-2.ensures ∙ c.if-not-well_formed.false)
 
 pub returns : goal.returns
 returns c =

@@ -12,12 +12,12 @@ pub returns-then-not-well_formed : goal.returns-then-not-well_formed
 returns-then-not-well_formed c =
     ill_formed (append (record { key = c.args.key; said = said_is c.args.said } ∷ [])) true
     (raw c.args.index c.args.log.now c.args.snapshot.now)
-    (sym c.well-formed-2.ensures ∙ c.if-not-well_formed.true)
+    (sym c.well_formed-2.ensures ∙ c.if-not-well_formed.true)
 
 pub append_entry_with_batching-requires : goal.append_entry_with_batching-requires
 append_entry_with_batching-requires c =
     ready_of (raw c.args.index c.args.log.now c.args.snapshot.now)
-    (sym c.well-formed-2.ensures ∙ c.if-not-well_formed.false)
+    (sym c.well_formed-2.ensures ∙ c.if-not-well_formed.false)
 
 pub returns : goal.returns
 returns c =

@@ -11,11 +11,11 @@ pub returns-then-not-well_formed : goal.returns-then-not-well_formed
 returns-then-not-well_formed c =
     ill_formed (set_promise c.args.n_prom) true
     (raw c.args.index c.args.log.now c.args.snapshot.now)
-    (sym c.well-formed-2.ensures ∙ c.if-not-well_formed.true)
+    (sym c.well_formed-2.ensures ∙ c.if-not-well_formed.true)
 
 pub set_promise-requires : goal.set_promise-requires
 set_promise-requires c =
-    ready_of _ (sym c.well-formed-2.ensures ∙ c.if-not-well_formed.false)
+    ready_of _ (sym c.well_formed-2.ensures ∙ c.if-not-well_formed.false)
 
 pub returns : goal.returns
 returns c =

@@ -10,11 +10,11 @@ use Rattle.internal_storage.proofs.flush.flush_batch_and_get_entries.Goals as go
 pub returns-then-not-well_formed : goal.returns-then-not-well_formed
 returns-then-not-well_formed c =
     ill_formed flush_entries true (raw c.args.index c.args.log.now c.args.snapshot.now)
-    (sym c.well-formed-2.ensures ∙ c.if-not-well_formed.true)
+    (sym c.well_formed-2.ensures ∙ c.if-not-well_formed.true)
 
 pub flush_batch_and_get_entries-requires : goal.flush_batch_and_get_entries-requires
 flush_batch_and_get_entries-requires c =
-    ready_of _ (sym c.well-formed-2.ensures ∙ c.if-not-well_formed.false)
+    ready_of _ (sym c.well_formed-2.ensures ∙ c.if-not-well_formed.false)
 
 pub returns : goal.returns
 returns c =

@@ -15,7 +15,7 @@ loop-i-preserved c =
     let keys = c.args.keys.now in
     let out = c.args.replies.now in
     let e = c.copy_in.ensures ∙ fill_turn r c.requires.ready.okay keys l.i out l.replies l.invariant.1.1
-    (omega arith) c.look-found.result c.look-found.ensures c.Known-of.result c.Known-of.ensures
+    (omega arith) c.look-found.result c.look-found.ensures c.known_of.result c.known_of.ensures
     c.reply-reply.result c.reply-reply.ensures in (
       omega arith,
       (fill_length r c.requires.ready.okay keys (l.i + 1) out c.copy_in.new.s e (omega arith) (omega arith), e),

@@ -26,5 +26,5 @@ said_at-requires c =
 pub returns : goal.returns
 returns c =
     c.found_of.ensures
-    ∙ ap (λ (x : Said). replied (some x)) c.Said-at.ensures
+    ∙ ap (λ (x : Said). replied (some x)) c.said_at.ensures
     ∙ ap (λ (o : Option Said). replied o) (newest-is (goal.at.returns c).In-At).says

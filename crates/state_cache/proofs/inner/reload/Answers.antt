@@ -5,10 +5,11 @@ use Rattle.state_cache.proofs.{Small.sound_small, Changes.reload_runs}
 use Rattle.state_cache.proofs.inner.reload.Goals as goal
 
 pub cut_out-requires : goal.cut_out-requires
-cut_out-requires c = (
-  omega (arith, c.requires.numbers.room),
-  (omega (arith, c.requires.log.fits, c.requires.log.long), c.requires.log.zeros),
-)
+cut_out-requires c = record {
+  cut_bound = omega (arith, c.requires.numbers.room);
+  used_in_bounds = omega (arith, c.requires.log.fits, c.requires.log.long);
+  s_value = c.requires.log.zeros;
+}
 
 pub accepted-last-requires : goal.accepted-last-requires
 accepted-last-requires c =

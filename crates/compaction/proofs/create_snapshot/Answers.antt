@@ -1,6 +1,6 @@
 -- `compaction::create_snapshot` meets its contract: refusals 12 and 11, or what a creation from a well-formed log comes
 -- to.
-use Rattle.words.proofs.Prelude.{◌≡◌, sym, ap, ◌∙◌, Bool, true, eqb, eqb-true, length}
+use Rattle.words.proofs.Prelude.{◌≡◌, sym, ap, ◌∙◌, Bool, true, eqb, eq-eqb, ne_eqb, length}
 use Rattle.entry.specs.Limits.{snapshot_words}
 use Rattle.model.specs.Calls.{query, create}
 use Rattle.state_cache.specs.{State.raw, State.formed, Run.run}
@@ -23,15 +23,15 @@ returns-then-not-well_formed c =
 pub returns-then-not-roomy : goal.returns-then-not-roomy
 returns-then-not-roomy c =
     create_malformed (raw c.args.index c.args.log.now c.args.snapshot.now) c.args.idx.0 c.args.out.now (okay (goal.at.returns-then-not-roomy c).Else-not-well_formed)
-    (eqb (length c.args.out.now) snapshot_words) (c.if-not-roomy.true)
+    (eqb (length c.args.out.now) snapshot_words) (ne_eqb _ _ c.if-not-roomy.true)
 
 pub create_at-requires : goal.create_at-requires
 create_at-requires c = (
   ready_of (raw c.args.index c.args.log.now c.args.snapshot.now) (okay (goal.at.create_at-requires c).Else-not-well_formed),
-  eqb-true (length c.args.out.now) snapshot_words (c.if-not-roomy.false),
+  c.if-not-roomy.false,
 )
 
 pub returns : goal.returns
 returns c =
     c.create_at.ensures ∙ ap (λ (t : Bool). written_out (run (query (create c.args.idx.0)) t
-    (raw c.args.index c.args.log.now c.args.snapshot.now)).answer c.args.out.now) (sym (c.if-not-roomy.false))
+    (raw c.args.index c.args.log.now c.args.snapshot.now)).answer c.args.out.now) (sym (eq-eqb _ _ c.if-not-roomy.false))

@@ -31,5 +31,5 @@ diff_at-requires c = (
 pub returns : goal.returns
 returns c =
     told_whole (raw c.args.index c.args.log.now c.args.snapshot.now) c.args.from.0 c.args.out.now c.diff_at.result
-    c.diff_at.new.1.1.1.1.0 (eqb (length c.args.out.now) snapshot_words)
+    c.diff_at.new.out.0 (eqb (length c.args.out.now) snapshot_words)
     (c.if-not-roomy.false) c.diff_at.ensures

@@ -5,14 +5,14 @@ use Rattle.reading.proofs.entries_of.Goals as goal
 
 pub returns-then-room-first : goal.returns-then-room-first
 returns-then-room-first c =
-    part_none c.args.first c.args.count c.args.log.now c.args.log.ptr (omega (arith, c.if-room-first.true))
+    part_none c.args.first c.args.count c.args.log.now c.args.log.ref_ptr (omega (arith, c.if-room-first.true))
 
 pub returns-then-room-first-2 : goal.returns-then-room-first-2
 returns-then-room-first-2 c =
-    part_none c.args.first c.args.count c.args.log.now c.args.log.ptr
+    part_none c.args.first c.args.count c.args.log.now c.args.log.ref_ptr
     (omega (arith, c.if-room-first-2.true, c.if-room-first.false))
 
 pub returns : goal.returns
 returns c =
-    part_cut c.args.first c.args.count c.args.log.now c.args.log.ptr
+    part_cut c.args.first c.args.count c.args.log.now c.args.log.ref_ptr
     (omega (arith, c.if-room-first-2.false, c.if-room-first.false))

@@ -8,7 +8,7 @@ use Rattle.reading.proofs.entries_shown.Goals as goal
 pub returns-in-Nothing : goal.returns-in-Nothing
 returns-in-Nothing c =
     let log = c.args.log in
-    let none_shown_lem = no_part log.now log.ptr in
+    let none_shown_lem = no_part log.now log.ref_ptr in
     λ (x : Raw). rw c.in-Nothing.is
     (c.entries_of.ensures.0 ∙ none_shown_lem.0, c.entries_of.ensures.1 ∙ none_shown_lem.1)
 
@@ -19,6 +19,6 @@ returns-in-Run c =
 pub returns-in-Refused : goal.returns-in-Refused
 returns-in-Refused c =
     let log = c.args.log in
-    let none_shown_lem = no_part log.now log.ptr in
+    let none_shown_lem = no_part log.now log.ref_ptr in
     λ (x : Raw). rw c.in-Refused.is
     (c.entries_of-in-Refused.ensures.0 ∙ none_shown_lem.0, c.entries_of-in-Refused.ensures.1 ∙ none_shown_lem.1)

@@ -32,10 +32,10 @@ returns-in-Stays c =
 pub returns-in-Refused : goal.returns-in-Refused
 returns-in-Refused c =
     compact_over (raw c.args.index c.args.log.now c.args.snapshot.now) c.requires.okay c.args.what (upto_of c.args.upto) _ (up (goal.at.returns-in-Refused c).In-To) c.hold-held.result
-    c.hold-held.new.1.1.0 c.hold-held.ensures _ c.in-Refused.is
+    c.hold-held.new.snapshot c.hold-held.ensures _ c.in-Refused.is
 
 pub returns-in-Keys : goal.returns-in-Keys
 returns-in-Keys c =
     compact_moves (raw c.args.index c.args.log.now c.args.snapshot.now) c.requires.okay c.args.what (upto_of c.args.upto) _ (up (goal.at.returns-in-Keys c).In-To) c.hold-held.result
-    c.hold-held.new.1.1.0 c.hold-held.ensures _ c.in-Keys.is c.holds.result c.holds.ensures
-    c.move_to-next.result c.move_to-next.new.1.0 c.move_to-next.ensures
+    c.hold-held.new.snapshot c.hold-held.ensures _ c.in-Keys.is c.holds.result c.holds.ensures
+    c.move_to-next.result c.move_to-next.new.log c.move_to-next.ensures

@@ -24,7 +24,7 @@ returns-then-past_decided c =
 
 pub returns-then-holed : goal.returns-then-holed
 returns-then-holed c =
-    create_holed (raw c.args.index c.args.log.now c.args.snapshot.now) c.args.idx.0 c.args.out.now c.requires.0.okay c.if-idx-start.left
+    create_holed (raw c.args.index c.args.log.now c.args.snapshot.now) c.args.idx.0 c.args.out.now c.requires.0.okay c.if-idx-start.false
     (sym c.past_decided.ensures ∙ c.if-past_decided.false) (sym c.hole-holed.ensures ∙ c.if-holed.true)
 
 pub target-to-requires : goal.target-to-requires
@@ -36,7 +36,7 @@ overflow_sub-n c =
     omega (
       arith,
       c.target-to.ensures,
-      target_from c.args.idx.0 (numbers_in c.args.index) c.requires.0.numbers c.if-idx-start.left,
+      target_from c.args.idx.0 (numbers_in c.args.index) c.requires.0.numbers c.if-idx-start.false,
     )
 
 pub fold_aside-requires : goal.fold_aside-requires
@@ -46,6 +46,6 @@ fold_aside-requires c =
 pub returns : goal.returns
 returns c =
     c.fold_aside.ensures
-    ∙ create_folds (raw c.args.index c.args.log.now c.args.snapshot.now) c.args.idx.0 c.args.out.now c.requires.0.okay c.if-idx-start.left
-    (sym c.past_decided.ensures ∙ c.if-past_decided.left)
+    ∙ create_folds (raw c.args.index c.args.log.now c.args.snapshot.now) c.args.idx.0 c.args.out.now c.requires.0.okay c.if-idx-start.false
+    (sym c.past_decided.ensures ∙ c.if-past_decided.false)
     (sym c.hole-holed.ensures ∙ c.if-holed.false) c.target-to.result c.target-to.ensures (within (goal.at.returns c).After-target-to)

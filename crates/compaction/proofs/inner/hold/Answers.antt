@@ -3,20 +3,15 @@ use Rattle.words.proofs.Prelude.{arith, refl, sym, ap, ◌∙◌}
 use Rattle.words.specs.{Coded.entries_at, All.all_of}
 use Rattle.words.proofs.Laws.{cleared}
 use Rattle.entry.specs.{Limits.snapshot_words, declared.Compaction.Compaction}
-use Rattle.snapshot.specs.Calls.{Outcome}
 use Rattle.state_cache.specs.State.{raw}
 use Rattle.compaction.specs.Inner.{held_written}
 use Rattle.compaction.proofs.{Folding.fold_needs, Holding.hold_none, Holding.hold_holed, Holding.hold_fold}
 use Rattle.compaction.proofs.inner.hold.Goals as goal
 
--- what is asked, by what the arm knows
-abbrev asked : tie.Start → Compaction → Outcome
-asked c what = held_written what c.args.to (raw c.args.index c.args.log.now c.args.snapshot.now)
-
 pub returns-then-hole : goal.returns-then-hole
 returns-then-hole c =
     hold_holed (raw c.args.index c.args.log.now c.args.snapshot.now) c.args.to c.requires.0.okay (sym c.hole.ensures ∙ c.if-hole.true)
-    ∙ ap (asked c) (sym c.in-Snapshot.is)
+    ∙ ap (λ (w : Compaction). held_written w c.args.to (raw c.args.index c.args.log.now c.args.snapshot.now)) (sym c.in-Snapshot.is)
 
 pub fold_over-requires : goal.fold_over-requires
 unfolding entries_at all_of
@@ -30,11 +25,11 @@ pub returns-in-Trim : goal.returns-in-Trim
 returns-in-Trim c =
     hold_none (raw c.args.index c.args.log.now c.args.snapshot.now) c.args.to _
     (c.clear.ensures ∙ cleared snapshot_words c.args.snapshot.now c.requires.0.snapshot.laid.long)
-    ∙ ap (asked c) (sym c.in-Trim.is)
+    ∙ ap (λ (w : Compaction). held_written w c.args.to (raw c.args.index c.args.log.now c.args.snapshot.now)) (sym c.in-Trim.is)
 
 pub returns-else-hole : goal.returns-else-hole
 returns-else-hole c =
     c.fold_over.ensures
     ∙ hold_fold (raw c.args.index c.args.log.now c.args.snapshot.now) c.args.to c.requires.0.okay (sym c.hole.ensures ∙ c.if-hole.false)
     c.requires.1.within
-    ∙ ap (asked c) (sym c.in-Snapshot.is)
+    ∙ ap (λ (w : Compaction). held_written w c.args.to (raw c.args.index c.args.log.now c.args.snapshot.now)) (sym c.in-Snapshot.is)

@@ -1,5 +1,5 @@
 -- `diff::inner::diff_at` meets its contract: a delta past compacted, else nothing or the fold onto the held snapshot.
-use Rattle.words.proofs.Prelude.{arith, sym, ◌∙◌, not-false}
+use Rattle.words.proofs.Prelude.{arith, sym, ◌∙◌}
 use Rattle.state_cache.specs.State.{raw, numbers_in}
 use Rattle.state_cache.proofs.Small.{sound_small}
 use Rattle.compaction.proofs.Folding.{decided_low, decided_high, fold_needs}
@@ -37,7 +37,7 @@ returns-then-low-from c =
     rw c.tell.ensures
     (delta_wrote (let c = c in raw c.args.index c.args.log.now c.args.snapshot.now) c.args.from.0 c.args.out.now c.requires.0.okay c.log_decided-last.result
     c.log_decided-last.ensures c.if-low-from.true c.least-start.result c.least-start.ensures c.fold_part-r.result
-    c.fold_part-r.new.1.1.1.0 c.fold_part-r.ensures)
+    c.fold_part-r.new.out.0 c.fold_part-r.ensures)
 
 pub returns-then-not-index-low : goal.returns-then-not-index-low
 returns-then-not-index-low c =
@@ -68,6 +68,6 @@ pub returns : goal.returns
 returns c =
     rw c.tell-2.ensures
     (complete_wrote (let c = c in raw c.args.index c.args.log.now c.args.snapshot.now) c.args.from.0 c.args.out.now c.requires.0.okay c.log_decided-last.result
-    c.log_decided-last.ensures c.if-low-from.left (not-false _ c.if-not-index-low.left)
+    c.log_decided-last.ensures c.if-low-from.false (c.if-not-index-low.false)
     (sym c.hole.ensures ∙ c.if-hole.false) c.fold_aside-r.result
-    c.fold_aside-r.new.1.1.1.1.0 c.fold_aside-r.ensures)
+    c.fold_aside-r.new.out.0 c.fold_aside-r.ensures)

@@ -2,42 +2,45 @@
 use Rattle.words.proofs.Prelude.{arith, refl, ℕ, ◌-◌}
 use Rattle.reading.proofs.Looking.{Left, newest_few, newest_found, newest_back}
 use Rattle.reading.proofs.inner.newest_at.Goals as goal
+use Rattle.reading.proofs.inner.newest_at.Goals.{Else-ka-key, Else-kb-key, Else-kc-key, Else-kd-key}
 
 -- so many of the last entries were not it
-abbrev Still : tie.At-loop invariant-loop decreases-loop → ℕ → Type 0
+abbrev Still : tie.At-loop → ℕ → Type 0
 Still l j = Left l.before.before.args.n l.before.before.args.log.now l.before.before.args.key j
 
-one : (e : tie.Else2 invariant-loop decreases-loop) → Still e.before.before.before (e.before.before.before.loop.i - 1)
+one : (e : Else-ka-key) → Still e (e.loop-i.i - 1)
 one e =
-    let l = e.before.before.before in
-    let a = l.before.before.args in
-    newest_back a.n a.log.now a.key l.loop.i l.loop.invariant (l.loop.i - 1) (omega arith) e.if2.false
+        newest_back e.args.n e.args.log.now e.args.key e.loop-i.i e.loop-i.invariant (e.loop-i.i - 1) (omega arith) e.if-ka-key.false
 
-two : (e : tie.Else3 invariant-loop decreases-loop)
-    → Still e.before.before.before.before.before (e.before.before.before.before.before.loop.i - 2)
+two : (e : Else-kb-key)
+    → Still e (e.loop-i.i - 2)
 two e =
-    let l = e.before.before.before.before.before in
-    let a = l.before.before.args in
-    newest_back a.n a.log.now a.key (l.loop.i - 1) (one e.before.before) (l.loop.i - 2)
-    (omega arith) e.if3.false
+        newest_back e.args.n e.args.log.now e.args.key (e.loop-i.i - 1) ((let h : Still e (e.loop-i.i - 1) =     let e.args = e.args in
+    newest_back e.args.n e.args.log.now e.args.key e.loop-i.i e.loop-i.invariant (e.loop-i.i - 1) (omega arith) e.if-ka-key.false in h)) (e.loop-i.i - 2)
+    (omega arith) e.if-kb-key.false
 
-three : (e : tie.Else4 invariant-loop decreases-loop)
-    → Still e.before.before.before.before.before.before.before
-    (e.before.before.before.before.before.before.before.loop.i - 3)
+three : (e : Else-kc-key)
+    → Still e
+    (e.loop-i.i - 3)
 three e =
-    let l = e.before.before.before.before.before.before.before in
-    let a = l.before.before.args in
-    newest_back a.n a.log.now a.key (l.loop.i - 2) (two e.before.before) (l.loop.i - 3)
-    (omega arith) e.if4.false
+        newest_back e.args.n e.args.log.now e.args.key (e.loop-i.i - 2) ((let h : Still e (e.loop-i.i - 2) =     let e.args = e.args in
+    newest_back e.args.n e.args.log.now e.args.key (e.loop-i.i - 1) ((let h : Still e (e.loop-i.i - 1) =     let e.args = e.args in
+    newest_back e.args.n e.args.log.now e.args.key e.loop-i.i e.loop-i.invariant (e.loop-i.i - 1) (omega arith) e.if-ka-key.false in h)) (e.loop-i.i - 2)
+    (omega arith) e.if-kb-key.false in h)) (e.loop-i.i - 3)
+    (omega arith) e.if-kc-key.false
 
-four : (e : tie.Else5 invariant-loop decreases-loop)
-    → Still e.before.before.before.before.before.before.before.before.before
-    (e.before.before.before.before.before.before.before.before.before.loop.i - 4)
+four : (e : Else-kd-key)
+    → Still e
+    (e.loop-i.i - 4)
 four e =
-    let l = e.before.before.before.before.before.before.before.before.before in
-    let a = l.before.before.args in
-    newest_back a.n a.log.now a.key (l.loop.i - 3) (three e.before.before) (l.loop.i - 4)
-    (omega arith) e.if5.false
+        newest_back e.args.n e.args.log.now e.args.key (e.loop-i.i - 3) ((let h : Still e
+    (e.loop-i.i - 3) =     let e.args = e.args in
+    newest_back e.args.n e.args.log.now e.args.key (e.loop-i.i - 2) ((let h : Still e (e.loop-i.i - 2) =     let e.args = e.args in
+    newest_back e.args.n e.args.log.now e.args.key (e.loop-i.i - 1) ((let h : Still e (e.loop-i.i - 1) =     let e.args = e.args in
+    newest_back e.args.n e.args.log.now e.args.key e.loop-i.i e.loop-i.invariant (e.loop-i.i - 1) (omega arith) e.if-ka-key.false in h)) (e.loop-i.i - 2)
+    (omega arith) e.if-kb-key.false in h)) (e.loop-i.i - 3)
+    (omega arith) e.if-kc-key.false in h)) (e.loop-i.i - 4)
+    (omega arith) e.if-kd-key.false
 
 pub loop-i-init : goal.loop-i-init
 loop-i-init c =
@@ -58,15 +61,15 @@ returns-then-ka-key c =
 
 pub returns-then-kb-key : goal.returns-then-kb-key
 returns-then-kb-key c =
-    newest_found c.args.n c.args.log.now c.args.key (c.loop-i.i - 1) (one c) (c.loop-i.i - 2)
+    newest_found c.args.n c.args.log.now c.args.key (c.loop-i.i - 1) (one (goal.at.returns-then-kb-key c).Else-ka-key) (c.loop-i.i - 2)
     (omega arith) c.if-kb-key.true
 
 pub returns-then-kc-key : goal.returns-then-kc-key
 returns-then-kc-key c =
-    newest_found c.args.n c.args.log.now c.args.key (c.loop-i.i - 2) (two c) (c.loop-i.i - 3)
+    newest_found c.args.n c.args.log.now c.args.key (c.loop-i.i - 2) (two (goal.at.returns-then-kc-key c).Else-kb-key) (c.loop-i.i - 3)
     (omega arith) c.if-kc-key.true
 
 pub returns-then-kd-key : goal.returns-then-kd-key
 returns-then-kd-key c =
-    newest_found c.args.n c.args.log.now c.args.key (c.loop-i.i - 3) (three c) (c.loop-i.i - 4)
+    newest_found c.args.n c.args.log.now c.args.key (c.loop-i.i - 3) (three (goal.at.returns-then-kd-key c).Else-kc-key) (c.loop-i.i - 4)
     (omega arith) c.if-kd-key.true

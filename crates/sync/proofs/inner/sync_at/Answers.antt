@@ -31,7 +31,7 @@ whole e =
 
 took : (m : After-take_suffix-next) → Taken m.args.log_sync (length m.args.suffix.now / width) m.in-Keys.keys
     (marked m.args.accepted_round m.args.decided_idx.0 m.args.index) m.args.log.now
-    m.args.suffix.now m.take_suffix-next.result m.take_suffix-next.new.1.0
+    m.args.suffix.now m.take_suffix-next.result m.take_suffix-next.new.log
 took m =
     rw m.mark-marked.ensures at m.take_suffix-next.ensures
 
@@ -61,11 +61,11 @@ pub returns-in-Refused-r : goal.returns-in-Refused-r
 returns-in-Refused-r c =
     sync_over (raw c.args.index c.args.log.now c.args.snapshot.now) c.args.log_sync c.args.incoming.now c.args.suffix.now c.requires
     c.args.accepted_round c.args.decided_idx.0 (pass (goal.at.returns-in-Refused-r c).In_default) (whole (c)) c.hold-r.result
-    c.hold-r.new.1.1.0 c.hold-r.ensures _ c.in-Refused-r.is
+    c.hold-r.new.snapshot c.hold-r.ensures _ c.in-Refused-r.is
 
 pub returns-in-Keys : goal.returns-in-Keys
 returns-in-Keys c =
     sync_stands (raw c.args.index c.args.log.now c.args.snapshot.now) c.args.log_sync c.args.incoming.now c.args.suffix.now c.requires
     c.args.accepted_round c.args.decided_idx.0 (pass (goal.at.returns-in-Keys c).In_default) (whole (c)) c.hold-r.result
-    c.hold-r.last.1.1.0 c.hold-r.ensures _ c.in-Keys.is c.take_suffix-next.result
-    c.take_suffix-next.new.1.0 (took (goal.at.returns-in-Keys c).After-take_suffix-next) c.accepted-accepted.result c.accepted-accepted.ensures
+    c.hold-r.new.snapshot c.hold-r.ensures _ c.in-Keys.is c.take_suffix-next.result
+    c.take_suffix-next.new.log (took (goal.at.returns-in-Keys c).After-take_suffix-next) c.accepted-accepted.result c.accepted-accepted.ensures

@@ -25,27 +25,27 @@ past_last-requires c =
 
 pub returns-then-past_last : goal.returns-then-past_last
 returns-then-past_last c =
-    last_past (numbers_in c.args) c.args.start (raw c.args.index c.args.log.now c.args.snapshot.now) c.requires.kept c.accepted-last.result
+    last_past (numbers_in c.args.before) c.args.start (raw c.args.index c.args.log.now c.args.snapshot.now) c.requires.kept c.accepted-last.result
     c.accepted-last.ensures (sym (past (goal.at.returns-then-past_last c).After-past_last) ∙ c.if-past_last.true)
 
 pub returns-then-start-index : goal.returns-then-start-index
 returns-then-start-index c =
-    last_apart (numbers_in c.args) c.args.start (raw c.args.index c.args.log.now c.args.snapshot.now) c.requires.kept
+    last_apart (numbers_in c.args.before) c.args.start (raw c.args.index c.args.log.now c.args.snapshot.now) c.requires.kept
     (sym (past (goal.at.returns-then-start-index c).After-past_last) ∙ c.if-past_last.false) (ne_eqb _ _ c.if-start-index.true)
 
 pub numbers_formed-requires : goal.numbers_formed-requires
 numbers_formed-requires c =
-    last_small (numbers_in c.args) c.args.start (raw c.args.index c.args.log.now c.args.snapshot.now) c.requires.kept
+    last_small (numbers_in c.args.before) c.args.start (raw c.args.index c.args.log.now c.args.snapshot.now) c.requires.kept
     (sym (past (goal.at.numbers_formed-requires c).After-past_last) ∙ c.if-past_last.false)
 
 pub returns-then-not-numbers_formed : goal.returns-then-not-numbers_formed
 returns-then-not-numbers_formed c =
-    last_unformed (numbers_in c.args) c.args.start (raw c.args.index c.args.log.now c.args.snapshot.now) c.requires.kept
+    last_unformed (numbers_in c.args.before) c.args.start (raw c.args.index c.args.log.now c.args.snapshot.now) c.requires.kept
     (sym (past (goal.at.returns-then-not-numbers_formed c).After-past_last) ∙ c.if-past_last.false)
     (sym (formed_numbers (raw c.args.index c.args.log.now c.args.snapshot.now) c.requires.kept) ∙ sym c.numbers_formed.ensures ∙ c.if-not-numbers_formed.true)
 
 pub returns : goal.returns
 returns c =
-    last_stands (numbers_in c.args) c.args.start (raw c.args.index c.args.log.now c.args.snapshot.now) c.requires.kept
+    last_stands (numbers_in c.args.before) c.args.start (raw c.args.index c.args.log.now c.args.snapshot.now) c.requires.kept
     (sym (past (goal.at.returns c).After-past_last) ∙ c.if-past_last.false) c.if-start-index.false
     (sym (formed_numbers (raw c.args.index c.args.log.now c.args.snapshot.now) c.requires.kept) ∙ sym c.numbers_formed.ensures ∙ c.if-not-numbers_formed.false)

@@ -12,7 +12,7 @@ use Rattle.backend.proofs.Amid.{ready_held}
 use Rattle.backend.proofs.inner.list.run_ops.Goals as goal
 
 abbrev S : Type 0
-S = tie.Start invariant-loop decreases-loop
+S = tie.Start
 
 abbrev stateAt : S → Raw
 stateAt c = raw c.args.before c.args.log.now c.args.snapshot.now
@@ -31,20 +31,16 @@ loop-i-init c = (
 
 pub step-s-requires : goal.step-s-requires
 step-s-requires c =
-    let v = c.loop-i in (
-      v.invariant.1.0,
-      (
-        sound_small (numbers_in c.args) c.requires.ready.numbers,
-        (
-          c.requires.lends,
-          is_supplied (numbers_in c.args) (lent_at c) c.args.list.ops c.args.list.count c.requires.few (eight c)
-              (asked (stateAt c) (lent_at c) (ops_in c.args.list)) (end (stateAt c) (lent_at c) (ops_in c.args.list))
-              (midst_of v.start (raw v.index v.log v.snapshot)) v.i v.invariant.1.1
-              c.loop-i-test.true
-              (ops_supplied (lent_at c) (ops_in c.args.list) c.requires.okay),
-        ),
-      ),
-    )
+    let v = c.loop-i in record {
+      kept = v.invariant.1.0;
+      small = sound_small (numbers_in c.args.before) c.requires.ready.numbers;
+      lends = c.requires.lends;
+      o_value = is_supplied (numbers_in c.args.before) (lent_at c) c.args.list.ops c.args.list.count c.requires.few (eight c)
+          (asked (stateAt c) (lent_at c) (ops_in c.args.list)) (end (stateAt c) (lent_at c) (ops_in c.args.list))
+          (midst_of v.start (raw v.index v.log v.snapshot)) v.i v.invariant.1.1
+          c.loop-i-test.true
+          (ops_supplied (lent_at c) (ops_in c.args.list) c.requires.okay);
+    }
 
 pub shape_of-log-in-Refused : goal.shape_of-log-in-Refused
 shape_of-log-in-Refused c =
@@ -58,27 +54,27 @@ pub returns-in-Refused : goal.returns-in-Refused
 returns-in-Refused c =
     let v = c.loop-i in
     wrote_refused (stateAt c) (lent_at c)
-    (ops_in c.args.list) _ (raw v.index c.step-s.new.snapshot.1.1.0 c.step-s.new.snapshot.1.1.1.0)
-    (turn_refused (numbers_in c.args) (lent_at c) c.args.list.ops c.args.list.count c.requires.few
+    (ops_in c.args.list) _ (raw v.index c.step-s.new.log c.step-s.new.snapshot)
+    (turn_refused (numbers_in c.args.before) (lent_at c) c.args.list.ops c.args.list.count c.requires.few
     (eight c) (asked (stateAt c) (lent_at c) (ops_in c.args.list)) (end (stateAt c) (lent_at c) (ops_in c.args.list))
     (midst_of v.start (raw v.index v.log v.snapshot)) v.i v.invariant.1.1 c.loop-i-test.true
-    c.step-s.result c.step-s.new.snapshot.1.1.0 c.step-s.new.snapshot.1.1.1.0
+    c.step-s.result c.step-s.new.log c.step-s.new.snapshot
     c.step-s.ensures _ c.in-Refused.is)
 
 pub loop-i-preserved : goal.loop-i-preserved
 loop-i-preserved c =
     let v = c.loop-i in
-    let n = numbers_in c.args in
+    let n = numbers_in c.args.before in
     let k = asked (stateAt c) (lent_at c) (ops_in c.args.list) in
     let z = end (stateAt c) (lent_at c) (ops_in c.args.list) in
     let m = midst_of v.start (raw v.index v.log v.snapshot) in (
       omega (arith, c.loop-i-test.true),
       (
         turn_held n (lent_at c) c.args.list.ops c.args.list.count c.requires.few (eight c) k z m v.i v.invariant.1.1
-            c.loop-i-test.true c.step-s.result c.step-s.new.snapshot.1.1.0 c.step-s.new.snapshot.1.1.1.0
+            c.loop-i-test.true c.step-s.result c.step-s.new.log c.step-s.new.snapshot
             c.step-s.ensures c.in_default.is,
         turn_left n (lent_at c) c.args.list.ops c.args.list.count c.requires.few (eight c) k z m v.i v.invariant.1.1
-            c.loop-i-test.true c.step-s.result c.step-s.new.snapshot.1.1.0 c.step-s.new.snapshot.1.1.1.0
+            c.loop-i-test.true c.step-s.result c.step-s.new.log c.step-s.new.snapshot
             c.step-s.ensures c.in_default.is,
       ),
     )
@@ -87,7 +83,7 @@ pub judge_last-answer-requires : goal.judge_last-answer-requires
 judge_last-answer-requires c =
     record {
       kept = c.loop-i.invariant.1.0;
-      small = sound_small (numbers_in c.args) c.requires.ready.numbers;
+      small = sound_small (numbers_in c.args.before) c.requires.ready.numbers;
     }
 
 pub shape_of-log : goal.shape_of-log
@@ -102,9 +98,9 @@ pub returns : goal.returns
 returns c =
     let v = c.loop-i in
     let x = raw v.index v.log v.snapshot in
-    wrote (stateAt c) (lent_at c) (ops_in c.args.list) (numbers_in c.args)
+    wrote (stateAt c) (lent_at c) (ops_in c.args.list) (numbers_in c.args.before)
     v.start x c.judge_last-answer.result v.invariant.1.0
-    (ended (numbers_in c.args) (lent_at c) c.args.list.ops c.args.list.count c.requires.few
+    (ended (numbers_in c.args.before) (lent_at c) c.args.list.ops c.args.list.count c.requires.few
     (eight c) (asked (stateAt c) (lent_at c) (ops_in c.args.list)) (end (stateAt c) (lent_at c) (ops_in c.args.list))
     (midst_of v.start x) v.i v.invariant.1.1 c.loop-i-test.false)
     c.judge_last-answer.ensures

@@ -8,23 +8,23 @@ use Rattle.backend.proofs.Turns.{write_refused, write_stands, listed_copy, wrote
 use Rattle.backend.proofs.inner.list.write_at.Goals as goal
 use Rattle.backend.proofs.inner.list.write_at.Goals.{After-run_ops-r, In_default}
 
-ran : (p : After-run_ops-r) → Wrote (raw p.args p.args.log.now p.args.snapshot.now) (lent_of p.args.lent p.args.entries.now p.args.incoming.now)
-    (ops_in (p).args.list) p.run_ops-r.result.answer (raw p.run_ops-r.result.index p.run_ops-r.new.snapshot.0 p.run_ops-r.new.snapshot.1.0)
+ran : (p : After-run_ops-r) → Wrote (raw p.args.before p.args.log.now p.args.snapshot.now) (lent_of p.args.lent p.args.entries.now p.args.incoming.now)
+    (ops_in (p).args.list) p.run_ops-r.result.answer (raw p.run_ops-r.result.index p.run_ops-r.new.log p.run_ops-r.new.snapshot)
 ran p =
     let st = (p) in
-    wrote_copy st.args.before st.args.log.now p.copy_words.last.1.0 st.args.snapshot.now
-    p.copy_words-2.last.1.0 p.copy_words.ensures p.copy_words-2.ensures
-    (lent_of st.args.lent st.args.entries.now st.args.incoming.now) (ops_in st.args.list) p.run_ops-r.result.answer (raw p.run_ops-r.result.index p.run_ops-r.new.snapshot.0 p.run_ops-r.new.snapshot.1.0) p.run_ops-r.ensures
+    wrote_copy st.args.before st.args.log.now p.copy_words.new.dst.0 st.args.snapshot.now
+    p.copy_words-2.new.dst.0 p.copy_words.ensures p.copy_words-2.ensures
+    (lent_of st.args.lent st.args.entries.now st.args.incoming.now) (ops_in st.args.list) p.run_ops-r.result.answer (raw p.run_ops-r.result.index p.run_ops-r.new.log p.run_ops-r.new.snapshot) p.run_ops-r.ensures
 
-stood : (e : In_default) → Ready (raw e.run_ops-r.result.index e.run_ops-r.new.snapshot.0 e.run_ops-r.new.snapshot.1.0)
+stood : (e : In_default) → Ready (raw e.run_ops-r.result.index e.run_ops-r.new.log e.run_ops-r.new.snapshot)
 stood e =
-    ready_of (raw e.run_ops-r.result.index e.run_ops-r.new.snapshot.0 e.run_ops-r.new.snapshot.1.0) ((ran e).after (ap settled e.in_default.is)).0
+    ready_of (raw e.run_ops-r.result.index e.run_ops-r.new.log e.run_ops-r.new.snapshot) ((ran e).after (ap settled e.in_default.is)).0
 
 pub run_ops-r-requires : goal.run_ops-r-requires
 run_ops-r-requires c =
     let st = (c) in
-    listed_copy st.args.before st.args.log.now c.copy_words.new.1.0
-    st.args.snapshot.now c.copy_words-2.new.1.0 c.copy_words.ensures
+    listed_copy st.args.before st.args.log.now c.copy_words.new.dst.0
+    st.args.snapshot.now c.copy_words-2.new.dst.0 c.copy_words.ensures
     c.copy_words-2.ensures
     st.args.lent st.args.entries.now st.args.incoming.now st.args.list st.pre
 
@@ -32,7 +32,7 @@ pub returns-in-Refused : goal.returns-in-Refused
 returns-in-Refused c =
     let st = (c) in
     write_refused (raw st.args.before st.args.log.now st.args.snapshot.now) (lent_of st.args.lent st.args.entries.now st.args.incoming.now) (ops_in st.args.list) st.pre.ready.okay st.pre.okay
-    c.run_ops-r.result.answer (raw c.run_ops-r.result.index c.run_ops-r.new.snapshot.0 c.run_ops-r.new.snapshot.1.0) (ran (goal.at.returns-in-Refused c).After-run_ops-r) _ c.in-Refused.is
+    c.run_ops-r.result.answer (raw c.run_ops-r.result.index c.run_ops-r.new.log c.run_ops-r.new.snapshot) (ran (goal.at.returns-in-Refused c).After-run_ops-r) _ c.in-Refused.is
 
 pub copy_words-requires-3 : goal.copy_words-requires-3
 copy_words-requires-3 c =
@@ -49,4 +49,4 @@ returns c =
     ap₂ (λ (l s : List ℕ). outcome (replied tt) (raw c.run_ops-r.result.index l s)) c.copy_words-3.ensures
     c.copy_words-4.ensures
     ∙ write_stands (raw st.args.before st.args.log.now st.args.snapshot.now) (lent_of st.args.lent st.args.entries.now st.args.incoming.now) (ops_in st.args.list) st.pre.ready.okay st.pre.okay
-    c.run_ops-r.result.answer (raw c.run_ops-r.result.index c.run_ops-r.new.snapshot.0 c.run_ops-r.new.snapshot.1.0) (ran (goal.at.returns c).After-run_ops-r) c.in_default.is
+    c.run_ops-r.result.answer (raw c.run_ops-r.result.index c.run_ops-r.new.log c.run_ops-r.new.snapshot) (ran (goal.at.returns c).After-run_ops-r) c.in_default.is

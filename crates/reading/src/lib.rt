@@ -216,7 +216,7 @@ pub fn read<'a>(
         × (result.entries.now
         ≡ part_shown (run (query (read_call (bound_of from) (bound_of to))) true
         (raw index log.now snapshot.now)).answer log.now)
-        × (result.entries.ptr
+        × (result.entries.ref_ptr
         ≡ part_shown_at (run (query (read_call (bound_of from) (bound_of to))) true
         (raw index log.now snapshot.now)).answer log.now log.entry.ref_ptr) }
 {

@@ -1,25 +1,10 @@
 -- `reading::inner::look` meets its contract: what the newest of the entries says, or what the snapshot does.
-use Rattle.words.proofs.Prelude.{arith, ◌≡◌, sym, ap, ◌∙◌, [], ◌∷◌}
-use mathlib.Core.Logic.{inl, inr}
-use types.Run.{OneOf}
-use denote.Enum.Declared.{tag_of}
+use Rattle.words.proofs.Prelude.{arith, ◌≡◌, sym, ap, ◌∙◌}
 use Rattle.snapshot.specs.Calls.{found}
-use Rattle.snapshot.specs.declared.Found.{Found}
-use Rattle.snapshot.specs.declared.Found.TheVariants.{Unknown}
-use Rattle.snapshot.specs.contracts.Found.{the_type}
 use Rattle.state_cache.specs.State.{raw}
 use Rattle.state_cache.proofs.Small.{sound_small}
 use Rattle.reading.proofs.Looking.{decided_low, look_inside, look_told, look_snapshot}
 use Rattle.reading.proofs.inner.look.Goals as goal
-
--- an answer of another kind than the third is not `Unknown`
-known : (f : Found) → OneOf (0 ∷ (1 ∷ (3 ∷ []))) (tag_of the_type f) → f ≡ Unknown → ⊥
-known f t e = go (ap (tag_of the_type) e) t
-  where
-    go : tag_of the_type f ≡ 2 → OneOf (0 ∷ (1 ∷ (3 ∷ []))) (tag_of the_type f) → ⊥
-    go q (inl z) = omega arith
-    go q (inr (inl z)) = omega arith
-    go q (inr (inr z)) = omega arith
 
 pub log_decided-decided-requires : goal.log_decided-decided-requires
 log_decided-decided-requires c =
@@ -42,7 +27,7 @@ pub returns-in_default : goal.returns-in_default
 returns-in_default c =
     look_told (raw c.args.index c.args.log.now c.args.snapshot.now) c.requires c.args.key
     c.log_decided-decided.result c.log_decided-decided.ensures c.newest_word-newest.result c.newest_word-newest.ensures
-    (known c.newest_word-newest.result c.in-Unknown.keys2)
+    c.in_default.not-Unknown
 
 pub look_up-requires : goal.look_up-requires
 look_up-requires c =

@@ -2,45 +2,27 @@
 use Rattle.words.proofs.Prelude.{arith, refl, ℕ, ◌-◌}
 use Rattle.reading.proofs.Looking.{Left, newest_few, newest_found, newest_back}
 use Rattle.reading.proofs.inner.newest_at.Goals as goal
-use Rattle.reading.proofs.inner.newest_at.Goals.{Else-ka-key, Else-kb-key, Else-kc-key, Else-kd-key}
+use Rattle.reading.proofs.inner.newest_at.Goals.{Else-ka-key, Else-kb-key, Else-kc-key}
 
 -- so many of the last entries were not it
-abbrev Still : tie.At-loop → ℕ → Type 0
-Still l j = Left l.before.before.args.n l.before.before.args.log.now l.before.before.args.key j
-
-one : (e : Else-ka-key) → Still e (e.loop-i.i - 1)
+one : (e : Else-ka-key) → Left e.args.n e.args.log.now e.args.key (e.loop-i.i - 1)
 one e =
-        newest_back e.args.n e.args.log.now e.args.key e.loop-i.i e.loop-i.invariant (e.loop-i.i - 1) (omega arith) e.if-ka-key.false
+    newest_back e.args.n e.args.log.now e.args.key e.loop-i.i e.loop-i.invariant (e.loop-i.i - 1) (omega arith)
+    e.if-ka-key.false
 
-two : (e : Else-kb-key)
-    → Still e (e.loop-i.i - 2)
+two : (e : Else-kb-key) → Left e.args.n e.args.log.now e.args.key (e.loop-i.i - 2)
 two e =
-        newest_back e.args.n e.args.log.now e.args.key (e.loop-i.i - 1) ((let h : Still e (e.loop-i.i - 1) =     let e.args = e.args in
-    newest_back e.args.n e.args.log.now e.args.key e.loop-i.i e.loop-i.invariant (e.loop-i.i - 1) (omega arith) e.if-ka-key.false in h)) (e.loop-i.i - 2)
-    (omega arith) e.if-kb-key.false
+    let l = newest_back e.args.n e.args.log.now e.args.key e.loop-i.i e.loop-i.invariant (e.loop-i.i - 1) (omega arith)
+    e.if-ka-key.false in
+    newest_back e.args.n e.args.log.now e.args.key (e.loop-i.i - 1) l (e.loop-i.i - 2) (omega arith) e.if-kb-key.false
 
-three : (e : Else-kc-key)
-    → Still e
-    (e.loop-i.i - 3)
+three : (e : Else-kc-key) → Left e.args.n e.args.log.now e.args.key (e.loop-i.i - 3)
 three e =
-        newest_back e.args.n e.args.log.now e.args.key (e.loop-i.i - 2) ((let h : Still e (e.loop-i.i - 2) =     let e.args = e.args in
-    newest_back e.args.n e.args.log.now e.args.key (e.loop-i.i - 1) ((let h : Still e (e.loop-i.i - 1) =     let e.args = e.args in
-    newest_back e.args.n e.args.log.now e.args.key e.loop-i.i e.loop-i.invariant (e.loop-i.i - 1) (omega arith) e.if-ka-key.false in h)) (e.loop-i.i - 2)
-    (omega arith) e.if-kb-key.false in h)) (e.loop-i.i - 3)
-    (omega arith) e.if-kc-key.false
-
-four : (e : Else-kd-key)
-    → Still e
-    (e.loop-i.i - 4)
-four e =
-        newest_back e.args.n e.args.log.now e.args.key (e.loop-i.i - 3) ((let h : Still e
-    (e.loop-i.i - 3) =     let e.args = e.args in
-    newest_back e.args.n e.args.log.now e.args.key (e.loop-i.i - 2) ((let h : Still e (e.loop-i.i - 2) =     let e.args = e.args in
-    newest_back e.args.n e.args.log.now e.args.key (e.loop-i.i - 1) ((let h : Still e (e.loop-i.i - 1) =     let e.args = e.args in
-    newest_back e.args.n e.args.log.now e.args.key e.loop-i.i e.loop-i.invariant (e.loop-i.i - 1) (omega arith) e.if-ka-key.false in h)) (e.loop-i.i - 2)
-    (omega arith) e.if-kb-key.false in h)) (e.loop-i.i - 3)
-    (omega arith) e.if-kc-key.false in h)) (e.loop-i.i - 4)
-    (omega arith) e.if-kd-key.false
+    let l = newest_back e.args.n e.args.log.now e.args.key e.loop-i.i e.loop-i.invariant (e.loop-i.i - 1) (omega arith)
+    e.if-ka-key.false in
+    let k = newest_back e.args.n e.args.log.now e.args.key (e.loop-i.i - 1) l (e.loop-i.i - 2) (omega arith)
+    e.if-kb-key.false in
+    newest_back e.args.n e.args.log.now e.args.key (e.loop-i.i - 2) k (e.loop-i.i - 3) (omega arith) e.if-kc-key.false
 
 pub loop-i-init : goal.loop-i-init
 loop-i-init c =
@@ -48,7 +30,8 @@ loop-i-init c =
 
 pub loop-i-preserved : goal.loop-i-preserved
 loop-i-preserved c =
-    four c
+    newest_back c.args.n c.args.log.now c.args.key (c.loop-i.i - 3) (three (goal.at.loop-i-preserved c).Else-kc-key)
+    (c.loop-i.i - 4) (omega arith) c.if-kd-key.false
 
 pub returns-then-i-lt4 : goal.returns-then-i-lt4
 returns-then-i-lt4 c =

@@ -1,5 +1,5 @@
 -- `ballot_leader_election::forms::peers_formed` meets its contract: the array is as long as it is, and both tests are joined.
-use Rattle.words.proofs.Prelude.{◌≡◌, eq-eqb, length-map, length}
+use Rattle.words.proofs.Prelude.{arith, ◌≡◌, eq-eqb, length}
 use Rattle.entry.specs.Limits.{most_peers}
 use Rattle.ballot_leader_election.specs.State.{list_formed}
 use Rattle.ballot_leader_election.proofs.forms.peers_formed.Goals as goal
@@ -7,7 +7,7 @@ use Rattle.ballot_leader_election.proofs.forms.peers_formed.Goals.{Start}
 
 long : (st : Start) → length st.args.peers.held ≡ most_peers
 long st =
-    simp length-map at st.well_formed.0.1.1.1.0.1.0.1
+    omega arith
 
 pub returns : goal.returns
 unfolding list_formed

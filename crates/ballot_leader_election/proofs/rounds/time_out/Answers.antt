@@ -1,6 +1,5 @@
 -- `ballot_leader_election::rounds::time_out` meets its contract: the steps one after the other; 18, then 19, before anything is made.
 use Rattle.words.proofs.Prelude.{arith, ◌≡◌, refl, ap, ◌∙◌, ◌<◌, true, false, ◌&&◌, ◌||◌, eqb}
-use Rattle.words.proofs.Prelude.{ltb-true, ltb-false}
 use Rattle.words.proofs.Tests.{or_left}
 use Rattle.entry.specs.Limits.{last_round}
 use Rattle.ballot_leader_election.specs.{State.replies_in, State.standing_in, State.election_of, Steps.update_leader, Steps.leading, Steps.timed_out}
@@ -19,11 +18,11 @@ updated-is d =
 taken-room : (l : Else-spent) → l.takeover_due-due.result ≡ true → l.update_happiness-judged.result.leader.n < last_round
 taken-room l =
     due_room (l.args.e).hb_round l.update_happiness-judged.result.leader.n l.takeover_due-due.result
-    (omega (arith, l.update_happiness-judged.type-inv)) l.if-spent.false
+    (omega (arith, l.update_happiness-judged.type_inv)) l.if-spent.false
 
 begins-at : (l : Else-spent) → Begins (l.args.e)
 begins-at l =
-    begins (l.args.e) l.requires (ltb-false _ _ l.if-full.false) (omega (arith, l.well_formed))
+    begins (l.args.e) l.requires l.if-full.false (omega (arith, l.well_formed))
     (or_left _ _ l.if-spent.false)
 
 pub returns-then-full : goal.returns-then-full
@@ -32,7 +31,7 @@ returns-then-full c =
     comes_refused (timeout_guards (election_of e)) (leading (timed_out c.args.promise (election_of e)).standing)
     (timed_out c.args.promise (election_of e)) e 18 0
     (timeout_short e c.requires c.args.promise c.update_leader-updated.result c.update_happiness-judged.result c.takeover_due-due.result (updated-is (goal.at.returns-then-full c).After-takeover_due-due)
-    c.update_happiness-judged.ensures c.takeover_due-due.ensures (eqb (c.args.e).hb_round last_round || (c.takeover_due-due.result && eqb c.update_happiness-judged.result.leader.n last_round)) refl (ltb-true _ _ c.if-full.true))
+    c.update_happiness-judged.ensures c.takeover_due-due.ensures (eqb (c.args.e).hb_round last_round || (c.takeover_due-due.result && eqb c.update_happiness-judged.result.leader.n last_round)) refl c.if-full.true)
 
 pub returns-then-spent : goal.returns-then-spent
 returns-then-spent c =
@@ -41,7 +40,7 @@ returns-then-spent c =
     (timed_out c.args.promise (election_of e)) e 19 0
     (timeout_spent e c.requires c.args.promise c.update_leader-updated.result c.update_happiness-judged.result c.takeover_due-due.result (updated-is (goal.at.returns-then-spent c).After-takeover_due-due)
     c.update_happiness-judged.ensures c.takeover_due-due.ensures (eqb (c.args.e).hb_round last_round || (c.takeover_due-due.result && eqb c.update_happiness-judged.result.leader.n last_round)) refl
-    (ltb-false _ _ c.if-full.false) c.if-spent.true)
+    c.if-full.false c.if-spent.true)
 
 pub returns : goal.returns
 returns c =
@@ -56,7 +55,7 @@ returns c =
     (timed_out p (election_of e)) e
     (timeout_stands e c.requires p c.update_leader-updated.result c.update_happiness-judged.result c.takeover_due-due.result (updated-is (goal.at.returns c).After-takeover_due-due)
     c.update_happiness-judged.ensures c.takeover_due-due.ensures (eqb (c.args.e).hb_round last_round || (c.takeover_due-due.result && eqb c.update_happiness-judged.result.leader.n last_round)) refl
-    (ltb-false _ _ c.if-full.false) c.if-spent.false)
+    c.if-full.false c.if-spent.false)
 
 pub update_leader-updated-requires : goal.update_leader-updated-requires
 update_leader-updated-requires c =
@@ -76,8 +75,8 @@ overflow_add-full c =
 
 pub check_takeover-taken-requires : goal.check_takeover-taken-requires
 check_takeover-taken-requires c =
-    taken-room c
+    taken-room (goal.at.check_takeover-taken-requires c).Else-spent
 
 pub new_round-begun-requires : goal.new_round-begun-requires
 new_round-begun-requires c =
-    begins-at c
+    begins-at (goal.at.new_round-begun-requires c).Else-spent

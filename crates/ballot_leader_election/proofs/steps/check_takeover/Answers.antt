@@ -1,10 +1,10 @@
 -- `ballot_leader_election::steps::check_takeover` meets its contract: by whether it is due.
-use Rattle.words.proofs.Prelude.{arith, not-true, not-false}
+use Rattle.words.proofs.Prelude.{arith}
 use Rattle.ballot_leader_election.proofs.steps.check_takeover.Goals as goal
 
 pub returns-then-not-due : goal.returns-then-not-due
 returns-then-not-due c =
-    simp (not-true c.args.due c.if-not-due.true)
+    simp c.if-not-due.true
 
 pub overflow_add-mine : goal.overflow_add-mine
 overflow_add-mine c =
@@ -12,4 +12,4 @@ overflow_add-mine c =
 
 pub returns : goal.returns
 returns c =
-    simp (not-false c.args.due c.if-not-due.false)
+    simp c.if-not-due.false

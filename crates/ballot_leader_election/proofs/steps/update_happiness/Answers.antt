@@ -32,7 +32,7 @@ any_happy-larger-requires c =
 
 pub overflow_add-followers : goal.overflow_add-followers
 overflow_add-followers c =
-    omega (arith, few c)
+    omega (arith, few (goal.at.overflow_add-followers c).After-potential_followers-followers)
 
 pub any_happy-happy-requires : goal.any_happy-happy-requires
 any_happy-happy-requires c =

@@ -17,9 +17,9 @@ use Rattle.state_cache.proofs.Stands.{snapshot_tests, log_formed, given_by}
 use Rattle.backend.specs.Inner.{midst_of, Kept}
 
 -- the numbers of the log that a record and words stand for are the record's
-pub numbers_of : (r : Raw) → numbers_of (log_of r) ≡ numbers_in r.index
+pub numbers_of_lem : (r : Raw) → numbers_of (log_of r) ≡ numbers_in r.index
 unfolding log_of
-numbers_of r = fields _ _ _ (entries_length change_code _ _) (entries_length change_code _ _)
+numbers_of_lem r = fields _ _ _ (entries_length change_code _ _) (entries_length change_code _ _)
     (given_by r.index.stop_held r.index.stop)
   where
     fields : (a b : ℕ) (t : Bool) → a ≡ r.index.retained → b ≡ r.index.batched → t ≡ r.index.stop_held
@@ -64,7 +64,7 @@ formed_is r h = go (formed r) (well_formed (log_of r)) refl refl
   where
     back : well_formed (log_of r) ≡ true → formed r ≡ true
     back e = sym (formed_numbers r h)
-        ∙ (unfold well_formed in ap numbers_formed (sym (numbers_of r))
+        ∙ (unfold well_formed in ap numbers_formed (sym (numbers_of_lem r))
         ∙ and_left (numbers_formed (numbers_of (log_of r))) _ e)
 
     go : (a b : Bool) → formed r ≡ a → well_formed (log_of r) ≡ b → formed r ≡ well_formed (log_of r)
@@ -93,7 +93,7 @@ module _ (n : Numbers) (start : ℕ) (r : Raw) (h : Kept r) where
   past = ltb last_index (accepted_of (numbers_in r.index) + r.index.batched)
 
   past_is : ltb last_index asked ≡ past
-  past_is = ap (λ (k : Numbers). ltb last_index (accepted_of k + k.batched)) (numbers_of r)
+  past_is = ap (λ (k : Numbers). ltb last_index (accepted_of k + k.batched)) (numbers_of_lem r)
 
   abbrev Says : Answer (Unit {0}) → Type 0
   Says a = a ≡ settle (first gs) tt

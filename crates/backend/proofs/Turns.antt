@@ -18,7 +18,7 @@ use Rattle.state_cache.proofs.{Stands.stands_of, Runs.call_refused, Runs.call_st
 use Rattle.backend.specs.{declared.Op.Op as CodeOp, declared.inner.step.Stepped.Stepped, Ops.op_of}
 use Rattle.backend.specs.{declared.Lent.Lent as CodeLent, declared.OpList.OpList, Inner.midst_of, Inner.Kept}
 use Rattle.backend.specs.{Inner.Goes, Inner.Listed, Inner.Wrote, Inner.no_op}
-use Rattle.backend.proofs.{Requests.ops_length, Requests.op_cons, Lasts.numbers_of, Lasts.last_formed}
+use Rattle.backend.proofs.{Requests.ops_length, Requests.op_cons, Lasts.numbers_of_lem, Lasts.last_formed}
 
 -- a verdict is known by what it settles
 settle_refused : (v : Verdict) (n k : ℕ) → ◌≡◌ {A = Answer (Unit {0})} (refused n k) (settle v tt) → refuses n k ≡ v
@@ -90,7 +90,7 @@ module _ (r : Raw) (l : Lent) (ops : List Op) where
   unfolding write_guards log_of
   all_left = record {
     verdict = ap (λ (n : Numbers). first (op_guards n l ops (midst (log_of r))))
-        (sym (numbers_of r));
+        (sym (numbers_of_lem r));
     after = refl;
   }
 

@@ -1,6 +1,6 @@
 -- `backend::inner::request::all_supplied` meets its contract: the operations passed and those that are left are
 -- together what is asked.
-use Rattle.words.proofs.Prelude.{arith, ◌≡◌, refl, ◌-◌, [], map, length-map, length, take}
+use Rattle.words.proofs.Prelude.{arith, arith, ◌≡◌, refl, ◌-◌, [], map, length, take}
 use Rattle.entry.specs.Limits.{most_ops}
 use Rattle.words.proofs.Alls.{all_end}
 use Rattle.model.specs.Backend.{supplied}
@@ -11,7 +11,7 @@ use Rattle.backend.proofs.inner.request.all_supplied.Goals.{Start}
 
 eight : (st : Start) → length st.args.list.ops ≡ most_ops
 eight st =
-    simp length-map at st.well_formed.1.0.1.1.1.0.1.0.1
+    omega arith
 
 pub loop-i-init : goal.loop-i-init
 loop-i-init c =

@@ -1,5 +1,5 @@
 -- `backend::inner::request::request_formed` meets its contract: over eight operations, or all tests joined.
-use Rattle.words.proofs.Prelude.{◌≡◌, length-map, length}
+use Rattle.words.proofs.Prelude.{arith, ◌≡◌, length}
 use Rattle.entry.specs.Limits.{most_ops}
 use Rattle.backend.proofs.Requests.{too_many, request_is}
 use Rattle.backend.proofs.inner.request.request_formed.Goals as goal
@@ -7,7 +7,7 @@ use Rattle.backend.proofs.inner.request.request_formed.Goals.{Start}
 
 eight : (st : Start) → length st.args.list.ops ≡ most_ops
 eight st =
-    simp length-map at st.well_formed.1.1.1.0.1.1.1.0.1.0.1
+    omega arith
 
 pub returns-then-count-gt-OPERATIONS : goal.returns-then-count-gt-OPERATIONS
 returns-then-count-gt-OPERATIONS c =

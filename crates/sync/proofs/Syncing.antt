@@ -24,7 +24,7 @@ use Rattle.model.specs.Sync.{delta?, run_then, part_synced}
 use Rattle.model.specs.Calls.{Call, sync, malformed, further, sync_guards, synced, effect, reply_of}
 use Rattle.state_cache.specs.{State.Raw, State.raw, State.numbers_in, State.formed, State.log_of, Inner.Small}
 use Rattle.state_cache.specs.{Inner.hole_in, Run.outcome, Run.run, declared.IndexRecord.IndexRecord}
-use Rattle.state_cache.proofs.{Stands.Stands, Stands.stands_of, Stands.numbers_are, Stands.log_formed, Stands.given_by}
+use Rattle.state_cache.proofs.{Stands.Stands, Stands.stands_of, Stands.numbers_are, Stands.log_formed, Stands.given_by as given_is}
 use Rattle.state_cache.proofs.Stands.{hole_is}
 use Rattle.state_cache.proofs.{Stands.sign_by, Runs.call_refused, Runs.call_stands, Changes.log_spliced}
 use Rattle.internal_storage.specs.Replies.{asked}
@@ -37,10 +37,10 @@ use Rattle.sync.specs.declared.SnapshotType.{SnapshotType}
 use Rattle.sync.specs.declared.SnapshotType.TheVariants.{Plain, Complete, Delta}
 use Rattle.sync.proofs.Checking.{kept_few}
 
-plain_by : (k : SnapshotType) (t : List Change) → plain? (given_by k t) ≡ plain_by k
-plain_by Plain t = refl
-plain_by Complete t = refl
-plain_by Delta t = refl
+plain_by_lem : (k : SnapshotType) (t : List Change) → plain? (given_by k t) ≡ plain_by k
+plain_by_lem Plain t = refl
+plain_by_lem Complete t = refl
+plain_by_lem Delta t = refl
 
 delta_by_lem : (k : SnapshotType) (t : List Change) → delta? (given_by k t) ≡ delta_by k
 delta_by_lem Plain t = refl
@@ -80,8 +80,8 @@ module _ (r : Raw) (x : LogSync) (incoming suffix : List ℕ) (w : Syncs r x inc
   -- ---- refusals
 
   asks : part_numbers (part_by x incoming suffix) ≡ numbers_by x n
-  asks = fields _ _ _ (plain_by kind (entries_of x.keys incoming)) (entries_length change_code n suffix)
-      (given_by x.stop_held x.stopsign)
+  asks = fields _ _ _ (plain_by_lem kind (entries_of x.keys incoming)) (entries_length change_code n suffix)
+      (given_is x.stop_held x.stopsign)
     where
       fields : (t : Bool) (k : ℕ) (g : Bool) → t ≡ plain_by kind → k ≡ n → g ≡ x.stop_held
           → ◌≡◌ {A = PartNumbers} (record { idx = x.sync_idx.0; plain = t; count = k; stop = g }) (numbers_by x n)
@@ -261,7 +261,7 @@ module _ (r : Raw) (x : LogSync) (incoming suffix : List ℕ) (w : Syncs r x inc
             snapshot = holds kind;
             snapshot_keys = ap length (shows kind) ∙ sym wrote.1;
           };
-          tail = record { count = st.tail.count; sized = st.tail.sized; stopped = given_by x.stop_held x.stopsign; sign = sign_by x.stop_held x.stopsign };
+          tail = record { count = st.tail.count; sized = st.tail.sized; stopped = given_is x.stop_held x.stopsign; sign = sign_by x.stop_held x.stopsign };
           marks = record { index = ap (max d) st.marks.index; promised = st.marks.promised; rounded = refl };
           log =
               ap (λ (es : List Change). stored log_words (es ++ s.tail.batched)) (keeps kind)

@@ -16,17 +16,17 @@ pub overflow_sub-start : goal.overflow_sub-start
 overflow_sub-start c =
     omega (
       arith,
-      start_low (let c = c in raw c.args.index c.args.log.now c.args.snapshot.now) c.requires.0.okay c.args.from.0 c.log_decided-last.result
+      start_low (raw c.args.index c.args.log.now c.args.snapshot.now) c.requires.0.okay c.args.from.0 c.log_decided-last.result
           c.log_decided-last.ensures c.if-low-from.true c.least-start.result c.least-start.ensures,
       c.least-start.ensures,
     )
 
 pub fold_part-r-requires : goal.fold_part-r-requires
 fold_part-r-requires c = (
-  part_inside (let c = c in raw c.args.index c.args.log.now c.args.snapshot.now) c.requires.0.okay c.args.from.0 c.log_decided-last.result c.log_decided-last.ensures
+  part_inside (raw c.args.index c.args.log.now c.args.snapshot.now) c.requires.0.okay c.args.from.0 c.log_decided-last.result c.log_decided-last.ensures
       c.if-low-from.true c.least-start.result c.least-start.ensures,
   (
-    part_shows (let c = c in raw c.args.index c.args.log.now c.args.snapshot.now) c.requires.0.okay c.args.from.0 c.log_decided-last.result c.log_decided-last.ensures
+    part_shows (raw c.args.index c.args.log.now c.args.snapshot.now) c.requires.0.okay c.args.from.0 c.log_decided-last.result c.log_decided-last.ensures
         c.if-low-from.true c.least-start.result c.least-start.ensures,
     c.requires.1,
   ),
@@ -34,21 +34,23 @@ fold_part-r-requires c = (
 
 pub returns-then-low-from : goal.returns-then-low-from
 returns-then-low-from c =
-    rw c.tell.ensures
-    (delta_wrote (let c = c in raw c.args.index c.args.log.now c.args.snapshot.now) c.args.from.0 c.args.out.now c.requires.0.okay c.log_decided-last.result
+    let p = delta_wrote (raw c.args.index c.args.log.now c.args.snapshot.now) c.args.from.0 c.args.out.now c.requires.0.okay c.log_decided-last.result
     c.log_decided-last.ensures c.if-low-from.true c.least-start.result c.least-start.ensures c.fold_part-r.result
-    c.fold_part-r.new.out.0 c.fold_part-r.ensures)
+    c.fold_part-r.new.out c.fold_part-r.ensures in
+    record { result_after = rw c.tell.ensures p.0; out_after = p.1 }
 
 pub returns-then-not-index-low : goal.returns-then-not-index-low
 returns-then-not-index-low c =
-    diff_nothing (let c = c in raw c.args.index c.args.log.now c.args.snapshot.now) c.args.from.0 c.args.out.now c.requires.0.okay c.log_decided-last.result
-    c.log_decided-last.ensures c.if-low-from.false (c.if-not-index-low.true)
+    let p = diff_nothing (raw c.args.index c.args.log.now c.args.snapshot.now) c.args.from.0 c.args.out.now c.requires.0.okay c.log_decided-last.result
+    c.log_decided-last.ensures c.if-low-from.false (c.if-not-index-low.true) in
+    record { result_after = p.0; out_after = p.1 }
 
 pub returns-then-hole : goal.returns-then-hole
 returns-then-hole c =
-    diff_holed (let c = c in raw c.args.index c.args.log.now c.args.snapshot.now) c.args.from.0 c.args.out.now c.requires.0.okay c.log_decided-last.result
+    let p = diff_holed (raw c.args.index c.args.log.now c.args.snapshot.now) c.args.from.0 c.args.out.now c.requires.0.okay c.log_decided-last.result
     c.log_decided-last.ensures c.if-low-from.false (c.if-not-index-low.false)
-    (sym c.hole.ensures ∙ c.if-hole.true)
+    (sym c.hole.ensures ∙ c.if-hole.true) in
+    record { result_after = p.0; out_after = p.1 }
 
 pub overflow_sub-last-2 : goal.overflow_sub-last-2
 overflow_sub-last-2 c =
@@ -60,14 +62,14 @@ overflow_sub-last-2 c =
 
 pub fold_aside-r-requires : goal.fold_aside-r-requires
 fold_aside-r-requires c =
-    fold_needs (let c = c in raw c.args.index c.args.log.now c.args.snapshot.now) c.requires.0.okay c.log_decided-last.result
+    fold_needs (raw c.args.index c.args.log.now c.args.snapshot.now) c.requires.0.okay c.log_decided-last.result
     (decided_high (numbers_in c.args.index) c.requires.0.numbers c.log_decided-last.result
     c.log_decided-last.ensures) c.args.out.now c.requires.1
 
 pub returns : goal.returns
 returns c =
-    rw c.tell-2.ensures
-    (complete_wrote (let c = c in raw c.args.index c.args.log.now c.args.snapshot.now) c.args.from.0 c.args.out.now c.requires.0.okay c.log_decided-last.result
+    let p = complete_wrote (raw c.args.index c.args.log.now c.args.snapshot.now) c.args.from.0 c.args.out.now c.requires.0.okay c.log_decided-last.result
     c.log_decided-last.ensures c.if-low-from.false (c.if-not-index-low.false)
     (sym c.hole.ensures ∙ c.if-hole.false) c.fold_aside-r.result
-    c.fold_aside-r.new.out.0 c.fold_aside-r.ensures)
+    c.fold_aside-r.new.out c.fold_aside-r.ensures in
+    record { result_after = rw c.tell-2.ensures p.0; out_after = p.1 }

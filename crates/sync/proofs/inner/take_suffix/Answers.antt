@@ -24,9 +24,9 @@ overflow_mul-index-2 c =
 
 pub splice-requires : goal.splice-requires
 splice-requires c =
-    splice_needs c.args.log_sync c.args.n c.args.keys c.args.index c.args.log.now
-    c.args.suffix.now c.requires c.is_plain-plain.result c.is_plain-plain.ensures
-    c.kept_of-kept.result c.kept_of-kept.ensures
+    let h = splice_needs c.args.log_sync c.args.n c.args.keys c.args.index c.args.log.now c.args.suffix.now c.requires
+    c.is_plain-plain.result c.is_plain-plain.ensures c.kept_of-kept.result c.kept_of-kept.ensures in
+    record { cut_bound = h.0; used_in_bounds = h.1.0; insert_in_bounds = h.1.1.0; s_value = h.1.1.1 }
 
 pub overflow_add-next : goal.overflow_add-next
 overflow_add-next c =

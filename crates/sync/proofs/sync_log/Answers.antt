@@ -49,6 +49,6 @@ sync_at-requires c =
 
 pub returns : goal.returns
 returns c =
-    c.IsSync-at.ensures
+    c.sync_at.ensures
     ∙ ask_synced (raw c.args.index c.args.log.now c.args.snapshot.now) (okay (goal.at.returns c).Else-not-well_formed) c.args.log_sync c.args.incoming.now c.args.suffix.now c.args.accepted_round
     c.args.decided_idx.0 c.args.held (c.if-not-held.false) (asked (goal.at.returns c).Else-not-request_formed true (c.if-not-held.false))

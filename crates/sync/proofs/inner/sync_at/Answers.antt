@@ -24,10 +24,7 @@ holed t delta hole took p q e =
 
 whole : (e : Else-is_delta-hole) → (delta_by e.args.log_sync.decided_snapshot && hole_in e.args.index) ≡ false
 whole e =
-    (let h : (delta hole took : Bool)
-    → delta ≡ delta_by e.args.log_sync.decided_snapshot → hole ≡ hole_in e.args.index
-    → (delta && hole) ≡ took
-    → (delta_by e.args.log_sync.decided_snapshot && hole_in e.args.index) ≡ took = λ delta hole took p q e. ap₂ (λ (a b : Bool). a && b) (sym p) (sym q) ∙ e in h) _ _ false e.is_delta.ensures e.hole.ensures e.if-is_delta-hole.false
+    ap₂ (λ (a b : Bool). a && b) (sym e.is_delta.ensures) (sym e.hole.ensures) ∙ e.if-is_delta-hole.false
 
 took : (m : After-take_suffix-next) → Taken m.args.log_sync (length m.args.suffix.now / width) m.in-Keys.keys
     (marked m.args.accepted_round m.args.decided_idx.0 m.args.index) m.args.log.now
@@ -60,12 +57,12 @@ accepted-accepted-requires c =
 pub returns-in-Refused-r : goal.returns-in-Refused-r
 returns-in-Refused-r c =
     sync_over (raw c.args.index c.args.log.now c.args.snapshot.now) c.args.log_sync c.args.incoming.now c.args.suffix.now c.requires
-    c.args.accepted_round c.args.decided_idx.0 (pass (goal.at.returns-in-Refused-r c).In_default) (whole (c)) c.hold-r.result
+    c.args.accepted_round c.args.decided_idx.0 (pass (goal.at.returns-in-Refused-r c).In_default) (whole (goal.at.returns-in-Refused-r c).Else-is_delta-hole) c.hold-r.result
     c.hold-r.new.snapshot c.hold-r.ensures _ c.in-Refused-r.is
 
 pub returns-in-Keys : goal.returns-in-Keys
 returns-in-Keys c =
     sync_stands (raw c.args.index c.args.log.now c.args.snapshot.now) c.args.log_sync c.args.incoming.now c.args.suffix.now c.requires
-    c.args.accepted_round c.args.decided_idx.0 (pass (goal.at.returns-in-Keys c).In_default) (whole (c)) c.hold-r.result
+    c.args.accepted_round c.args.decided_idx.0 (pass (goal.at.returns-in-Keys c).In_default) (whole (goal.at.returns-in-Keys c).Else-is_delta-hole) c.hold-r.result
     c.hold-r.new.snapshot c.hold-r.ensures _ c.in-Keys.is c.take_suffix-next.result
     c.take_suffix-next.new.log (took (goal.at.returns-in-Keys c).After-take_suffix-next) c.accepted-accepted.result c.accepted-accepted.ensures

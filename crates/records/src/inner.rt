@@ -81,7 +81,7 @@ pub fn put_bytes(s: &mut [u8], at: usize, bytes: &[u8])
         ≡ spliced at (length bytes.now) (packed (map (field 1) bytes.now)) s.old }
 {
     let to = at + bytes.len();
-    bytes::copy(bytes, &mut s[at..to]);
+    s[at..to].copy_from_slice(bytes);
 }
 
 // The 16-bit sum of the k bytes at `at`.

@@ -1,7 +1,6 @@
 -- Demand 1 of the image's calls: a refused write leaves every byte, and a refused read every word.
 use Rattle.words.proofs.Prelude.{arith, ◌≡◌, refl, ℕ, List, ◌∷◌, not}
 use Rattle.entry.specs.Guards.{guard, Verdict, passes, refuses, first, refused}
-use Rattle.model.specs.Log.{Log}
 use Rattle.state_cache.specs.{State.Raw, State.log_of, Run.Outcome}
 use Rattle.image.specs.{Image.image_of, Calls.write_guards, Calls.put_by, Calls.write_call, Calls.image_guards}
 use Rattle.image.specs.Calls.{state_in, lent_well, loaded, read_call}

@@ -164,12 +164,12 @@ stop_split true m f (stop_rec g ∷ r ∷ rs) q e = false_true
 
 -- ---- the parts of a run
 
-pub keys_in : (ks es : List Change) (g : Option StopSign)
+pub keys_in_lem : (ks es : List Change) (g : Option StopSign)
     → keys_in (map key_rec ks ++ (map entry_rec es ++ stop_recs g)) ≡ ks
-keys_in [] [] none = refl
-keys_in [] [] (some g) = refl
-keys_in [] (c ∷ es) g = keys_in [] es g
-keys_in (c ∷ ks) es g = ap (λ (l : List Change). c ∷ l) (keys_in ks es g)
+keys_in_lem [] [] none = refl
+keys_in_lem [] [] (some g) = refl
+keys_in_lem [] (c ∷ es) g = keys_in_lem [] es g
+keys_in_lem (c ∷ ks) es g = ap (λ (l : List Change). c ∷ l) (keys_in_lem ks es g)
 
 pub entries_in_lem : (ks es : List Change) (g : Option StopSign)
     → entries_in (map key_rec ks ++ (map entry_rec es ++ stop_recs g)) ≡ es

@@ -1,7 +1,7 @@
 -- A stop-sign's parts, put and loaded.
 use Rattle.words.proofs.Prelude.{arith, ◌≡◌, refl, sym, ap, ap₂, ◌∙◌, ℕ, zero, suc, ◌+◌, ◌-◌, ◌*◌, ◌≤◌, Bool, true}
 use Rattle.words.proofs.Prelude.{leb-true, List, [], ◌∷◌, append_assoc, ◌++◌, map, length-drop, length-append}
-use Rattle.words.proofs.Prelude.{length-map, length, take, drop, replicate, length-take-le, take_all}
+use Rattle.words.proofs.Prelude.{length-map, length, take, drop, replicate, length-take-le}
 use lib.Seq.{drop-drop}
 use Rattle.words.specs.All.{all_of}
 use Rattle.words.specs.Words.{laid, spliced}
@@ -175,14 +175,13 @@ nodes_got s got at n h e =
     ∙ length-map (unpacked (replicate n 8) (drop at s)) (λ (f : Field). f.number) ∙ run_length 8 n (drop at s)) h
     ∙ ap (laid most_nodes) g
 
-pub metadata_got : (s got : List ℕ) (at n j k : ℕ) → n ≤ most_metadata → at + n ≤ length s → j ≡ n → k ≡ n
-    → got ≡ take k (take j (drop at s)) ++ drop k (replicate most_metadata 0)
-    → got ≡ laid most_metadata (take n (drop at s))
-metadata_got s got at n j k h room i e q =
+pub metadata_got : (s got : List ℕ) (at n j : ℕ) → n ≤ most_metadata → at + n ≤ length s → j ≡ n
+    → got ≡ take j (drop at s)
+    → got ++ drop n (replicate most_metadata 0) ≡ laid most_metadata (take n (drop at s))
+metadata_got s got at n j h room i q =
     let l : length (take n (drop at s)) ≡ n = length-take-le n (drop at s) (simp length-drop (omega arith)) in
-    q
-    ∙ ap₂ (λ (x y : ℕ). take x (take y (drop at s)) ++ drop x (replicate most_metadata 0)) e i
-    ∙ ap (λ (x : List ℕ). x ++ drop n (replicate most_metadata 0)) (take_all n (take n (drop at s)) (omega arith))
+    ap (λ (x : List ℕ). x ++ drop n (replicate most_metadata 0))
+    (q ∙ ap (λ (y : ℕ). take y (drop at s)) i)
     ∙ laid_front most_metadata n (take n (drop at s)) l h
 
 module _ (m : Bool) (s : List ℕ) (at : ℕ) (h : at ≤ length s) (e : sound_at 0 (Stop m) (drop at s) ≡ true) where

@@ -26,7 +26,7 @@ use Rattle.image.proofs.RunLaws.{matches, run_back, Runs, run_forth}
 use Rattle.image.proofs.HeadLaws.{head_same, Small, head_back, head_marked, head_format, head_sound_lem}
 use Rattle.image.proofs.HeadLaws.{head_length, head_forth, head_formed_lem, Ballots, head_typed}
 use Rattle.image.proofs.Shapes.{rising_from_lem, keys_join, entries_join, stop_join, matches_length, KeySplit}
-use Rattle.image.proofs.Shapes.{keys_split, EntrySplit, entries_split, StopSplit, stop_split, keys_in}
+use Rattle.image.proofs.Shapes.{keys_split, EntrySplit, entries_split, StopSplit, stop_split, keys_in_lem}
 use Rattle.image.proofs.Shapes.{entries_in_lem, sign_in_lem, keys_typed, entries_typed, stop_typed, PartsTyped}
 use Rattle.image.proofs.Shapes.{parts_typed}
 use Rattle.image.specs.Layout.{head_mark, head_fields, Rec, key_rec, entry_rec, run_bytes, head_size}
@@ -171,7 +171,7 @@ read_written size s n w t =
           marks = s.marks;
         }) (entries_in_lem ks s.run.retained s.tail.sign)
         (ap (λ (l : List Change). if given s.run.held then some l else none)
-        (keys_in ks s.run.retained s.tail.sign) ∙ held_again s.run.held)
+        (keys_in_lem ks s.run.retained s.tail.sign) ∙ held_again s.run.held)
         ∙ ap (λ (g : Option StopSign). record
         { run = s.run; tail = record { batched = []; size = size; sign = g }; marks = s.marks })
         (sign_in_lem ks s.run.retained s.tail.sign)
@@ -282,7 +282,7 @@ module _ (size : ℕ) (h : Head) (rs : List Rec) (n : size ≤ largest_batch) (x
       (eq.is ∙ ap (λ (l : List Rec). map entry_rec eq.entries ++ l) sq.is)
 
   keys_are : keys_in rs ≡ kq.keys
-  keys_are = ap keys_in rs_is ∙ keys_in kq.keys eq.entries sq.sign
+  keys_are = ap keys_in rs_is ∙ keys_in_lem kq.keys eq.entries sq.sign
 
   entries_are : entries_in rs ≡ eq.entries
   entries_are = ap entries_in rs_is ∙ entries_in_lem kq.keys eq.entries sq.sign

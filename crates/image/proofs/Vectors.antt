@@ -1,6 +1,6 @@
 -- Images computed in the logic: a fresh log's, that of the log at the end of document 01's replay, and what becomes of
 -- the latter when it is cut or changed.
-use Rattle.words.proofs.Prelude.{◌≡◌, refl, ℕ, ◌+◌, ◌-◌, false, some, List, [], ◌∷◌, ◌++◌, map, length, take, drop}
+use Rattle.words.proofs.Prelude.{◌≡◌, refl, ℕ, ◌-◌, false, some, List, [], ◌∷◌, ◌++◌, map, length, take, drop}
 use Rattle.words.proofs.Prelude.{replicate}
 use Rattle.words.specs.All.{all_of}
 use Rattle.words.specs.Words.{laid}

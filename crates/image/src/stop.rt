@@ -133,7 +133,7 @@ fn load_metadata(s: &[u8], at: usize, n: usize) -> [u8; entry::METADATA]
 {
     let mut metadata = [0u8; entry::METADATA];
     let to = at + n;
-    bytes::copy(&s[at..to], &mut metadata);
+    metadata[..n].copy_from_slice(&s[at..to]);
     metadata
 }
 

@@ -6,6 +6,7 @@ use entry::{BlockPlace, Known, LogIndex, Said};
 use reading::Bound;
 use snapshot::{Folded, Found};
 use state_cache::{IndexRecord, Settled};
+use std::io;
 
 type LogWords = [u64; entry::LOG_WORDS];
 
@@ -19,38 +20,20 @@ fn keys(folded: Folded) -> usize {
     }
 }
 
-fn print_folded(folded: Folded) {
+fn print_folded(rt: &impl Print, folded: Folded) -> io::Result<()> {
     match folded {
-        Folded::Keys(n) => {
-            io::write_all(1, b"keys ");
-            io::print_decimal(1, n as u64);
-        }
-        Folded::Refused(refusal) => {
-            io::write_all(1, b"refused ");
-            io::print_decimal(1, entry::number(refusal));
-        }
+        Folded::Keys(n) => println!(rt; "keys {n}"),
+        Folded::Refused(refusal) => println!(rt; "refused {}", entry::number(refusal)),
     }
-    io::write_all(1, b"\n");
 }
 
-fn print_found(found: Found) {
+fn print_found(rt: &impl Print, found: Found) -> io::Result<()> {
     match found {
-        Found::Place(place) => {
-            io::write_all(1, b"place ");
-            io::print_decimal(1, place.0);
-        }
-        Found::Removed => {
-            io::write_all(1, b"removed");
-        }
-        Found::Unknown => {
-            io::write_all(1, b"unknown");
-        }
-        Found::Refused(refusal) => {
-            io::write_all(1, b"refused ");
-            io::print_decimal(1, entry::number(refusal));
-        }
+        Found::Place(place) => println!(rt; "place {}", place.0),
+        Found::Removed => println!(rt; "removed"),
+        Found::Unknown => println!(rt; "unknown"),
+        Found::Refused(refusal) => println!(rt; "refused {}", entry::number(refusal)),
     }
-    io::write_all(1, b"\n");
 }
 
 // A fresh log, whatever its words held.
@@ -104,40 +87,52 @@ fn decided(
     moved.index
 }
 
-fn print_find(words: &SnapshotWords, count: usize, key: u64) {
-    print_found(snapshot::find(words, count, key));
+fn print_find(rt: &impl Print, words: &SnapshotWords, count: usize, key: u64) -> io::Result<()> {
+    print_found(rt, snapshot::find(words, count, key))
 }
 
-fn print_lookup(index: IndexRecord, log: &LogWords, held: &SnapshotWords, key: u64) {
-    print_found(reading::lookup(index, log, held, key));
+fn print_lookup(
+    rt: &impl Print,
+    index: IndexRecord,
+    log: &LogWords,
+    held: &SnapshotWords,
+    key: u64,
+) -> io::Result<()> {
+    print_found(rt, reading::lookup(index, log, held, key))
 }
 
-fn print_known(known: Known) {
+fn print_known(rt: &impl Print, known: Known) -> io::Result<()> {
     let Known::Says(said) = known else {
-        print_found(Found::Unknown);
-        return;
+        return print_found(rt, Found::Unknown);
     };
     match said {
-        Said::Place(place) => print_found(Found::Place(place)),
-        Said::Removed => print_found(Found::Removed),
+        Said::Place(place) => print_found(rt, Found::Place(place)),
+        Said::Removed => print_found(rt, Found::Removed),
     }
 }
 
 // Two keys in one call.
-fn print_both(index: IndexRecord, log: &LogWords, held: &SnapshotWords, a: u64, b: u64) {
+fn print_both(
+    rt: &impl Print,
+    index: IndexRecord,
+    log: &LogWords,
+    held: &SnapshotWords,
+    a: u64,
+    b: u64,
+) -> io::Result<()> {
     let keys = [a, b];
     let mut replies = [0u64; 2 * entry::REPLY_WIDTH];
     let asked = reading::lookup_many(index, log, held, &keys, &mut replies);
     match asked {
         Settled::Done => {
-            print_known(entry::reply_at(&replies, 0));
-            print_known(entry::reply_at(&replies, 1));
+            print_known(rt, entry::reply_at(&replies, 0))?;
+            print_known(rt, entry::reply_at(&replies, 1))
         }
-        Settled::Refused(refusal) => print_found(Found::Refused(refusal)),
+        Settled::Refused(refusal) => print_found(rt, Found::Refused(refusal)),
     }
 }
 
-fn main() {
+fn main(rt: HostRuntime) -> io::Result<()> {
     let mut log = [0u64; entry::LOG_WORDS];
     let mut held = [0u64; entry::SNAPSHOT_WORDS];
     let mut a = [0u64; entry::SNAPSHOT_WORDS];
@@ -155,19 +150,19 @@ fn main() {
     index = appended(index, &mut log, &held, 7, Said::Place(BlockPlace(700)));
     let second_fold = folded(index, &log, &held, &mut b);
     let both_fold = merged(&a, first_fold, &b, second_fold, &mut both);
-    print_folded(first_fold);
-    print_folded(second_fold);
-    print_folded(both_fold);
+    print_folded(&rt, first_fold)?;
+    print_folded(&rt, second_fold)?;
+    print_folded(&rt, both_fold)?;
     let n = keys(both_fold);
-    print_find(&both, n, 4);
-    print_find(&both, n, 7);
-    print_find(&both, n, 9);
-    print_find(&both, entry::KEYS + 1, 4);
+    print_find(&rt, &both, n, 4)?;
+    print_find(&rt, &both, n, 7)?;
+    print_find(&rt, &both, n, 9)?;
+    print_find(&rt, &both, entry::KEYS + 1, 4)?;
     // An entry is found once it is decided.
     index = started(&mut log, &mut held);
     index = appended(index, &mut log, &held, 9, Said::Place(BlockPlace(100)));
-    print_lookup(index, &log, &held, 9);
+    print_lookup(&rt, index, &log, &held, 9)?;
     index = decided(index, &log, &held, LogIndex(1));
-    print_lookup(index, &log, &held, 9);
-    print_both(index, &log, &held, 4, 9);
+    print_lookup(&rt, index, &log, &held, 9)?;
+    print_both(&rt, index, &log, &held, 4, 9)
 }

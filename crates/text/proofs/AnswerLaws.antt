@@ -1,49 +1,25 @@
 -- A number has one count of digits, and the lines of a run's entries go on by one entry.
 use Rattle.words.proofs.Prelude.{arith, ◌≡◌, refl, ap, ◌∙◌, ℕ, zero, suc, ◌+◌, ◌-◌, ◌/◌, ◌≤◌, ◌<◌, add-one, Bool, true}
-use Rattle.words.proofs.Prelude.{false, ltb, lt-ltb, le-ltb, ltb-true, ltb-false, if◌then◌else◌, List, [], append_assoc}
-use Rattle.words.proofs.Prelude.{◌++◌, drop_of_length-le, drop}
-use Prim.Native.Nat.{◌^◌}
-use native.Mathlib.Nat.{pow-suc, one-le-pow}
-use lib.Dec.{lit<}
-use Rattle.io.specs.Digits.{last_digits, IsDigitCount}
+use Rattle.words.proofs.Prelude.{false, ltb, lt-ltb, le-ltb, ltb-true, ltb-false, if◌then◌else◌, List, [], ◌∷◌, append_assoc}
+use Rattle.words.proofs.Prelude.{◌++◌, length, length-append, drop_of_length-le, drop}
+use Prim.Native.Nat.{◌%◌, ◌^◌}
+use native.Mathlib.Nat.{pow-suc}
 use Rattle.words.proofs.CodedLaws.{entries_length}
 use Rattle.entry.specs.{Change.change_code, Change.entries_of, Inner.change_at}
 use Rattle.entry.proofs.ChangeLaws.{entry_cons}
 use Rattle.text.specs.Rooms.{most_digits}
-use Rattle.text.specs.Answers.{digits_up_to, decimal_of, entry_line, entry_lines}
+use Rattle.text.specs.Answers.{digits_up_to, last_digits, decimal_of, entry_line, entry_lines}
 
--- below 10 there is one digit
-one_digit : (n k : ℕ) → n < 10 → IsDigitCount 10 1 n k → k ≡ 1
-one_digit n zero h f = absurd (omega (arith, f.0))
-one_digit n (suc zero) h f = refl
-one_digit n (suc (suc j)) h f =
-    let e : suc (suc j) - 1 ≡ suc j = omega arith in
-    let g : 10 ^ suc j ≤ n = rw e at (f.2 (omega arith)) in
-    absurd (omega (arith, g, pow-suc 10 j, one-le-pow j 10 (lit< tt)))
+-- the count is one and the same from any fuel that is enough
+digits_by : (fuel n : ℕ) (t : Bool) → digits_up_to fuel (n / 10) ≡ digits_up_to (suc fuel) (n / 10)
+    → (if t then 1 else suc (digits_up_to fuel (n / 10))) ≡ (if t then 1 else suc (digits_up_to (suc fuel) (n / 10)))
+digits_by fuel n true e = refl
+digits_by fuel n false e = ap suc e
 
--- from 10 up there is one digit more than of the tenth
-fewer : (n k : ℕ) → 10 ≤ n → IsDigitCount 10 1 n (suc k) → IsDigitCount 10 1 (n / 10) k
-fewer n zero h f = absurd (omega (arith, f.1))
-fewer n (suc j) h f =
-    let e : suc (suc j) - 1 ≡ suc j = omega arith in
-    let e' : suc j - 1 ≡ j = omega arith in
-    let g : 10 ^ suc j ≤ n = rw e at (f.2 (omega arith)) in
-    let p = pow-suc 10 (suc j) in
-    let q = pow-suc 10 j in
-    let u = f.1 in
-    (omega arith, omega arith, λ l. rw e' (omega arith))
-
-digits_by : (fuel n k : ℕ) (t : Bool) → ltb n 10 ≡ t → IsDigitCount 10 1 n k
-    → ((j : ℕ) → IsDigitCount 10 1 (n / 10) j → j ≡ digits_up_to fuel (n / 10))
-    → k ≡ (if t then 1 else suc (digits_up_to fuel (n / 10)))
-digits_by fuel n k true e f ih = one_digit n k (ltb-true n 10 e) f
-digits_by fuel n zero false e f ih = absurd (omega (arith, f.0))
-digits_by fuel n (suc k) false e f ih = ap suc (ih k (fewer n k (ltb-false n 10 e) f))
-
-digits_are : (fuel n k : ℕ) → n < 10 ^ suc fuel → IsDigitCount 10 1 n k → k ≡ digits_up_to fuel n
-digits_are zero n k h f = one_digit n k (omega arith) f
-digits_are (suc fuel) n k h f =
-    digits_by fuel n k (ltb n 10) refl f (λ j g. digits_are fuel (n / 10) j (omega (arith, pow-suc 10 (suc fuel))) g)
+digits_enough : (fuel n : ℕ) → n < 10 ^ suc fuel → digits_up_to fuel n ≡ digits_up_to (suc fuel) n
+digits_enough zero n h = rw (lt-ltb n 10 (omega arith))
+digits_enough (suc fuel) n h =
+    digits_by fuel n (ltb n 10) (digits_enough fuel (n / 10) (omega (arith, pow-suc 10 (suc fuel))))
 
 digits_most : (fuel n : ℕ) → digits_up_to fuel n ≤ suc fuel
 digits_most zero n = omega arith
@@ -54,14 +30,32 @@ digits_most (suc fuel) n = go (ltb n 10) (digits_most fuel (n / 10))
     go true h = omega arith
     go false h = omega arith
 
--- what `io::decimal` writes is `decimal_of`
-module _ (n k : ℕ) (h : n < 2 ^ 64) (f : IsDigitCount 10 1 n k) where
-  pub decimal_is : last_digits 10 k n ≡ decimal_of n
-  unfolding decimal_of
-  decimal_is = ap (λ (j : ℕ). last_digits 10 j n) (digits_are (most_digits - 1) n k (omega arith) f)
+last_digits_length : (k n : ℕ) → length (last_digits k n) ≡ k
+last_digits_length zero n = refl
+last_digits_length (suc k) n =
+    length-append (last_digits k (n / 10)) _ ∙ omega (arith, last_digits_length k (n / 10))
 
-  pub decimal_most : k ≤ most_digits
-  decimal_most = omega (arith, digits_are (most_digits - 1) n k (omega arith) f, digits_most (most_digits - 1) n)
+module _ (n : ℕ) where
+  pub decimal_most : length (decimal_of n) ≤ most_digits
+  unfolding decimal_of
+  decimal_most =
+      omega (arith, last_digits_length (digits_up_to (most_digits - 1) n) n, digits_most (most_digits - 1) n)
+
+  -- below 10 there is one digit
+  pub decimal_one : n < 10 → decimal_of n ≡ (48 + n % 10) ∷ []
+  unfolding decimal_of
+  decimal_one h = rw (lt-ltb n 10 h)
+
+  -- from 10 up they are those of the tenth and one more
+  pub decimal_more : 10 ≤ n → n < 2 ^ 64 → decimal_of n ≡ decimal_of (n / 10) ++ (48 + n % 10) ∷ []
+  unfolding decimal_of
+  decimal_more h b = rw (le-ltb n 10 h, digits_enough (most_digits - 2) (n / 10) (omega arith))
+
+  pub decimal_one_length : n < 10 → length (decimal_of n) ≡ 1
+  decimal_one_length h = ap length (decimal_one h)
+
+  pub decimal_more_length : 10 ≤ n → n < 2 ^ 64 → length (decimal_of n) ≡ length (decimal_of (n / 10)) + 1
+  decimal_more_length h b = ap length (decimal_more h b) ∙ length-append (decimal_of (n / 10)) _
 
 -- three pieces put one after the other
 pub glue : {t u v : List ℕ} (a l d e : List ℕ) → t ≡ u ++ e → u ≡ v ++ d → v ≡ a ++ l → t ≡ a ++ (l ++ d ++ e)

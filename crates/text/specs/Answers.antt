@@ -1,7 +1,6 @@
 -- What the program prints, as bytes: the lines of document 01's replay, and document 02's `place P`, `removed` and
 -- `unknown`.
-use Rattle.std.specs.Prelude.{ℕ, zero, suc, ◌-◌, ◌/◌, Bool, List, [], ◌∷◌, ◌++◌, ltb}
-use Rattle.io.specs.Digits.{last_digits}
+use Rattle.std.specs.Prelude.{ℕ, zero, suc, ◌+◌, ◌-◌, ◌/◌, ◌%◌, Bool, List, [], ◌∷◌, ◌++◌, ltb}
 use Rattle.words.specs.If.{if◌then◌else◌}
 use Rattle.entry.specs.Change.{Said, place, removed, Change}
 use Rattle.text.specs.Bytes.{bytes}
@@ -15,9 +14,14 @@ abbrev pub digits_up_to : ℕ → ℕ → ℕ
 digits_up_to zero n = 1
 digits_up_to (suc fuel) n = if ltb n 10 then 1 else suc (digits_up_to fuel (n / 10))
 
+-- the last k digits of n, the most significant first
+abbrev pub last_digits : ℕ → ℕ → List ℕ
+last_digits zero n = []
+last_digits (suc k) n = last_digits k (n / 10) ++ (48 + n % 10) ∷ []
+
 -- a 64-bit number in decimal
 unfoldable pub decimal_of : ℕ → List ℕ
-decimal_of n = last_digits 10 (digits_up_to (most_digits - 1) n) n
+decimal_of n = last_digits (digits_up_to (most_digits - 1) n) n
 
 unfoldable pub line_of : Line → List ℕ
 line_of Done = bytes "ok\n"

@@ -1,10 +1,9 @@
 // What the program needs to take lines apart and to gather its answers: not for a user. Each function that puts bytes
 // puts them into out from index `at` on, for which it asks room, and answers the index after them.
-ghost use Rattle.std.specs.Prelude.{◌≡◌, ◌++◌, ◌+◌, ◌*◌, ◌≤◌, length, take};
+ghost use Rattle.std.specs.Prelude.{◌≡◌, ◌++◌, ◌+◌, ◌*◌, ◌≤◌, length, take, IfOk};
 ghost use Rattle.entry.specs.Limits.{width};
 ghost use Rattle.entry.specs.Change.{said_is, entries_of};
-ghost use Rattle.io.specs.Counts.{IsPrefixLen};
-ghost use Rattle.text.specs.Bytes.{bytes, gap_of};
+ghost use Rattle.text.specs.Bytes.{bytes, gap_of, IsPrefixLen};
 ghost use Rattle.text.specs.Refusing.{why_room, refused_room, why_text, refused_text};
 ghost use Rattle.text.specs.Rooms.{most_digits, output_line};
 ghost use Rattle.text.specs.Feeding.{come, joined, next_at};
@@ -14,7 +13,8 @@ ghost use Rattle.text.specs.declared.Line.TheVariants.{Stop};
 
 use super::{Line, Parsed};
 use entry::Said;
-use libc::STDOUT_FILENO;
+use std::io;
+use std::io::Stdout;
 
 // How many bytes stand before the first b.
 pub fn gap(s: &[u8], b: u8) -> usize
@@ -77,15 +77,27 @@ pub fn put(out: &mut [u8], at: usize, src: &[u8]) -> usize
     at + i
 }
 
+// n in decimal: the digits of its tenth, and its last digit.
+fn put_digits(out: &mut [u8], at: usize, n: u64) -> usize
+    requires { at + length (decimal_of n) ≤ length out.old }
+    ensures value { result ≡ at + length (decimal_of n) }
+    ensures out_after { take result out.new ≡ take at out.old ++ decimal_of n }
+{
+    let mut last = at;
+    if n >= 10 {
+        last = put_digits(out, at, n / 10);
+    }
+    out[last] = b'0' + (n % 10) as u8;
+    last + 1
+}
+
 // n in decimal.
 pub fn put_number(out: &mut [u8], at: usize, n: u64) -> usize
     requires { at + most_digits ≤ length out.old }
     ensures upper_bound { result ≤ at + most_digits }
     ensures out_after { take result out.new ≡ take at out.old ++ decimal_of n }
 {
-    let mut text = [0u8; super::DIGITS];
-    let k = io::decimal(n, &mut text);
-    put(out, at, &text[..k])
+    put_digits(out, at, n)
 }
 
 // label, n in decimal and tail.
@@ -258,13 +270,13 @@ pub fn keep(part: &[u8], held: Partial, line: &mut [u8]) -> Partial
 
 // Writes the answers that wait where the next might not fit after them, which it might not after more than `last`
 // bytes, and says where the next is put.
-pub fn room(out: &[u8], used: usize, last: usize) -> usize
+pub fn room(to: Stdout, out: &[u8], used: usize, last: usize) -> io::Result<usize>
     requires { used ≤ length out.now }
-    ensures { result ≡ next_at last used }
+    ensures { IfOk result (λ at. at ≡ next_at last used) }
 {
     if used <= last {
-        return used;
+        return Ok(used);
     }
-    io::write_all(STDOUT_FILENO, &out[..used]);
-    0
+    to.write_all(&out[..used])?;
+    Ok(0)
 }

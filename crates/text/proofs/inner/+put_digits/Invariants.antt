@@ -1,0 +1,5 @@
+-- `text::inner::put_digits` ends: a tenth is less.
+use Rattle.text.proofs.inner.+put_digits.Given as goal
+
+abbrev pub decreases-put_digits : goal.decreases-put_digits
+decreases-put_digits l = l.n

@@ -1,9 +1,0 @@
-use Rattle.words.proofs.Prelude.{needs}
-use Rattle.host.proofs.asked.sync_of.Statement.{statement}
-use Rattle.host.proofs.asked.sync_of.Tie as tie
-
-returns : tie.Need-returns
-returns c = cc
-
-pub sync-of-spec : {M : Type 1} → statement M
-sync-of-spec = tie.close (tie.spec (λ c κs. search needs) (λ c κs. search needs) returns)

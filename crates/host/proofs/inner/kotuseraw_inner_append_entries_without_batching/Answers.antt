@@ -1,0 +1,8 @@
+use Rattle.host.proofs.{Carry.carry}
+use Rattle.host.specs.Plain.{a_number}
+use Rattle.host.proofs.inner.kotuseraw_inner_append_entries_without_batching.Goals as goal
+
+pub returns : goal.returns
+returns c =
+    carry a_number c.accepted_reply.ensures
+    c.append_entries_without_batching.ensures

@@ -1,0 +1,7 @@
+use Rattle.host.proofs.{Carry.carry}
+use Rattle.host.specs.Plain.{maybe_flushed}
+use Rattle.host.proofs.inner.kotuseraw_inner_flush_batch_and_get_entries.Goals as goal
+
+pub returns : goal.returns
+returns c =
+    carry maybe_flushed c.appended_reply.ensures c.flush_batch_and_get_entries.ensures

@@ -1,0 +1,7 @@
+use Rattle.host.proofs.{Carry.carry}
+use Rattle.host.specs.Plain.{maybe_flushed}
+use Rattle.host.proofs.log.kotuseraw_append_stopsign.Goals as goal
+
+pub returns : goal.returns
+returns c =
+    carry maybe_flushed c.appended_reply.ensures c.append_stopsign.ensures

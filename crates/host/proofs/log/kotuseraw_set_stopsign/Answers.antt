@@ -1,0 +1,7 @@
+use Rattle.host.proofs.{Carry.carry}
+use Rattle.host.specs.Plain.{a_number}
+use Rattle.host.proofs.log.kotuseraw_set_stopsign.Goals as goal
+
+pub returns : goal.returns
+returns c =
+    carry a_number c.accepted_reply.ensures c.set_stopsign.ensures

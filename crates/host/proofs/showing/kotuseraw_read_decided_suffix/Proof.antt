@@ -1,9 +1,0 @@
-use Rattle.words.proofs.Prelude.{needs}
-use Rattle.host.proofs.showing.kotuseraw_read_decided_suffix.Statement.{statement}
-use Rattle.host.proofs.showing.kotuseraw_read_decided_suffix.Tie as tie
-
-returns : tie.Need-returns
-returns c = rw (← c.before.read-decided-suffix-reply.ensures) (c.read-said.ensures _)
-
-pub kotuseraw-read-decided-suffix-spec : {M : Type 1} → statement M
-kotuseraw-read-decided-suffix-spec = tie.close (tie.spec (λ c κs. search needs) (λ c κs. search needs) returns)

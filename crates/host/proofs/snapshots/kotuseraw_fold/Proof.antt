@@ -1,9 +1,0 @@
-use Rattle.host.proofs.{Carry.carry_out, snapshots.kotuseraw_fold.Statement.statement}
-use Rattle.words.proofs.Prelude.{needs}
-use Rattle.host.proofs.snapshots.kotuseraw_fold.Tie as tie
-
-returns : tie.Need-returns
-returns c = carry_out c.folded-said.ensures c.before.before.before.fold.ensures
-
-pub kotuseraw-fold-spec : {M : Type 1} → statement M
-kotuseraw-fold-spec = tie.close (tie.spec (λ c κs. search needs) (λ c κs. search needs) (λ c. search needs) returns)

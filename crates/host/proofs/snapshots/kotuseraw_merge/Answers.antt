@@ -1,0 +1,6 @@
+use Rattle.host.proofs.{Carry.carry_out}
+use Rattle.host.proofs.snapshots.kotuseraw_merge.Goals as goal
+
+pub returns : goal.returns
+returns c =
+    carry_out c.folded_said.ensures c.merge.ensures

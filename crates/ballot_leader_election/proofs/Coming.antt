@@ -1,7 +1,7 @@
 -- What a call comes to, by its refusals: 12 first, then those of the call, and where none applies its reply and the
 -- state after it.
-use Rattle.words.proofs.Prelude.{◌≡◌, refl, sym, ap, ◌∙◌, ℕ, true, false, not, List, ◌∷◌}
-use Rattle.entry.specs.Guards.{Guard, guard, Verdict, passes, refuses, first, Answer, refused, replied}
+use Rattle.words.proofs.Prelude.{◌≡◌, sym, ap, ◌∙◌, ℕ, true, false, not, List}
+use Rattle.entry.specs.Guards.{Guard, Verdict, passes, refuses, first, refused, replied}
 use Rattle.entry.proofs.GuardLaws.{first_refuses, first_goes_on}
 use Rattle.ballot_leader_election.specs.declared.BallotLeaderElection.{BallotLeaderElection}
 use Rattle.ballot_leader_election.specs.State.{Election, election_of, laid_election, formed}

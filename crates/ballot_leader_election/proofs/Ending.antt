@@ -1,9 +1,9 @@
 -- How a call ends: it is refused and the state is as it was, or it stands, none of its refusals applies, and the state
 -- is what it makes of it.
-use Rattle.words.proofs.Prelude.{arith, ◌≡◌, refl, sym, ap, ◌∙◌, ℕ, Bool, true, false, not, not-true, List, [], ◌∷◌, ◌++◌}
+use Rattle.words.proofs.Prelude.{arith, ◌≡◌, refl, sym, ap, ◌∙◌, ℕ, true, not, List, ◌∷◌}
 use Rattle.words.proofs.Prelude.{not-false}
-use Rattle.entry.specs.Guards.{Guard, guard, Verdict, passes, refuses, first, Answer, refused, replied}
-use Rattle.entry.proofs.GuardLaws.{Passed, passed, first_refuses, first_goes_on}
+use Rattle.entry.specs.Guards.{Guard, guard, Verdict, passes, refuses, first, refused, replied}
+use Rattle.entry.proofs.GuardLaws.{Passed, passed}
 use Rattle.ballot_leader_election.specs.declared.BallotLeaderElection.{BallotLeaderElection}
 use Rattle.ballot_leader_election.specs.State.{election_of, laid_election, formed}
 use Rattle.ballot_leader_election.specs.Calls.{Call, Reply, guards, effect, reply_of}

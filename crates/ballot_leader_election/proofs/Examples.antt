@@ -1,15 +1,14 @@
 -- Elections computed in the logic, each where a hurried reader of document 003 would err.
-use Rattle.words.proofs.Prelude.{◌≡◌, refl, ℕ, Bool, true, false, Option, none, some, List, [], ◌∷◌, map}
+use Rattle.words.proofs.Prelude.{◌≡◌, refl, ℕ, Bool, true, false, none, some, List, [], ◌∷◌, map}
 use Rattle.words.specs.All.{any_of, count_of}
-use Rattle.entry.specs.Order.{compare_of, ballot_order, no_ballot}
+use Rattle.entry.specs.Order.{compare_of, no_ballot}
 use Rattle.entry.specs.declared.Ballot.{Ballot}
 use Rattle.ballot_leader_election.specs.declared.HeartbeatReply.{HeartbeatReply}
 use Rattle.ballot_leader_election.specs.declared.BLEConfig.{BLEConfig}
-use Rattle.ballot_leader_election.specs.declared.steps.Standing.{Standing}
 use Rattle.ballot_leader_election.specs.State.{Election}
 use Rattle.ballot_leader_election.specs.Steps.{quorum, above, max_from, max_ballot, update_leader, potential_followers}
-use Rattle.ballot_leader_election.specs.Steps.{is_happy, update_happiness, takeover_due, check_takeover, promised}
-use Rattle.ballot_leader_election.specs.Steps.{standing, leading, timed_out, starting_at, keeping, initial}
+use Rattle.ballot_leader_election.specs.Steps.{is_happy, takeover_due, promised}
+use Rattle.ballot_leader_election.specs.Steps.{standing, leading, timed_out, starting_at}
 
 abbrev ballot : ℕ → ℕ → ℕ → ℕ → Ballot
 ballot c n p i = record { config_id = c; n = n; priority = p; pid = i }

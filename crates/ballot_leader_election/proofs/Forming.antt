@@ -1,11 +1,11 @@
 -- A well-formed state, from its test to its facts and back: what is blank is one value, and a list in form is its
 -- elements and blanks.
-use Rattle.words.proofs.Prelude.{arith, ◌≡◌, refl, sym, ap, ap₂, ◌∙◌, ℕ, ◌-◌, ◌≤◌, Bool, true, false, true≢false, ◌&&◌, not, eqb, leb}
-use Rattle.words.proofs.Prelude.{eqb-true, eq-eqb, ne_eqb, eqb-false, leb-true, le-leb, not-true, length-drop, take-append-drop, List, ◌++◌}
+use Rattle.words.proofs.Prelude.{arith, ◌≡◌, sym, ap, ◌∙◌, ℕ, ◌-◌, ◌≤◌, Bool, true, false, true≢false, ◌&&◌, not, eqb, leb}
+use Rattle.words.proofs.Prelude.{eqb-true, eq-eqb, ne_eqb, leb-true, le-leb, not-true, length-drop, take-append-drop, List, ◌++◌}
 use Rattle.words.proofs.Prelude.{length, take, drop, replicate, length-take-le}
 use Rattle.words.specs.{All.all_of, Words.padded}
 use Rattle.words.proofs.{Tests.and_left, Tests.and_right, Tests.both_true, Alls.all_are, Alls.all_pass, Laws.drop_padded}
-use Rattle.words.proofs.Laws.{length-padded, take_padded}
+use Rattle.words.proofs.Laws.{length-padded}
 use Rattle.entry.specs.{Limits.most_peers, Limits.most_replies, Limits.most_outgoing, Order.same_ballot, Order.no_ballot}
 use Rattle.entry.specs.declared.Ballot.{Ballot}
 use Rattle.ballot_leader_election.specs.declared.HeartbeatReply.{HeartbeatReply}

@@ -1,5 +1,5 @@
 -- A state is sound if it is well formed once it is laid out, and every call leaves a sound state sound.
-use Rattle.words.proofs.Prelude.{arith, ◌≡◌, refl, sym, ap, ◌∙◌, ℕ, ◌+◌, ◌≤◌, Bool, true, false, ◌&&◌, ◌||◌, eqb, ltb}
+use Rattle.words.proofs.Prelude.{arith, ◌≡◌, refl, ap, ◌∙◌, ℕ, ◌+◌, ◌≤◌, Bool, true, false, ◌&&◌, ◌||◌, eqb, ltb}
 use Rattle.words.proofs.Prelude.{eqb-false, ltb-false, le-ltb, if◌then◌else◌, Option, none, some, List, [], ◌∷◌, ◌++◌, length-map}
 use Rattle.words.proofs.Prelude.{length-append, length}
 use Rattle.words.proofs.Tests.{either, or_left, or_right}

@@ -1,13 +1,13 @@
 -- Where a node stands goes onward in every step of a timeout: its own number does not fall, the leader stays or rises,
 -- and the own number is not above the leader's. A takeover puts it above both.
-use Rattle.words.proofs.Prelude.{arith, ◌≡◌, refl, sym, ap, ◌∙◌, ℕ, ◌+◌, ◌≤◌, ◌<◌, Bool, true, false, eqb, if◌then◌else◌}
+use Rattle.words.proofs.Prelude.{arith, ◌≡◌, refl, ap, ◌∙◌, ℕ, ◌≤◌, ◌<◌, Bool, true, eqb, if◌then◌else◌}
 use Rattle.words.proofs.Prelude.{Option, none, some, List, length}
 use Rattle.words.proofs.Tests.{either}
 use Rattle.entry.specs.declared.Ballot.{Ballot}
 use Rattle.ballot_leader_election.specs.declared.HeartbeatReply.{HeartbeatReply}
 use Rattle.ballot_leader_election.specs.declared.steps.Standing.{Standing}
 use Rattle.ballot_leader_election.specs.State.{Election}
-use Rattle.ballot_leader_election.specs.Steps.{above, max_ballot, standing, leader_by, update_leader, is_happy}
+use Rattle.ballot_leader_election.specs.Steps.{above, max_ballot, standing, leader_by, update_leader}
 use Rattle.ballot_leader_election.specs.Steps.{update_happiness, takeover_due, taken_over, check_takeover, promised}
 use Rattle.ballot_leader_election.specs.Steps.{timed_out}
 use Rattle.ballot_leader_election.proofs.Over.{Over, by_number, above_over, over_number, over_trans}

@@ -1,5 +1,5 @@
 -- What the loops over replies keep: the answer for those that are left, from what is found so far, is the answer for all.
-use Rattle.words.proofs.Prelude.{arith, ◌≡◌, refl, sym, ap, ◌∙◌, ℕ, suc, ◌+◌, ◌≤◌, ◌<◌, add-one, not, some, List, ◌∷◌}
+use Rattle.words.proofs.Prelude.{arith, ◌≡◌, sym, ap, ◌∙◌, ℕ, suc, ◌+◌, ◌≤◌, ◌<◌, add-one, not, some, List, ◌∷◌}
 use Rattle.words.proofs.Prelude.{drop_of_length-le, length-take, length, take, drop, get_or}
 use Rattle.words.proofs.{Alls.count-le, Laws.front_cons}
 use Rattle.entry.specs.declared.Ballot.{Ballot}

@@ -1,5 +1,5 @@
 -- What holds of every call of the election, from any well-formed state.
-use Rattle.words.proofs.Prelude.{arith, ◌≡◌, refl, sym, ap, ◌∙◌, ℕ, ◌≤◌, ◌<◌, Bool, true, false, true≢false, Option}
+use Rattle.words.proofs.Prelude.{arith, ◌≡◌, refl, sym, ap, ◌∙◌, ℕ, ◌<◌, Bool, true, false, true≢false, Option}
 use Rattle.words.proofs.Prelude.{if◌then◌else◌, List, [], ◌∷◌, append_assoc, ◌++◌, map, length}
 use Rattle.entry.specs.{Guards.Guard, Guards.refused, Guards.replied, declared.Ballot.Ballot}
 use Rattle.ballot_leader_election.specs.declared.HeartbeatReply.{HeartbeatReply}

@@ -1,7 +1,7 @@
 -- A timeout, from what each of its steps gives: the refusals, and the state after it.
 use Rattle.words.proofs.Prelude.{arith, ◌≡◌, refl, sym, ap, ap₂, ◌∙◌, ℕ, ◌+◌, ◌≤◌, ◌<◌, Bool, true, false, ◌&&◌, ◌||◌}
-use Rattle.words.proofs.Prelude.{eqb, ltb, eqb-false, ◌∷◌, if◌then◌else◌, length}
-use Rattle.words.proofs.Tests.{or_left, or_right}
+use Rattle.words.proofs.Prelude.{eqb, eqb-false, if◌then◌else◌, length}
+use Rattle.words.proofs.Tests.{or_right}
 use Rattle.entry.specs.Limits.{most_outgoing, last_round}
 use Rattle.entry.specs.Guards.{passes, refuses, first, replied}
 use Rattle.entry.specs.declared.Ballot.{Ballot}
@@ -13,10 +13,9 @@ use Rattle.ballot_leader_election.specs.State.{peers_in, replies_in, standing_in
 use Rattle.ballot_leader_election.specs.Steps.{update_leader, update_happiness, takeover_due, taken_over, check_takeover}
 use Rattle.ballot_leader_election.specs.Steps.{promised, leading, new_round, with_standing, timed_out}
 use Rattle.ballot_leader_election.specs.Calls.{round_spent, takeover_spent, round_guards, timeout_guards}
-use Rattle.ballot_leader_election.specs.Run.{Outcome, outcome, comes, led}
+use Rattle.ballot_leader_election.specs.Run.{outcome, led}
 use Rattle.ballot_leader_election.specs.Inner.{Formed, Begins, with_standing as standing_with}
 use Rattle.ballot_leader_election.proofs.Laying.{held_length}
-use Rattle.ballot_leader_election.proofs.Coming.{comes_refused, comes_stands}
 use Rattle.ballot_leader_election.proofs.Verdicts.{round_short, round_room}
 
 -- a new round alone

@@ -1,15 +1,14 @@
 -- The first refusal of each call, from the numbers that the code tests.
-use Rattle.words.proofs.Prelude.{arith, ◌≡◌, refl, sym, ap, ap₂, ◌∙◌, ℕ, ◌+◌, ◌≤◌, ◌<◌, Bool, true, false, ◌&&◌, ◌||◌}
-use Rattle.words.proofs.Prelude.{eqb, ltb, lt-ltb, le-ltb, eq-eqb, ne_eqb, if◌then◌else◌, [], ◌∷◌, ◌++◌, length, take}
-use Rattle.entry.specs.Limits.{most_replies, most_outgoing, last_round}
+use Rattle.words.proofs.Prelude.{arith, ◌≡◌, refl, sym, ap, ap₂, ℕ, ◌+◌, ◌≤◌, ◌<◌, Bool, true, false, ◌&&◌}
+use Rattle.words.proofs.Prelude.{ltb, lt-ltb, le-ltb, if◌then◌else◌, [], ◌∷◌, ◌++◌, length}
+use Rattle.entry.specs.Limits.{most_replies, most_outgoing}
 use Rattle.entry.specs.Guards.{passes, refuses, first}
 use Rattle.entry.proofs.GuardLaws.{found, stopping, passing, clear_all}
 use Rattle.ballot_leader_election.specs.declared.HeartbeatReply.{HeartbeatReply}
 use Rattle.ballot_leader_election.specs.declared.BallotLeaderElection.{BallotLeaderElection}
 use Rattle.ballot_leader_election.specs.State.{peers_in, replies_in, messages_in, election_of}
 use Rattle.ballot_leader_election.specs.Steps.{ours, keeping, replying}
-use Rattle.ballot_leader_election.specs.Calls.{request_guards, reply_guards, round_spent, takeover_spent, round_guards}
-use Rattle.ballot_leader_election.specs.Calls.{timeout_guards}
+use Rattle.ballot_leader_election.specs.Calls.{request_guards, reply_guards}
 use Rattle.ballot_leader_election.specs.Inner.{Formed}
 use Rattle.ballot_leader_election.proofs.Laying.{held_length}
 

@@ -1,11 +1,9 @@
 -- What the inner functions say: a list with one element more, which happy replies are looked for, and what is known of a
 -- well-formed state.
 use Rattle.std.specs.Prelude.{ℕ, ◌+◌, ◌≤◌, ◌<◌, ◌≡◌, Bool, ◌&&◌, List, length, take, set}
-use Rattle.std.proofs.Math.Option.{Option, some}
 use Rattle.words.specs.Words.{padded}
 use Rattle.entry.specs.Limits.{most_peers, most_replies, most_outgoing, last_round}
 use Rattle.entry.specs.Order.{same_ballot}
-use Rattle.entry.specs.declared.Ballot.{Ballot}
 use Rattle.ballot_leader_election.specs.declared.HeartbeatReply.{HeartbeatReply}
 use Rattle.ballot_leader_election.specs.declared.BLEMessage.{BLEMessage}
 use Rattle.ballot_leader_election.specs.declared.Peers.{Peers}

@@ -11,7 +11,7 @@ use Rattle.ballot_leader_election.specs.declared.HeartbeatReply.{HeartbeatReply}
 use Rattle.ballot_leader_election.specs.declared.BLEMessage.{BLEMessage}
 use Rattle.ballot_leader_election.specs.declared.BLEConfig.{BLEConfig}
 use Rattle.ballot_leader_election.specs.declared.steps.Standing.{Standing}
-use Rattle.ballot_leader_election.specs.State.{Election, no_reply}
+use Rattle.ballot_leader_election.specs.State.{Election}
 
 -- "a majority of peers plus self for both kinds"
 unfoldable pub quorum : ℕ → ℕ → Bool

@@ -1,5 +1,5 @@
 -- The snapshot that is held after a compaction, written in its place on a lent state.
-use Rattle.words.proofs.Prelude.{◌≡◌, refl, sym, ap, ◌∙◌, ℕ, ◌+◌, ◌-◌, ◌≤◌, true, false, List, [], replicate}
+use Rattle.words.proofs.Prelude.{◌≡◌, sym, ap, ◌∙◌, ℕ, ◌+◌, ◌-◌, ◌≤◌, true, false, List, [], replicate}
 use Rattle.words.specs.{Words.laid, Coded.words_of, Coded.entries_at}
 use Rattle.entry.specs.{Limits.snapshot_words, Change.Change, Change.entries_of, Guards.first, Guards.refused}
 use Rattle.entry.specs.{Guards.replied, declared.Compaction.TheVariants.Trim}

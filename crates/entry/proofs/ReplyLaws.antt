@@ -1,6 +1,6 @@
 -- A reply and its words.
 use Rattle.words.proofs.Prelude.{arith, ◌≡◌, refl, sym, ap, ◌∙◌, ℕ, ◌+◌, ◌*◌, ◌/◌, ◌≤◌, ◌<◌, Bool, true, false, eqb}
-use Rattle.words.proofs.Prelude.{leb, eq-eqb, ne_eqb, eqb-true, le-leb, lt-leb, ltb-true, if◌then◌else◌, Option, none}
+use Rattle.words.proofs.Prelude.{eq-eqb, ne_eqb, eqb-true, le-leb, lt-leb, ltb-true, if◌then◌else◌, Option, none}
 use Rattle.words.proofs.Prelude.{some, List, [], ◌∷◌, length, take, drop, get_or}
 use lib.Seq.{get_or-take, get_or-drop}
 use Rattle.words.specs.Coded.{Lawful}

@@ -1,5 +1,5 @@
 -- `words::copy_in` meets its contract: after i turns the first i words of src stand from `at` on.
-use Rattle.words.proofs.Prelude.{arith, ◌≡◌, ap, ◌∙◌, ℕ, ◌+◌, ◌-◌, List, length-set, length, get_or}
+use Rattle.words.proofs.Prelude.{arith, ◌≡◌, ap, ◌∙◌, ℕ, ◌+◌, List, length-set, length, get_or}
 use lib.{ListN.set, Seq.paste, Seq.paste-zero}
 use Rattle.words.proofs.{Laws.paste_more}
 use Rattle.words.proofs.copy_in.Goals as goal

@@ -1,6 +1,6 @@
 -- `words::move_down` meets its contract: after i turns the first i words from `from` on stand at `to`, and what was not
 -- passed is as it was.
-use Rattle.words.proofs.Prelude.{arith, ◌≡◌, ap, ◌∙◌, ℕ, ◌-◌, length-set, drop}
+use Rattle.words.proofs.Prelude.{arith, ◌≡◌, ap, ◌∙◌, ℕ, length-set, drop}
 use lib.Seq.{paste, paste-zero}
 use Rattle.words.proofs.{Laws.down_turn}
 use Rattle.words.proofs.move_down.Goals as goal

@@ -1,5 +1,5 @@
 -- `words::move_up` meets its contract: with i words left to move, those from the i-th on stand at their places.
-use Rattle.words.proofs.Prelude.{arith, ◌-◌, length-set}
+use Rattle.words.proofs.Prelude.{arith, length-set}
 use Rattle.words.proofs.{Laws.up_none, Laws.up_turn, Laws.up_done}
 use Rattle.words.proofs.move_up.Goals as goal
 

@@ -1,5 +1,5 @@
 -- `words::zero_from` meets its contract: the words passed and those that are left are together what is asked.
-use Rattle.words.proofs.Prelude.{refl, ◌-◌}
+use Rattle.words.proofs.Prelude.{refl}
 use Rattle.words.proofs.{Alls.zero_turn, Alls.all_end}
 use Rattle.words.proofs.zero_from.Goals as goal
 

@@ -1,5 +1,5 @@
 -- `ballot_leader_election::forms::messages_blank` meets its contract: those passed and those that are left are together what is asked.
-use Rattle.words.proofs.Prelude.{arith, refl, ◌-◌, get_or, drop-cons}
+use Rattle.words.proofs.Prelude.{arith, refl, get_or, drop-cons}
 use Rattle.words.proofs.Alls.{all_turn, all_end}
 use Rattle.ballot_leader_election.specs.State.{no_message, message_blank}
 use Rattle.ballot_leader_election.proofs.forms.messages_blank.Goals as goal

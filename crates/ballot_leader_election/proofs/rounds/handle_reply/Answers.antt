@@ -2,7 +2,7 @@
 use Rattle.words.proofs.Prelude.{sym, ap, ◌∙◌, [], ◌∷◌, ◌++◌}
 use Rattle.entry.specs.Guards.{replied}
 use Rattle.ballot_leader_election.specs.{declared.BallotLeaderElection.BallotLeaderElection, State.standing_in, State.election_of, State.laid_election, State.replies_in}
-use Rattle.ballot_leader_election.specs.{State.messages_in, Steps.ours, Steps.replying, Calls.reply_guards, Run.outcome}
+use Rattle.ballot_leader_election.specs.{State.messages_in, Steps.replying, Calls.reply_guards, Run.outcome}
 use Rattle.ballot_leader_election.proofs.Laying.{back_replies, back_messages, kept_laid, laid_parts, laid_back}
 use Rattle.ballot_leader_election.proofs.{Coming.comes_refused, Coming.comes_stands, Verdicts.other, Verdicts.kept, Verdicts.reply_other}
 use Rattle.ballot_leader_election.proofs.Verdicts.{reply_full, reply_kept}

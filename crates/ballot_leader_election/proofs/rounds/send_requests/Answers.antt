@@ -1,5 +1,5 @@
 -- `ballot_leader_election::rounds::send_requests` meets its contract: those sent so far are the requests to the peers passed.
-use Rattle.words.proofs.Prelude.{arith, ap, ◌∙◌, ◌-◌}
+use Rattle.words.proofs.Prelude.{arith, ap, ◌∙◌}
 use Rattle.ballot_leader_election.specs.{declared.Outgoing.Outgoing, declared.BLEMessage.BLEMessage, Inner.sent_to}
 use Rattle.ballot_leader_election.proofs.Laying.{requests_length, none_yet, request_sent, all_sent}
 use Rattle.ballot_leader_election.proofs.rounds.send_requests.Goals as goal

@@ -1,5 +1,5 @@
 -- `ballot_leader_election::rounds::time_out` meets its contract: the steps one after the other; 18, then 19, before anything is made.
-use Rattle.words.proofs.Prelude.{arith, ◌≡◌, refl, ap, ◌∙◌, ◌<◌, true, false, ◌&&◌, ◌||◌, eqb}
+use Rattle.words.proofs.Prelude.{arith, ◌≡◌, refl, ap, ◌∙◌, ◌<◌, true, ◌&&◌, ◌||◌, eqb}
 use Rattle.words.proofs.Tests.{or_left}
 use Rattle.entry.specs.Limits.{last_round}
 use Rattle.ballot_leader_election.specs.{State.replies_in, State.standing_in, State.election_of, Steps.update_leader, Steps.leading, Steps.timed_out}

@@ -1,5 +1,5 @@
 -- `ballot_leader_election::seen::any_happy` meets its contract: what is found among those passed, or is among those that are left, is among all.
-use Rattle.words.proofs.Prelude.{arith, refl, ◌-◌, ◌≤◌, length, take}
+use Rattle.words.proofs.Prelude.{arith, refl, ◌≤◌, length, take}
 use Rattle.words.proofs.Alls.{any_turn, any_end}
 use Rattle.ballot_leader_election.specs.Inner.{sought_in}
 use Rattle.ballot_leader_election.proofs.Seeing.{next_reply, no_more}

@@ -1,5 +1,5 @@
 -- `ballot_leader_election::seen::max_ballot` meets its contract: the greatest of the ballots passed, with those that are left, is the greatest of all.
-use Rattle.words.proofs.Prelude.{arith, refl, sym, ap, ◌∙◌, ◌-◌, ◌≤◌, some, length}
+use Rattle.words.proofs.Prelude.{arith, refl, sym, ap, ◌∙◌, ◌≤◌, some, length}
 use Rattle.ballot_leader_election.proofs.Seeing.{max_first, max_turn, max_end}
 use Rattle.ballot_leader_election.proofs.seen.max_ballot.Goals as goal
 use Rattle.ballot_leader_election.proofs.seen.max_ballot.Goals.{Start}

@@ -1,5 +1,5 @@
 -- `ballot_leader_election::seen::potential_followers` meets its contract: those passed, with those that are left, are all of them.
-use Rattle.words.proofs.Prelude.{arith, ◌-◌, ◌≤◌, Bool, true, false, not, if◌then◌else◌, length, take}
+use Rattle.words.proofs.Prelude.{arith, ◌≤◌, Bool, true, false, not, if◌then◌else◌, length, take}
 use Rattle.words.proofs.Alls.{count_turn, count_end}
 use Rattle.ballot_leader_election.specs.{declared.HeartbeatReply.HeartbeatReply, Steps.above, Steps.potential_followers}
 use Rattle.ballot_leader_election.proofs.Seeing.{at, next_reply, no_more}

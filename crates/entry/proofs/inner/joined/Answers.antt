@@ -1,6 +1,6 @@
 -- `entry::inner::joined` meets its contract: where the `or` is below 2^48 each place passed is in form, so that only
 -- the rest is asked.
-use Rattle.words.proofs.Prelude.{arith, ◌≡◌, ap, ◌∙◌, ℕ, suc, ◌+◌, ◌-◌, ◌≤◌, add-one, true, List, ◌∷◌}
+use Rattle.words.proofs.Prelude.{arith, ◌≡◌, ap, ◌∙◌, ℕ, suc, ◌+◌, ◌≤◌, add-one, true, List, ◌∷◌}
 use Rattle.words.proofs.Prelude.{drop_of_length-le, length, drop}
 use lib.Bits.{or_add_and, and_le_l, and_le_r}
 use Rattle.words.specs.All.{all_of}

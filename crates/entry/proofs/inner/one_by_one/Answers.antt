@@ -1,5 +1,5 @@
 -- `entry::inner::one_by_one` meets its contract: the entries passed and those that are left are together what is asked.
-use Rattle.words.proofs.Prelude.{arith, refl, ap, ◌∙◌, ◌+◌, ◌-◌, Bool, ◌&&◌, drop}
+use Rattle.words.proofs.Prelude.{arith, refl, ap, ◌∙◌, ◌+◌, Bool, ◌&&◌, drop}
 use Rattle.words.proofs.{Alls.all_turn, Alls.all_end, CodedLaws.entries_length}
 use Rattle.entry.specs.Change.{change_code, change_formed, entries_formed, entries_of}
 use Rattle.entry.specs.Inner.{change_at}

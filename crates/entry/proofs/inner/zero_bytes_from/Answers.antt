@@ -1,6 +1,6 @@
 -- `entry::inner::zero_bytes_from` meets its contract: the bytes passed and those that are left are together what is
 -- asked.
-use Rattle.words.proofs.Prelude.{refl, ◌-◌}
+use Rattle.words.proofs.Prelude.{refl}
 use Rattle.words.proofs.Alls.{zero_turn, all_end}
 use Rattle.entry.proofs.inner.zero_bytes_from.Goals as goal
 

@@ -1,5 +1,5 @@
 -- `snapshot::inner::fold_onto` meets its contract: the words hold the entries put so far.
-use Rattle.words.proofs.Prelude.{arith, ◌-◌, length-drop, length-take, length}
+use Rattle.words.proofs.Prelude.{arith, length-drop, length-take, length}
 use Rattle.entry.specs.Change.{entries_of}
 use Rattle.snapshot.specs.Folds.{fold_onto}
 use Rattle.snapshot.proofs.Putting.{sofar_start, sofar_holds, fold_turn, fold_refused, fold_done}

@@ -1,6 +1,6 @@
 -- `snapshot::inner::keys_ascend` meets its contract: the entries passed and those that are left are together what is
 -- asked.
-use Rattle.words.proofs.Prelude.{arith, refl, ◌-◌}
+use Rattle.words.proofs.Prelude.{arith, refl}
 use Rattle.snapshot.proofs.{Rising.rising-end, Rising.rising_turn}
 use Rattle.snapshot.proofs.inner.keys_ascend.Goals as goal
 

@@ -1,5 +1,5 @@
 -- `snapshot::inner::search` meets its contract: the spot stays from low to high.
-use Rattle.words.proofs.Prelude.{arith, ◌-◌}
+use Rattle.words.proofs.Prelude.{arith}
 use Rattle.snapshot.proofs.Searching.{search_all, search_end, search_at, search_above, search_below}
 use Rattle.snapshot.proofs.{Halving.halved}
 use Rattle.snapshot.proofs.inner.search.Goals as goal

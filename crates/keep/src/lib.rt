@@ -3,7 +3,8 @@
 #![tactic(auto)]
 
 ghost use Rattle.std.specs.Prelude.{◌≡◌, ◌++◌, ℕ, ◌+◌, ◌<◌, ◌≤◌, length, take, get_or};
-ghost use Rattle.keep.specs.Files.{tail, longest, slash, IsPrefixLen, Holds};
+ghost use Rattle.words.specs.Words.{IsPrefixLen};
+ghost use Rattle.keep.specs.Files.{tail, longest, slash, Holds};
 ghost use Rattle.keep.specs.declared.Saved.TheVariants.{NotMade};
 
 use std::fs::{OpenFile, OpenOptions, Permissions};

@@ -1,5 +1,5 @@
 -- A text as bytes: for texts of ASCII alone, whose characters are their bytes. And where a byte stands first.
-use Rattle.std.specs.Prelude.{◌≡◌, ℕ, suc, ◌≤◌, List, [], ◌∷◌, eqb, length, take}
+use Rattle.std.specs.Prelude.{ℕ, suc, List, [], ◌∷◌, eqb}
 use Prim.Native.Char.{code}
 use Prim.Native.String.{String, [] as none, ◌∷◌ as ◌then◌}
 use Rattle.words.specs.If.{if◌then◌else◌}
@@ -12,8 +12,3 @@ bytes (c then s) = code c ∷ bytes s
 abbrev pub gap_of : ℕ → List ℕ → ℕ
 gap_of b [] = 0
 gap_of b (x ∷ xs) = if eqb x b then 0 else suc (gap_of b xs)
-
--- `&xs[..n]` is in bounds and has n bytes. The second part follows from the first, and spares a caller's `&buf[..n]` a
--- proof
-abbrev pub IsPrefixLen : ℕ → List ℕ → Type 0
-IsPrefixLen n xs = (n ≤ length xs) × (n ≡ length (take n xs))

@@ -3,7 +3,8 @@
 ghost use Rattle.std.specs.Prelude.{◌≡◌, ◌++◌, ◌+◌, ◌*◌, ◌≤◌, length, take, IfOk};
 ghost use Rattle.entry.specs.Limits.{width};
 ghost use Rattle.entry.specs.Change.{said_is, entries_of};
-ghost use Rattle.text.specs.Bytes.{bytes, gap_of, IsPrefixLen};
+ghost use Rattle.words.specs.Words.{IsPrefixLen};
+ghost use Rattle.text.specs.Bytes.{bytes, gap_of};
 ghost use Rattle.text.specs.Refusing.{why_room, refused_room, why_text, refused_text};
 ghost use Rattle.text.specs.Rooms.{most_digits, output_line};
 ghost use Rattle.text.specs.Feeding.{come, joined, next_at};

@@ -11,7 +11,7 @@ use Rattle.entry.specs.{Change.entries_in, Change.whole_in, Change.slice_formed,
 use Rattle.entry.specs.{declared.StopSign.StopSign}
 use Rattle.snapshot.specs.Calls.{snapshot_formed}
 use Rattle.snapshot.proofs.Calling.{snapshot_holds}
-use Rattle.model.specs.Log.{given, if_given, keys_formed}
+use Rattle.model.specs.Log.{if_given, keys_formed}
 use Rattle.model.specs.Backend.{Op, append_entries, append_on_prefix, set_decided, set_compacted, trim, set_promise, set_round}
 use Rattle.model.specs.Backend.{set_sign, set_snapshot, Lent, supplied, ops_formed}
 use Rattle.model.specs.Calls.{write, malformed}

@@ -1,5 +1,4 @@
 -- What a call of the election says, as the host sees it, beside the state after it or what it hands out.
-use Rattle.std.specs.Prelude.{List}
 use Rattle.std.proofs.Math.Option.{Option, none, some}
 use Rattle.entry.specs.Guards.{Answer, refused, replied}
 use Rattle.entry.specs.Order.{no_ballot}

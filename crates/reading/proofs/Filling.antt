@@ -1,7 +1,7 @@
 -- Many keys in one lookup: the loop over them, the ways out; and each reply, read back, is the single lookup's.
 use Rattle.words.proofs.Prelude.{arith, ◌≡◌, refl, sym, ap, ap₂, ◌∙◌, ℕ, suc, ◌+◌, ◌*◌, ◌/◌, ◌≤◌, ◌<◌, Bool, true}
-use Rattle.words.proofs.Prelude.{false, ◌||◌, ltb, leb, le-ltb, ltb-false, le-leb, leb-true, Option, List, [], ◌∷◌, ◌++◌}
-use Rattle.words.proofs.Prelude.{map, length-map, length, take, get_or, length-take-le, take_all}
+use Rattle.words.proofs.Prelude.{false, ◌||◌, ltb, le-ltb, ltb-false, le-leb, leb-true, Option, List, [], ◌∷◌, ◌++◌}
+use Rattle.words.proofs.Prelude.{length-map, length, take, get_or, length-take-le, take_all}
 use mathlib.Core.List.{map-append}
 use lib.ListN.{get_or-map}
 use lib.Seq.{paste, take-suc}

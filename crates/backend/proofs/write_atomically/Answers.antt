@@ -1,5 +1,5 @@
 -- `backend::write_atomically` meets its contract: the lent operations come to what the list made of them does.
-use Rattle.words.proofs.Prelude.{sym, ap, ◌∙◌}
+use Rattle.words.proofs.Prelude.{ap, ◌∙◌}
 use Rattle.model.specs.Calls.{write}
 use Rattle.state_cache.specs.{State.raw, Run.run}
 use Rattle.backend.specs.Ops.{ops_in, lent_of, whole_list}

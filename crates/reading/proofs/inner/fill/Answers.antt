@@ -1,5 +1,5 @@
 -- `reading::inner::fill` meets its contract: at each turn the replies to the keys before are written.
-use Rattle.words.proofs.Prelude.{arith, refl, ◌∙◌, ◌+◌, ◌-◌}
+use Rattle.words.proofs.Prelude.{arith, refl, ◌∙◌, ◌+◌}
 use Rattle.state_cache.specs.State.{raw}
 use Rattle.reading.proofs.Filling.{fill_start, fill_length, fill_turn, fill_done}
 use Rattle.reading.proofs.inner.fill.Goals as goal

@@ -1,5 +1,5 @@
 -- `reading::inner::look` meets its contract: what the newest of the entries says, or what the snapshot does.
-use Rattle.words.proofs.Prelude.{arith, ◌≡◌, sym, ap, ◌∙◌}
+use Rattle.words.proofs.Prelude.{arith, sym, ap, ◌∙◌}
 use Rattle.snapshot.specs.Calls.{found}
 use Rattle.state_cache.specs.State.{raw}
 use Rattle.state_cache.proofs.Small.{sound_small}

@@ -1,5 +1,5 @@
 -- `reading::inner::newest_at` meets its contract: the newest of all entries is that of those not yet looked at.
-use Rattle.words.proofs.Prelude.{arith, refl, ℕ, ◌-◌}
+use Rattle.words.proofs.Prelude.{arith, refl, ◌-◌}
 use Rattle.reading.proofs.Looking.{Left, newest_few, newest_found, newest_back}
 use Rattle.reading.proofs.inner.newest_at.Goals as goal
 use Rattle.reading.proofs.inner.newest_at.Goals.{Else-ka-key, Else-kb-key, Else-kc-key}

@@ -1,5 +1,4 @@
 -- `reading::inner::newest_of_few` meets its contract: the newest of all entries is that of those not yet looked at.
-use Rattle.words.proofs.Prelude.{◌-◌}
 use Rattle.reading.proofs.Looking.{Left}
 use Rattle.reading.proofs.inner.newest_of_few.Given as goal
 

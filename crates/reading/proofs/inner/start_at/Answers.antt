@@ -15,4 +15,3 @@ overflow_add-result c =
 pub returns-in-Excluded : goal.returns-in-Excluded
 returns-in-Excluded c =
     sym (ap (λ (b : Bound). start_at (bound_of b)) c.in-Excluded.is)
-

@@ -16,4 +16,3 @@ pub returns-in-Included : goal.returns-in-Included
 returns-in-Included c =
     sym (ap (λ (b : Bound). stop_at (bound_of b) c.args.last)
     c.in-Included.is)
-

@@ -1,6 +1,6 @@
 -- `backend::inner::request::all_supplied` meets its contract: the operations passed and those that are left are
 -- together what is asked.
-use Rattle.words.proofs.Prelude.{arith, arith, ◌≡◌, refl, ◌-◌, [], map, length, take}
+use Rattle.words.proofs.Prelude.{arith, arith, ◌≡◌, refl, [], map, length, take}
 use Rattle.entry.specs.Limits.{most_ops}
 use Rattle.words.proofs.Alls.{all_end}
 use Rattle.model.specs.Backend.{supplied}

@@ -4,11 +4,12 @@ ghost use Rattle.std.specs.Prelude.{◌<◌, ◌≤◌};
 ghost use Rattle.election.specs.Sizes.{most_nodes};
 
 use super::lines::{Asked, Command, Spelled, Whom};
-use super::{lines, say, show};
+use super::{lines, show};
 use ballot_leader_election::{
     Answer, BLEConfig, BLEMessage, BallotLeaderElection, Outgoing, Recovered, TimedOut,
 };
 use entry::Ballot;
+use std::io;
 
 const NODES: usize = super::NUMBERS;
 
@@ -60,9 +61,9 @@ fn is_cut(c: Cluster, a: usize, b: usize) -> bool {
     c.cut[i]
 }
 
-fn done(c: Cluster) -> Cluster {
-    say(b"ok\n");
-    c
+fn done(rt: &impl Print, c: Cluster) -> io::Result<Cluster> {
+    println!(rt; "ok")?;
+    Ok(c)
 }
 
 // Cuts or mends the link between two nodes, both ways.
@@ -85,10 +86,10 @@ fn link_all(c: Cluster, a: usize, cut: bool) -> Cluster {
     next
 }
 
-fn link(c: Cluster, a: usize, whom: Whom, cut: bool) -> Cluster {
+fn link(rt: &impl Print, c: Cluster, a: usize, whom: Whom, cut: bool) -> io::Result<Cluster> {
     match whom {
-        Whom::All => done(link_all(c, a, cut)),
-        Whom::At(b) => done(link_two(c, a, b, cut)),
+        Whom::All => done(rt, link_all(c, a, cut)),
+        Whom::At(b) => done(rt, link_two(c, a, b, cut)),
     }
 }
 
@@ -142,7 +143,7 @@ pub(crate) fn none() -> Cluster {
 }
 
 // So many nodes, with these priorities, and every link whole.
-fn begin(n: Spelled) -> Cluster {
+fn begin(rt: &impl Print, n: Spelled) -> io::Result<Cluster> {
     let priorities = n.held;
     let mut c = none();
     c.count = n.count;
@@ -153,25 +154,25 @@ fn begin(n: Spelled) -> Cluster {
         c = put(c, i, start(n.count, i, priority, Recovered::Nothing));
         i += 1;
     }
-    done(c)
+    done(rt, c)
 }
 
-fn show_timed(pid: u64, timed: TimedOut) {
+fn show_timed(rt: &impl Print, pid: u64, timed: TimedOut) -> io::Result<()> {
     let answer = timed.answer;
     let e = timed.election;
-    show::timed_out(pid, answer, e.current_ballot, e.leader, e.happy);
+    show::timed_out(rt, pid, answer, e.current_ballot, e.leader, e.happy)
 }
 
 // The end of a node's round.
-fn time_out(c: Cluster, at: usize, promise: Ballot) -> Cluster {
+fn time_out(rt: &impl Print, c: Cluster, at: usize, promise: Ballot) -> io::Result<Cluster> {
     let timed = ballot_leader_election::hb_timeout(node_at(c, at), promise);
-    show_timed(placed(at) as u64 + 1, timed);
-    put(c, at, timed.election)
+    show_timed(rt, placed(at) as u64 + 1, timed)?;
+    Ok(put(c, at, timed.election))
 }
 
-fn set_priority(c: Cluster, at: usize, p: u32) -> Cluster {
+fn set_priority(rt: &impl Print, c: Cluster, at: usize, p: u32) -> io::Result<Cluster> {
     let set = ballot_leader_election::set_priority(node_at(c, at), p);
-    done(put(c, at, set.election))
+    done(rt, put(c, at, set.election))
 }
 
 // A node as it starts again, with its last priority and with the leader that it had.
@@ -181,13 +182,13 @@ fn recovered(count: usize, at: usize, node: BallotLeaderElection) -> BallotLeade
     start(count, placed(at), mine.priority, Recovered::Leader(leader))
 }
 
-fn restart(c: Cluster, at: usize) -> Cluster {
+fn restart(rt: &impl Print, c: Cluster, at: usize) -> io::Result<Cluster> {
     let node = recovered(c.count, at, node_at(c, at));
-    done(put(c, at, node))
+    done(rt, put(c, at, node))
 }
 
 fn one_more(n: u64) -> u64 {
-    std::num::wrapping_add_u64(n, 1)
+    n.wrapping_add(1)
 }
 
 // A message was handled, or refused.
@@ -281,27 +282,27 @@ fn deliver_to(c: Cluster, whom: Whom) -> Cluster {
     }
 }
 
-fn deliver(c: Cluster, whom: Whom) -> Cluster {
+fn deliver(rt: &impl Print, c: Cluster, whom: Whom) -> io::Result<Cluster> {
     let next = deliver_to(none_handed(c), whom);
-    show::delivered(next.handed, next.lost, next.refused);
-    next
+    show::delivered(rt, next.handed, next.lost, next.refused)?;
+    Ok(next)
 }
 
-fn bad(c: Cluster) -> Cluster {
-    say(b"bad line\n");
-    c
+fn bad(rt: &impl Print, c: Cluster) -> io::Result<Cluster> {
+    println!(rt; "bad line")?;
+    Ok(c)
 }
 
 // Does what a line says, and prints what answers it.
-pub(crate) fn carry_out(c: Cluster, asked: Asked) -> Cluster {
+pub(crate) fn carry_out(rt: &impl Print, c: Cluster, asked: Asked) -> io::Result<Cluster> {
     let command = asked.command;
     match command {
-        Command::Nodes => begin(asked.numbers),
-        Command::Link(a, whom, cut) => link(c, a, whom, cut),
-        Command::Deliver(whom) => deliver(c, whom),
-        Command::Timeout(at, promise) => time_out(c, at, promise),
-        Command::Priority(at, p) => set_priority(c, at, p),
-        Command::Restart(at) => restart(c, at),
-        Command::BadLine => bad(c),
+        Command::Nodes => begin(rt, asked.numbers),
+        Command::Link(a, whom, cut) => link(rt, c, a, whom, cut),
+        Command::Deliver(whom) => deliver(rt, c, whom),
+        Command::Timeout(at, promise) => time_out(rt, c, at, promise),
+        Command::Priority(at, p) => set_priority(rt, c, at, p),
+        Command::Restart(at) => restart(rt, c, at),
+        Command::BadLine => bad(rt, c),
     }
 }

@@ -1,13 +1,14 @@
 // Lines out of the input, which comes in parts: a line may begin in one and end in another.
-ghost use Rattle.std.specs.Prelude.{◌≡◌};
+ghost use Rattle.std.specs.Prelude.{◌≡◌, IfOk};
 ghost use Rattle.election.specs.Sizes.{Within};
 
 use super::lines;
 use super::lines::Asked;
-use libc::STDIN_FILENO;
+use std::io;
+use std::io::{Read, Stdin};
 use text::inner::Partial;
 
-const CHUNK: usize = 4096;
+pub(crate) const CHUNK: usize = 4096;
 
 // Which bytes of the part are yet to be taken, the line so far, whether it has ended, and whether there may be more.
 #[derive(Clone, Copy)]
@@ -55,12 +56,11 @@ pub(crate) fn next(i: Input) -> Input
 }
 
 // Reads a part. After the last one a line ends that has a byte, though no line feed came.
-fn fill(i: Input, chunk: &mut [u8; CHUNK]) -> Input
+fn fill(from: &mut Stdin, i: Input, chunk: &mut [u8; CHUNK]) -> io::Result<Input>
     requires { Within i }
-    ensures { Within result }
+    ensures { IfOk result (λ r. Within r) }
 {
-    let got = libc::read(STDIN_FILENO, chunk);
-    let n = io::count(got, chunk);
+    let n = from.read(chunk)?;
     let mut r = i;
     r.at = 0;
     r.end = n;
@@ -69,7 +69,7 @@ fn fill(i: Input, chunk: &mut [u8; CHUNK]) -> Input
         r.more = false;
         r.ended = held.over | (held.len > 0);
     }
-    r
+    Ok(r)
 }
 
 // Bytes join the line, up to its end or the part's.
@@ -95,14 +95,19 @@ fn take(i: Input, chunk: &[u8; CHUNK], line: &mut [u8; super::LINE]) -> Input
 }
 
 // Takes what is left of the part, up to a line's end; where nothing is, the next part is read.
-pub(crate) fn step(i: Input, chunk: &mut [u8; CHUNK], line: &mut [u8; super::LINE]) -> Input
+pub(crate) fn step(
+    from: &mut Stdin,
+    i: Input,
+    chunk: &mut [u8; CHUNK],
+    line: &mut [u8; super::LINE],
+) -> io::Result<Input>
     requires { Within i }
-    ensures { Within result }
+    ensures { IfOk result (λ r. Within r) }
 {
     if i.at == i.end {
-        return fill(i, chunk);
+        return fill(from, i, chunk);
     }
-    take(i, chunk, line)
+    Ok(take(i, chunk, line))
 }
 
 // What the line asks for, of so many nodes. One that did not fit its buffer is a bad line.

@@ -169,46 +169,38 @@ fn priority(a: usize, n: Spelled) -> Command {
 
 // A line whose first number names a node.
 fn of_node(word: &[u8], a: usize, n: Spelled) -> Command {
-    if check::same(word, b"timeout") {
-        return timeout(a, n);
+    match word {
+        b"timeout" => timeout(a, n),
+        b"priority" => priority(a, n),
+        b"deliver" if n.count == 1 => Command::Deliver(Whom::At(a)),
+        b"restart" if n.count == 1 => Command::Restart(a),
+        _ => Command::BadLine,
     }
-    if check::same(word, b"priority") {
-        return priority(a, n);
-    }
-    if n.count != 1 {
-        return Command::BadLine;
-    }
-    if check::same(word, b"deliver") {
-        let whom = Whom::At(a);
-        return Command::Deliver(whom);
-    }
-    if check::same(word, b"restart") {
-        return Command::Restart(a);
-    }
-    Command::BadLine
 }
 
-fn numbered(count: usize, word: &[u8], n: Spelled) -> Command {
-    if check::same(word, b"nodes") {
-        return nodes(n);
-    }
-    if check::same(word, b"cut") {
-        return link(count, n, true);
-    }
-    if check::same(word, b"mend") {
-        return link(count, n, false);
-    }
-    let held = n.held;
-    let a = place(count, held[0]);
+// The same, where the number may name none.
+fn of_place(word: &[u8], a: usize, n: Spelled) -> Command {
     if a == super::NUMBERS {
         return Command::BadLine;
     }
     of_node(word, a, n)
 }
 
+fn numbered(count: usize, word: &[u8], n: Spelled) -> Command {
+    match word {
+        b"nodes" => nodes(n),
+        b"cut" => link(count, n, true),
+        b"mend" => link(count, n, false),
+        _ => {
+            let held = n.held;
+            of_place(word, place(count, held[0]), n)
+        }
+    }
+}
+
 // What a line means, of so many nodes.
 pub(crate) fn parse(count: usize, s: &[u8]) -> Asked {
-    if check::same(s, b"deliver") {
+    if s == b"deliver".as_slice() {
         return Asked {
             command: Command::Deliver(Whom::All),
             numbers: no_numbers(),

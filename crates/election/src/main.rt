@@ -6,7 +6,7 @@ ghost use Rattle.election.specs.Sizes.{Within};
 
 use cluster::Cluster;
 use input::Input;
-use libc::STDOUT_FILENO;
+use std::io;
 
 mod cluster;
 mod input;
@@ -19,38 +19,30 @@ pub const NUMBERS: usize = ballot_leader_election::PEERS + 1;
 // The longest line that is no bad line: its first word, and numbers, each after a space.
 pub const LINE: usize = 8 + NUMBERS * (1 + text::DIGITS);
 
-pub(crate) fn say(words: &[u8]) {
-    io::write_all(STDOUT_FILENO, words);
-}
-
-pub(crate) fn say_number(label: &[u8], n: u64, tail: &[u8]) {
-    say(label);
-    io::print_decimal(STDOUT_FILENO, n);
-    say(tail);
-}
-
 // Answers the line that has come, if one has.
-fn answer(c: Cluster, i: Input, line: &[u8; LINE]) -> Cluster
+fn answer(rt: &impl Print, c: Cluster, i: Input, line: &[u8; LINE]) -> io::Result<Cluster>
     requires { Within i }
 {
     if !i.ended {
-        return c;
+        return Ok(c);
     }
     let asked = input::command(c.count, i, line);
-    cluster::carry_out(c, asked)
+    cluster::carry_out(rt, c, asked)
 }
 
-fn main() {
-    let mut chunk = io::buffer();
+fn main(rt: HostRuntime) -> io::Result<()> {
+    let mut stdin = rt.stdin();
+    let mut chunk = [0u8; input::CHUNK];
     let mut line = [0u8; LINE];
     let mut c = cluster::none();
     let mut i = input::start();
     // Nothing says that input ends: the turns are what is counted down.
     let mut turns = u64::MAX;
     while turns > 0 && i.more {
-        i = input::step(i, &mut chunk, &mut line);
-        c = answer(c, i, &line);
+        i = input::step(&mut stdin, i, &mut chunk, &mut line)?;
+        c = answer(&rt, c, i, &line)?;
         i = input::next(i);
         turns -= 1;
     }
+    Ok(())
 }

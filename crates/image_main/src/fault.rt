@@ -1,126 +1,118 @@
 // What is wrong with a bad image: which record is bad, where it stands, and why.
-use super::{say, say_number};
 use image::Head;
+use std::io;
 
 // Why the header is no log's.
-fn why_head(bytes: &[u8]) {
+fn why_head(bytes: &[u8]) -> &'static str {
     if bytes.len() < 2 {
-        return say(b"is cut short\n");
+        return "is cut short";
     }
     if records::inner::get_big(bytes, 0, 2) != image::HEAD_MARK {
-        return say(b"has another mark: this is no image\n");
+        return "has another mark: this is no image";
     }
     if bytes.len() < image::HEAD {
-        return say(b"is cut short\n");
+        return "is cut short";
     }
     if !records::inner::sealed_at(bytes, 0, image::HEAD - 2) {
-        return say(b"has a sum that is not its bytes'\n");
+        return "has a sum that is not its bytes'";
     }
     if !image::inner::flags_known(bytes[4]) {
-        return say(b"has a flag that there is not\n");
+        return "has a flag that there is not";
     }
-    say(b"has numbers or flags that no log has\n");
+    "has numbers or flags that no log has"
 }
 
 // Why the record of a key or an entry, with this mark, is not sound.
-fn why_change(bytes: &[u8], at: usize, mark: u64) {
+fn why_change(bytes: &[u8], at: usize, mark: u64) -> &'static str {
     if bytes.len() <= at {
-        return say(b"is missing\n");
+        return "is missing";
     }
     if bytes.len() - at < image::CHANGE {
-        return say(b"is cut short\n");
+        return "is cut short";
     }
     if records::inner::get_big(bytes, at, 2) != mark {
-        return say(b"has another mark\n");
+        return "has another mark";
     }
     if !records::inner::sealed_at(bytes, at, image::CHANGE - 2) {
-        return say(b"has a sum that is not its bytes'\n");
+        return "has a sum that is not its bytes'";
     }
     if !entry::place_formed(records::inner::get_big(bytes, at + 10, 8)) {
-        return say(b"has a place that there is not\n");
+        return "has a place that there is not";
     }
-    say(b"has a key that is not above the one before\n");
+    "has a key that is not above the one before"
 }
 
 // Why the record of a stop-sign is not sound.
-fn why_stop(bytes: &[u8], at: usize) {
+fn why_stop(bytes: &[u8], at: usize) -> &'static str {
     if bytes.len() <= at {
-        return say(b"is missing\n");
+        return "is missing";
     }
     let left = bytes.len() - at;
     if left < image::STOP {
-        return say(b"is cut short\n");
+        return "is cut short";
     }
     if records::inner::get_big(bytes, at, 2) != image::STOP_MARK {
-        return say(b"has another mark\n");
+        return "has another mark";
     }
     let count = records::inner::get_big(bytes, at + 6, 1) as usize;
     if count == 0 {
-        return say(b"has no node\n");
+        return "has no node";
     }
     if entry::NODES < count {
-        return say(b"has more than seven nodes\n");
+        return "has more than seven nodes";
     }
     if left < image::STOP + count * 8 {
-        return say(b"is cut short\n");
+        return "is cut short";
     }
     let used = records::inner::get_big(bytes, at + (7 + count * 8), 1) as usize;
     if entry::METADATA < used {
-        return say(b"has more than 32 bytes of metadata\n");
+        return "has more than 32 bytes of metadata";
     }
     if left < image::STOP + count * 8 + used {
-        return say(b"is cut short\n");
+        return "is cut short";
     }
     if !records::inner::sealed_at(bytes, at, image::STOP - 2 + count * 8 + used) {
-        return say(b"has a sum that is not its bytes'\n");
+        return "has a sum that is not its bytes'";
     }
-    say(b"has metadata, and the header says that there is none\n");
+    "has metadata, and the header says that there is none"
 }
 
 // Which of n records of one kind, the first of which stands at `first`, stands at `at`.
-fn say_place(kind: &[u8], at: usize, first: usize, n: usize) {
+fn say_place(rt: &impl Print, kind: &str, at: usize, first: usize, n: usize) -> io::Result<()> {
     let i = state_cache::inner::above(at as u64, first as u64) / image::CHANGE as u64;
-    say_number(kind, i + 1, b" of ");
-    say_number(b"", n as u64, b", at byte ");
-    say_number(b"", at as u64, b", ");
+    print!(rt; "{kind} {} of {n}, at byte {at}, ", i + 1)
 }
 
 // What is wrong at an offset behind a sound header.
-fn explain_record(bytes: &[u8], at: usize, h: Head) {
+fn explain_record(rt: &impl Print, bytes: &[u8], at: usize, h: Head) -> io::Result<()> {
     let keys = state_cache::inner::least(h.keys as u64, entry::KEYS as u64) as usize;
     let entries = state_cache::inner::least(h.entries as u64, entry::ENTRIES as u64) as usize;
     let keys_end = image::HEAD + keys * image::CHANGE;
     let entries_end = keys_end + entries * image::CHANGE;
     if at < keys_end {
-        say_place(b"key ", at, image::HEAD, keys);
-        return why_change(bytes, at, image::KEY_MARK);
+        say_place(rt, "key", at, image::HEAD, keys)?;
+        return println!(rt; "{}", why_change(bytes, at, image::KEY_MARK));
     }
     if at < entries_end {
-        say_place(b"entry ", at, keys_end, entries);
-        return why_change(bytes, at, image::ENTRY_MARK);
+        say_place(rt, "entry", at, keys_end, entries)?;
+        return println!(rt; "{}", why_change(bytes, at, image::ENTRY_MARK));
     }
     if h.stop & (at == entries_end) {
-        say_number(b"the stop-sign, at byte ", at as u64, b", ");
-        return why_stop(bytes, at);
+        return println!(rt; "the stop-sign, at byte {at}, {}", why_stop(bytes, at));
     }
-    say_number(
-        b"from byte ",
-        at as u64,
-        b" on there are bytes that no record has\n",
-    );
+    println!(rt; "from byte {at} on there are bytes that no record has")
 }
 
-fn explain_head(bytes: &[u8]) {
-    say(b"the header, at byte 0, ");
-    why_head(bytes);
+fn explain_head(rt: &impl Print, bytes: &[u8]) -> io::Result<()> {
+    println!(rt; "the header, at byte 0, {}", why_head(bytes))
 }
 
-pub(crate) fn explain(bytes: &[u8], at: usize) {
+pub(crate) fn explain(rt: &impl Print, bytes: &[u8], at: usize) -> io::Result<()> {
     if bytes.len() < image::HEAD {
-        return explain_head(bytes);
+        return explain_head(rt, bytes);
     }
     if at == 0 {
-        return explain_head(bytes);
+        return explain_head(rt, bytes);
     }
-    explain_record(bytes, at, image::inner::head_at(bytes));
+    explain_record(rt, bytes, at, image::inner::head_at(bytes))
 }

@@ -4,13 +4,16 @@
 
 use image::Judged;
 use keep::Loaded;
-use libc::STDOUT_FILENO;
+use std::io;
+use std::rt::{Env, Files};
 
 mod fault;
 mod show;
 
-// The bytes of the longest task's name, and of a refusal's line.
+// The bytes of the longest task's name, of the longest path, and of a refusal's line.
 const WORD: usize = 5;
+
+const PATH: usize = 4096;
 
 const LINE: usize = 128;
 
@@ -21,44 +24,31 @@ enum Task {
     Unknown,
 }
 
-pub(crate) fn say(words: &[u8]) {
-    io::write_all(STDOUT_FILENO, words);
-}
-
-pub(crate) fn say_number(label: &[u8], n: u64, tail: &[u8]) {
-    say(label);
-    io::print_decimal(STDOUT_FILENO, n);
-    say(tail);
-}
-
 fn task_named(word: &[u8]) -> Task {
-    if check::same(word, b"check") {
-        return Task::Check;
+    match word {
+        b"check" => Task::Check,
+        b"show" => Task::Show,
+        _ => Task::Unknown,
     }
-    if check::same(word, b"show") {
-        return Task::Show;
-    }
-    Task::Unknown
 }
 
 // What the first argument asks for.
-fn asked() -> Task {
+fn asked(rt: &impl Env) -> Task {
     let mut word = [0u8; WORD];
-    let n = os::arg(1, &mut word);
-    if os::errno() != 0 {
-        return Task::Unknown;
+    match rt.arg(1, &mut word) {
+        Ok(n) => task_named(&word[..n]),
+        Err(_) => Task::Unknown,
     }
-    task_named(&word[..n])
 }
 
-fn usage() {
-    say(b"image check FILE: whether the file is the image of a log\n");
-    say(b"image show FILE: what the log holds, or what is wrong with the file\n");
+fn usage(rt: &impl Print) -> io::Result<()> {
+    println!(rt; "image check FILE: whether the file is the image of a log")?;
+    println!(rt; "image show FILE: what the log holds, or what is wrong with the file")
 }
 
-fn say_judged(judged: Judged) {
+fn say_judged(rt: &impl Print, judged: Judged) -> io::Result<()> {
     match judged {
-        Judged::Sound => say(b"sound\n"),
+        Judged::Sound => println!(rt; "sound"),
         Judged::Refused(refusal) => {
             let mut line = [0u8; LINE];
             let n = text::inner::put_refused(
@@ -67,37 +57,35 @@ fn say_judged(judged: Judged) {
                 entry::number(refusal),
                 entry::carried(refusal),
             );
-            say(&line[..n]);
+            rt.write_all(&line[..n])
         }
     }
 }
 
-fn answer(task: Task, bytes: &[u8]) {
+fn answer(rt: &impl Print, task: Task, bytes: &[u8]) -> io::Result<()> {
     match task {
-        Task::Check => say_judged(image::judge(bytes)),
-        Task::Show => show::show(bytes),
-        Task::Unknown => usage(),
+        Task::Check => say_judged(rt, image::judge(bytes)),
+        Task::Show => show::show(rt, bytes),
+        Task::Unknown => usage(rt),
     }
 }
 
 // A byte more than the longest image is read, and no further: what comes after it changes no verdict.
-fn answer_file(task: Task, path: &[u8]) {
+fn answer_file(rt: &(impl Files + Print), task: Task, path: &[u8]) -> io::Result<()> {
     let mut bytes = [0u8; image::ROOM + 1];
-    let loaded = keep::load(path, &mut bytes);
+    let loaded = keep::load(rt, path, &mut bytes);
     match loaded {
-        Loaded::Bytes(n) => answer(task, &bytes[..n]),
-        Loaded::Missing => say(b"no such file\n"),
-        Loaded::Unread => say(b"the file cannot be read\n"),
+        Loaded::Bytes(n) => answer(rt, task, &bytes[..n]),
+        Loaded::Missing => println!(rt; "no such file"),
+        Loaded::Unread => println!(rt; "the file cannot be read"),
     }
 }
 
-fn main() {
-    let task = asked();
-    let mut path = [0u8; libc::PATH_MAX];
-    let n = os::arg(2, &mut path);
-    if os::errno() != 0 {
-        usage();
-        return;
+fn main(rt: HostRuntime) -> io::Result<()> {
+    let task = asked(&rt);
+    let mut path = [0u8; PATH];
+    match rt.arg(2, &mut path) {
+        Ok(n) => answer_file(&rt, task, &path[..n]),
+        Err(_) => usage(&rt),
     }
-    answer_file(task, &path[..n]);
 }

@@ -1,130 +1,144 @@
 // What a log holds, as a person on call reads it.
-use super::{fault, say, say_number};
+use super::fault;
 use entry::{Ballot, Refusal, StopSign};
 use state_cache::{IndexAnswer, IndexRecord};
+use std::io;
 
 // The bytes that the lines of a full log may have.
 const OUT: usize = entry::ENTRIES * text::OUTPUT_LINE;
 
-fn say_ballot(label: &[u8], b: Ballot) {
-    say(label);
-    say_number(b" config_id ", b.config_id as u64, b", n ");
-    say_number(b"", b.n as u64, b", priority ");
-    say_number(b"", b.priority as u64, b", pid ");
-    say_number(b"", b.pid, b"\n");
+fn say_ballot(rt: &impl Print, label: &str, b: Ballot) -> io::Result<()> {
+    println!(rt;
+        "{label} config_id {}, n {}, priority {}, pid {}",
+        b.config_id, b.n, b.priority, b.pid
+    )
 }
 
 // The lines of n entries, the first `decided` of which are decided.
-fn say_changes(label: &[u8], words: &[u64], n: usize, decided: usize) {
-    say_number(label, n as u64, b"\n");
+fn say_changes(
+    rt: &impl Print,
+    label: &str,
+    words: &[u64],
+    n: usize,
+    decided: usize,
+) -> io::Result<()> {
+    println!(rt; "{label} {n}")?;
     if words.len() / entry::WIDTH < n {
-        return;
+        return Ok(());
     }
     if entry::ENTRIES < n {
-        return;
+        return Ok(());
     }
     let mut out = [0u8; OUT];
     let used = text::inner::put_run(&mut out, 0, words, n, decided);
-    say(&out[..used]);
+    rt.write_all(&out[..used])
 }
 
-fn say_nodes(nodes: [u64; entry::NODES], count: usize) {
-    say(b"nodes");
+fn say_nodes(rt: &impl Print, nodes: [u64; entry::NODES], count: usize) -> io::Result<()> {
+    print!(rt; "nodes")?;
     let n = state_cache::inner::least(count as u64, entry::NODES as u64) as usize;
-    let mut i = 0;
-    while i < n {
-        say_number(b" ", nodes[i], b"");
-        i += 1;
+    for node in &nodes[..n] {
+        print!(rt; " {node}")?;
     }
-    say(b"\n");
+    println!(rt; "")
 }
 
-fn say_metadata(held: bool, bytes: [u8; entry::METADATA], used: usize) {
+fn say_metadata(
+    rt: &impl Print,
+    held: bool,
+    bytes: [u8; entry::METADATA],
+    used: usize,
+) -> io::Result<()> {
     if !held {
-        return say(b"no metadata\n");
+        return println!(rt; "no metadata");
     }
-    say(b"metadata");
+    print!(rt; "metadata")?;
     let n = state_cache::inner::least(used as u64, entry::METADATA as u64) as usize;
-    let mut i = 0;
-    while i < n {
-        say_number(b" ", bytes[i] as u64, b"");
-        i += 1;
+    for byte in &bytes[..n] {
+        print!(rt; " {byte}")?;
     }
-    say(b"\n");
+    println!(rt; "")
 }
 
-fn say_stop(held: bool, decided: bool, stop: StopSign) {
+fn say_stop(rt: &impl Print, held: bool, decided: bool, stop: StopSign) -> io::Result<()> {
     if !held {
-        return say(b"no stop-sign\n");
+        return println!(rt; "no stop-sign");
     }
-    say_number(b"stop-sign ", stop.config_id as u64, b"");
+    print!(rt; "stop-sign {}", stop.config_id)?;
     if decided {
-        say(b", decided\n");
+        println!(rt; ", decided")?;
     } else {
-        say(b", undecided\n");
+        println!(rt; ", undecided")?;
     }
     let nodes = stop.nodes;
     let metadata = stop.metadata;
-    say_nodes(nodes, stop.node_count);
-    say_metadata(stop.metadata_held, metadata, stop.metadata_len);
+    say_nodes(rt, nodes, stop.node_count)?;
+    say_metadata(rt, stop.metadata_held, metadata, stop.metadata_len)
 }
 
 // What a snapshot says is decided.
-fn say_snapshot(held: bool, words: &[u64], keys: usize) {
+fn say_snapshot(rt: &impl Print, held: bool, words: &[u64], keys: usize) -> io::Result<()> {
     if held {
-        return say_changes(b"keys ", words, keys, keys);
+        return say_changes(rt, "keys", words, keys, keys);
     }
-    say(b"no snapshot\n");
+    println!(rt; "no snapshot")
 }
 
-fn say_flag(held: bool, name: &[u8]) {
+fn say_flag(rt: &impl Print, held: bool, name: &str) -> io::Result<()> {
     if held {
-        say(name);
+        return print!(rt; " {name}");
     }
+    Ok(())
 }
 
-fn say_flags(index: IndexRecord) {
+fn say_flags(rt: &impl Print, index: IndexRecord) -> io::Result<()> {
     let stop = index.stop;
-    say(b"flags:");
-    say_flag(index.snapshot_held, b" snapshot");
-    say_flag(index.stop_held, b" stop-sign");
-    say_flag(stop.metadata_held, b" metadata");
-    say(b"\n");
+    print!(rt; "flags:")?;
+    say_flag(rt, index.snapshot_held, "snapshot")?;
+    say_flag(rt, index.stop_held, "stop-sign")?;
+    say_flag(rt, stop.metadata_held, "metadata")?;
+    println!(rt; "")
 }
 
-fn say_index(index: IndexRecord, accepted: u64, log: &[u64], snapshot: &[u64]) {
+fn say_index(
+    rt: &impl Print,
+    index: IndexRecord,
+    accepted: u64,
+    log: &[u64],
+    snapshot: &[u64],
+) -> io::Result<()> {
     let decided = index.decided.0;
     let compacted = index.compacted.0;
-    say_flags(index);
-    say_number(b"compacted ", compacted, b"\n");
-    say_number(b"decided ", decided, b"\n");
-    say_number(b"accepted ", accepted, b"\n");
+    say_flags(rt, index)?;
+    println!(rt; "compacted {compacted}")?;
+    println!(rt; "decided {decided}")?;
+    println!(rt; "accepted {accepted}")?;
     let promise = index.promise;
     let round = index.accepted_round;
-    say_ballot(b"promise", promise);
-    say_ballot(b"accepted round", round);
-    say_snapshot(index.snapshot_held, snapshot, index.keys);
+    say_ballot(rt, "promise", promise)?;
+    say_ballot(rt, "accepted round", round)?;
+    say_snapshot(rt, index.snapshot_held, snapshot, index.keys)?;
     let told = state_cache::inner::above(decided, compacted);
-    say_changes(b"entries ", log, index.retained, told as usize);
+    say_changes(rt, "entries", log, index.retained, told as usize)?;
     let stop = index.stop;
-    say_stop(index.stop_held, decided == accepted, stop);
+    say_stop(rt, index.stop_held, decided == accepted, stop)
 }
 
-fn say_refused(refusal: Refusal, bytes: &[u8]) {
+fn say_refused(rt: &impl Print, refusal: Refusal, bytes: &[u8]) -> io::Result<()> {
     match refusal {
-        Refusal::Damaged(at) => fault::explain(bytes, at),
-        _ => say(b"the header, at byte 0, has an unknown format\n"),
+        Refusal::Damaged(at) => fault::explain(rt, bytes, at),
+        _ => println!(rt; "the header, at byte 0, has an unknown format"),
     }
 }
 
-pub(crate) fn show(bytes: &[u8]) {
+pub(crate) fn show(rt: &impl Print, bytes: &[u8]) -> io::Result<()> {
     let mut log = [0u64; entry::LOG_WORDS];
     let mut snapshot = [0u64; entry::SNAPSHOT_WORDS];
     let read = image::read(0, bytes, &mut log, &mut snapshot);
     let index = read.index;
     let answer = read.answer;
     match answer {
-        IndexAnswer::At(accepted) => say_index(index, accepted.0, &log, &snapshot),
-        IndexAnswer::Refused(refusal) => say_refused(refusal, bytes),
+        IndexAnswer::At(accepted) => say_index(rt, index, accepted.0, &log, &snapshot),
+        IndexAnswer::Refused(refusal) => say_refused(rt, refusal, bytes),
     }
 }

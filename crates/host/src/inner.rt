@@ -1,5 +1,5 @@
 // The calls without the judging of the state's form: every call keeps a well-formed state well formed
-// (`runs-formed`), so a host that owns its state and lets nobody else write its words need not have it judged again
+// (`runs_formed`), so a host that owns its state and lets nobody else write its words need not have it judged again
 // at each call; the total calls are for every other caller. Each requires a well-formed state, and says then what the
 // call of the same name says.
 ghost use Rattle.std.specs.Prelude.{◌≡◌, true, [], ◌∷◌};

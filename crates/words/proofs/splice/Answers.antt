@@ -1,4 +1,4 @@
--- `words::splice` meets its contract: its three calls are the three pastes of `splice-law`.
+-- `words::splice` meets its contract: its three calls are the three pastes of `splice_law`.
 use Rattle.words.proofs.{Laws.splice_law}
 use Rattle.words.proofs.splice.Goals as goal
 

@@ -17,7 +17,6 @@ use Rattle.reading.specs.{Parts.part, Replies.lent_span, Replies.marker_said, Re
 use Rattle.reading.specs.{declared.ReadReply.ReadReply, declared.ShownRun.ShownRun}
 use Rattle.replay.specs.Answering.{printout, marker_text, stop_text, shown_text, read_text, in_log, read_text_in}
 use Rattle.replay.specs.Answering.{printed, started_by, stop_line, stopped_by}
-use Rattle.replay.specs.Feeding.{after}
 
 two : {t₁ t₂ : List ℕ} (t₀ a b : List ℕ) → t₁ ≡ t₀ ++ a → t₂ ≡ t₁ ++ b → t₂ ≡ t₀ ++ (a ++ b)
 two t₀ a b p q = q ∙ ap (λ (t : List ℕ). t ++ b) p ∙ append_assoc t₀ a b

@@ -1,12 +1,12 @@
 -- The file: what the program was started with, and what it starts from.
 use Rattle.std.specs.Prelude.{ℕ, ◌≡◌, List, ◌⊎◌}
 use Rattle.std.proofs.Math.Option.{Option}
-use Rattle.io.specs.Counts.{IsPrefixLen}
 use Rattle.entry.specs.Guards.{replied}
 use Rattle.model.specs.Log.{fresh_log}
 use Rattle.state_cache.specs.State.{Raw, raw_of}
 use Rattle.state_cache.specs.Run.{outcome}
 use Rattle.image.specs.Calls.{read_call}
+use Rattle.words.specs.Words.{IsPrefixLen}
 use Rattle.keep.specs.declared.Saved.{Saved}
 use Rattle.keep.specs.declared.Saved.TheVariants as saved
 use Rattle.text.specs.Lines.{lines_of, last_ended}

@@ -1,6 +1,6 @@
 // The input, which comes in parts: lines begin, go on and end in them. Answers wait in `out` until the next might not
 // fit, or until the next part is read.
-ghost use Rattle.std.specs.Prelude.{◌≡◌, false, ◌≤◌, length, take};
+ghost use Rattle.std.specs.Prelude.{◌≡◌, false, ◌≤◌, length, take, IfOk};
 ghost use Rattle.state_cache.specs.State.{Raw, raw};
 ghost use Rattle.text.specs.Lines.{Lines, line_ended, rest_with, ended_if, lines_from, last_ended};
 ghost use Rattle.text.specs.Feeding.{come, joined};
@@ -8,6 +8,8 @@ ghost use Rattle.replay.specs.Feeding.{meaning, out_room, Fed};
 ghost use Rattle.replay.specs.Input.{Reached};
 
 use state_cache::IndexRecord;
+use std::io;
+use std::io::Stdout;
 use text::Command;
 use text::inner::Partial;
 
@@ -49,23 +51,30 @@ fn command_of(held: Partial, line: &[u8]) -> Command
 }
 
 // The end of a line: it is answered on the log, and the next begins.
-fn finish(st: Feed, line: &[u8], log: &mut [u64], snapshot: &mut [u64], out: &mut [u8]) -> Feed
+fn finish(
+    to: Stdout,
+    st: Feed,
+    line: &[u8],
+    log: &mut [u64],
+    snapshot: &mut [u64],
+    out: &mut [u8],
+) -> io::Result<Feed>
     requires { Fed st.held.len st.used (length line.now) (length log.old) (length out.old) }
-    ensures len_in_bounds { (result.held.len ≤ length line.now) × (result.used ≤ out_room) }
-    ensures reached { (from : Raw) (ls : Lines)
+    ensures len_in_bounds { IfOk result (λ fed. (fed.held.len ≤ length line.now) × (fed.used ≤ out_room)) }
+    ensures reached { IfOk result (λ fed. (from : Raw) (ls : Lines)
         → Reached from ls (raw st.index log.old snapshot.old)
         (come st.held.over st.held.len line.now) (take st.used out.old)
-        → Reached from (line_ended ls) (raw result.index log.new snapshot.new)
-        (come result.held.over result.held.len line.now) (take result.used out.new) }
+        → Reached from (line_ended ls) (raw fed.index log.new snapshot.new)
+        (come fed.held.over fed.held.len line.now) (take fed.used out.new)) }
 {
     let used = st.used;
     let index = st.index;
-    let at = text::inner::room(out, used, super::LAST_START);
+    let at = text::inner::room(to, out, used, super::LAST_START)?;
     let command = command_of(st.held, line);
     let done = super::answer::step(index, log, snapshot, command, out, at);
     let next = done.index;
     let o = done.at;
-    Feed {
+    Ok(Feed {
         index: next,
         held: Partial {
             len: 0,
@@ -73,7 +82,7 @@ fn finish(st: Feed, line: &[u8], log: &mut [u64], snapshot: &mut [u64], out: &mu
         },
         used: o,
         more: true,
-    }
+    })
 }
 
 // A part of a line is kept. One that does not fit is not, since the line is then a bad one whatever it says.
@@ -92,6 +101,7 @@ fn keep(part: &[u8], st: Feed, line: &mut [u8]) -> Feed
 
 // Bytes that join the line, and its end, where it comes after them.
 fn take_line(
+    to: Stdout,
     bytes: &[u8],
     ends: bool,
     st: Feed,
@@ -99,69 +109,80 @@ fn take_line(
     log: &mut [u64],
     snapshot: &mut [u64],
     out: &mut [u8],
-) -> Feed
+) -> io::Result<Feed>
     requires { Fed st.held.len st.used (length line.old) (length log.old) (length out.old) }
-    ensures len_in_bounds { (result.held.len ≤ length line.old) × (result.used ≤ out_room) }
-    ensures reached { (from : Raw) (ls : Lines)
+    ensures len_in_bounds { IfOk result (λ fed. (fed.held.len ≤ length line.old) × (fed.used ≤ out_room)) }
+    ensures reached { IfOk result (λ fed. (from : Raw) (ls : Lines)
         → Reached from ls (raw st.index log.old snapshot.old)
         (come st.held.over st.held.len line.old) (take st.used out.old)
         → Reached from (ended_if ends (rest_with bytes.now ls))
-        (raw result.index log.new snapshot.new)
-        (come result.held.over result.held.len line.new) (take result.used out.new) }
+        (raw fed.index log.new snapshot.new)
+        (come fed.held.over fed.held.len line.new) (take fed.used out.new)) }
 {
     let s = keep(bytes, st, line);
     if ends {
-        return finish(s, line, log, snapshot, out);
+        return finish(to, s, line, log, snapshot, out);
     }
-    s
+    Ok(s)
 }
 
 // A part of the input: the lines that end in it are answered, and what comes after the last line end is kept.
 pub(crate) fn take_part(
+    to: Stdout,
     part: &[u8],
     st: Feed,
     line: &mut [u8],
     log: &mut [u64],
     snapshot: &mut [u64],
     out: &mut [u8],
-) -> Feed
+) -> io::Result<Feed>
     requires { Fed st.held.len st.used (length line.old) (length log.old) (length out.old) }
-    ensures len_in_bounds { (result.held.len ≤ length line.old) × (result.used ≤ out_room) }
-    ensures reached { (from : Raw) (ls : Lines)
+    ensures len_in_bounds { IfOk result (λ fed. (fed.held.len ≤ length line.old) × (fed.used ≤ out_room)) }
+    ensures reached { IfOk result (λ fed. (from : Raw) (ls : Lines)
         → Reached from ls (raw st.index log.old snapshot.old)
         (come st.held.over st.held.len line.old) (take st.used out.old)
-        → Reached from (lines_from ls part.now) (raw result.index log.new snapshot.new)
-        (come result.held.over result.held.len line.new) (take result.used out.new) }
+        → Reached from (lines_from ls part.now) (raw fed.index log.new snapshot.new)
+        (come fed.held.over fed.held.len line.new) (take fed.used out.new)) }
 {
     let mut s = st;
     let mut at = 0;
     while at < part.len() {
         let e = at + text::inner::gap(&part[at..], b'\n');
-        s = take_line(&part[at..e], e < part.len(), s, line, log, snapshot, out);
+        s = take_line(
+            to,
+            &part[at..e],
+            e < part.len(),
+            s,
+            line,
+            log,
+            snapshot,
+            out,
+        )?;
         at = e + 1;
     }
-    s
+    Ok(s)
 }
 
 // The end of the input: the last line is answered, where it has a byte.
 pub(crate) fn end(
+    to: Stdout,
     st: Feed,
     line: &[u8],
     log: &mut [u64],
     snapshot: &mut [u64],
     out: &mut [u8],
-) -> Feed
+) -> io::Result<Feed>
     requires { Fed st.held.len st.used (length line.now) (length log.old) (length out.old) }
-    ensures used_le_out_room { result.used ≤ out_room }
-    ensures reached { (from : Raw) (ls : Lines)
+    ensures used_le_out_room { IfOk result (λ fed. fed.used ≤ out_room) }
+    ensures reached { IfOk result (λ fed. (from : Raw) (ls : Lines)
         → Reached from ls (raw st.index log.old snapshot.old)
         (come st.held.over st.held.len line.now) (take st.used out.old)
-        → Reached from (last_ended ls) (raw result.index log.new snapshot.new)
-        (come result.held.over result.held.len line.now) (take result.used out.new) }
+        → Reached from (last_ended ls) (raw fed.index log.new snapshot.new)
+        (come fed.held.over fed.held.len line.now) (take fed.used out.new)) }
 {
     let held = st.held;
     if held.over | (held.len > 0) {
-        return finish(st, line, log, snapshot, out);
+        return finish(to, st, line, log, snapshot, out);
     }
-    st
+    Ok(st)
 }

@@ -8,6 +8,8 @@ use super::told::Told;
 use image::Written;
 use keep::{Loaded, Saved};
 use state_cache::{IndexAnswer, IndexRecord};
+use std::env::FillError;
+use std::rt::Env;
 
 // What the program was started with: no file, one whose name has so many bytes, or what can be no file's name.
 #[derive(Clone, Copy)]
@@ -26,18 +28,15 @@ pub struct Begun {
 
 // The first argument. A name that is empty, or too long for a file that is to be saved, is told before the first line
 // and not after the last.
-pub(crate) fn argument(path: &mut [u8]) -> Given
+pub(crate) fn argument(rt: HostRuntime, path: &mut [u8]) -> Given
     ensures { Named result path.new }
 {
-    let n = os::arg(1, path);
-    let error = os::errno();
-    if error == libc::EINVAL {
-        return Given::Nothing;
+    match rt.arg(1, path) {
+        Err(FillError::NotPresent) => Given::Nothing,
+        Err(FillError::TooLong) => Given::NoName,
+        Ok(0) => Given::NoName,
+        Ok(n) => Given::File(n),
     }
-    if (error != 0) | (n == 0) {
-        return Given::NoName;
-    }
-    Given::File(n)
 }
 
 // A fresh log of batch size 0.
@@ -88,6 +87,7 @@ fn from_image(
 // The log that a file holds, or a fresh one where there is no such file. A byte more than the longest image is read,
 // and no further: what comes after it changes no verdict.
 fn from_file(
+    rt: HostRuntime,
     path: &[u8],
     log: &mut [u64; entry::LOG_WORDS],
     snapshot: &mut [u64; entry::SNAPSHOT_WORDS],
@@ -95,7 +95,7 @@ fn from_file(
     ensures { Started Filed result.told (raw result.index log.new snapshot.new) }
 {
     let mut bytes = [0u8; image::ROOM + 1];
-    let loaded = keep::load(path, &mut bytes);
+    let loaded = keep::load(&rt, path, &mut bytes);
     match loaded {
         Loaded::Bytes(n) => from_image(&bytes[..n], log, snapshot),
         Loaded::Missing => fresh(log, snapshot),
@@ -105,6 +105,7 @@ fn from_file(
 
 // The log before the first line.
 pub(crate) fn begin(
+    rt: HostRuntime,
     given: Given,
     path: &[u8],
     log: &mut [u64; entry::LOG_WORDS],
@@ -115,7 +116,7 @@ pub(crate) fn begin(
 {
     match given {
         Given::Nothing => fresh(log, snapshot),
-        Given::File(n) => from_file(&path[..n], log, snapshot),
+        Given::File(n) => from_file(rt, &path[..n], log, snapshot),
         Given::NoName => none(Told::NoName),
     }
 }
@@ -133,11 +134,17 @@ fn told_saved(saved: Saved) -> Told
 }
 
 // Saves the image of a log.
-fn to_file(path: &[u8], index: IndexRecord, log: &[u64], snapshot: &[u64]) -> Told {
+fn to_file(
+    rt: HostRuntime,
+    path: &[u8],
+    index: IndexRecord,
+    log: &[u64],
+    snapshot: &[u64],
+) -> Told {
     let mut bytes = [0u8; image::ROOM];
     let written = image::write(index, log, snapshot, &mut bytes);
     match written {
-        Written::Bytes(n) => told_saved(keep::save(path, &bytes[..n])),
+        Written::Bytes(n) => told_saved(keep::save(&rt, path, &bytes[..n])),
         Written::Refused(refusal) => {
             let number = entry::number(refusal);
             let carried = entry::carried(refusal);
@@ -148,6 +155,7 @@ fn to_file(path: &[u8], index: IndexRecord, log: &[u64], snapshot: &[u64]) -> To
 
 // Saves the log after the last line, where the program was started with a file.
 pub(crate) fn save(
+    rt: HostRuntime,
     given: Given,
     path: &[u8],
     index: IndexRecord,
@@ -160,7 +168,7 @@ pub(crate) fn save(
 {
     match given {
         Given::Nothing => Told::Nothing,
-        Given::File(n) => to_file(&path[..n], index, log, snapshot),
+        Given::File(n) => to_file(rt, &path[..n], index, log, snapshot),
         Given::NoName => Told::Nothing,
     }
 }

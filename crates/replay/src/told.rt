@@ -1,9 +1,10 @@
 // What is told of the file that the program was started with: a line at most, and none where all is well.
-ghost use Rattle.std.specs.Prelude.{◌≡◌, ◌++◌, ◌+◌, ◌≤◌, ltb, length, take};
+ghost use Rattle.std.specs.Prelude.{◌≡◌, ◌++◌, ◌+◌, ◌≤◌, ltb, length, take, IfOk};
 ghost use Rattle.text.specs.Refusing.{refused_room, refused_text};
 ghost use Rattle.replay.specs.Told.{told_room, told_text};
 
-use libc::STDOUT_FILENO;
+use std::io;
+use std::io::Stdout;
 
 // The most bytes of such a line.
 const TOLD_ROOM: usize = 128;
@@ -73,11 +74,11 @@ fn put_told(out: &mut [u8], told: Told) -> usize
 }
 
 // Writes the line, and says whether there is one.
-pub(crate) fn tell(told: Told) -> bool
-    ensures { result ≡ ltb 0 (length (told_text told)) }
+pub(crate) fn tell(to: Stdout, told: Told) -> io::Result<bool>
+    ensures { IfOk result (λ some. some ≡ ltb 0 (length (told_text told))) }
 {
     let mut out = [0u8; TOLD_ROOM];
     let n = put_told(&mut out, told);
-    io::write_all(STDOUT_FILENO, &out[..n]);
-    n > 0
+    to.write_all(&out[..n])?;
+    Ok(n > 0)
 }

@@ -90,7 +90,8 @@ fn fill<F: Write + OpenFile>(file: &mut F, bytes: &[u8]) -> io::Result<()> {
     file.sync_all()
 }
 
-// Fills a new file, and closes it either way.
+// Fills a new file, and closes it either way. std tells no error of a close; all that was filled has reached the device
+// by then.
 fn fill_and_close<F: Write + OpenFile + Drop>(mut file: F, bytes: &[u8]) -> bool {
     fill(&mut file, bytes).is_ok()
 }

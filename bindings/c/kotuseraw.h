@@ -1,5 +1,5 @@
-/* Every call of the proved library, for C and whatever calls as C does: link libhost.a, which `rt staticlib host` makes in
- * target/staticlib. Records and requests go by value; a slice is a pointer and a length, in words or in bytes as its pointer says.
+/* Every call of the proved library, for C and whatever calls as C does: link libhost.a, which `rt lib` makes in
+ * crates/host/out. Records and requests go by value; a slice is a pointer and a length, in words or in bytes as its pointer says.
  * docs/HOST.md is the reference.
  *
  * What a caller owes: a pointer is valid for its length, aligned and not null, also where the length is 0; a slice that is written

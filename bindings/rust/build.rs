@@ -9,37 +9,45 @@ fn give_up(what: &str) -> ! {
     exit(1);
 }
 
-/// When the newest file below a folder was written; wrong programs are no part of the library.
+/// What stands in a folder; nothing where it is none.
+fn within(at: &Path) -> Vec<PathBuf> {
+    fs::read_dir(at).map(|all| all.flatten().map(|one| one.path()).collect()).unwrap_or_default()
+}
+
+/// The folders of what the library is made of.
+fn sources(root: &Path) -> Vec<PathBuf> {
+    let parts = |one: PathBuf| ["src", "specs", "proofs"].map(|part| one.join(part));
+    within(&root.join("crates")).into_iter().flat_map(parts).filter(|part| part.is_dir()).collect()
+}
+
+/// When the newest file below a folder was written.
 fn newest(at: &Path) -> SystemTime {
     let written = |p: &Path| fs::metadata(p).and_then(|m| m.modified()).unwrap_or(SystemTime::UNIX_EPOCH);
-    match fs::read_dir(at) {
-        Ok(all) => {
-            let parts = all.flatten().map(|one| one.path()).filter(|part| !part.ends_with("must-fail"));
-            parts.map(|part| newest(&part)).max().unwrap_or(SystemTime::UNIX_EPOCH)
-        }
-        Err(_) => written(at),
-    }
+    within(at).iter().map(|one| newest(one)).max().unwrap_or_else(|| written(at))
 }
 
 /// The archive below the repository, made anew where a source is younger.
 fn made(root: &Path) -> PathBuf {
-    let archive = root.join("target/staticlib/libhost.a");
-    println!("cargo:rerun-if-changed={}", root.join("crates").display());
-    println!("cargo:rerun-if-changed={}", archive.display());
-    let young = archive.is_file() && newest(&root.join("crates")) <= newest(&archive);
+    let host = root.join("crates/host");
+    let archive = host.join("out/libhost.a");
+    let sources = sources(root);
+    for at in sources.iter().chain([&archive]) {
+        println!("cargo:rerun-if-changed={}", at.display());
+    }
+    let young = archive.is_file() && sources.iter().all(|at| newest(at) <= newest(&archive));
     if young {
         return archive;
     }
-    match Command::new("rt").args(["staticlib", "host"]).current_dir(root).output() {
+    match Command::new("rt").arg("lib").current_dir(&host).output() {
         Ok(ran) if ran.status.success() && archive.is_file() => archive,
         Ok(ran) => give_up(&format!(
-            "`rt staticlib host` failed in {}:\n{}{}",
-            root.display(),
+            "`rt lib` failed in {}:\n{}{}",
+            host.display(),
             String::from_utf8_lossy(&ran.stdout),
             String::from_utf8_lossy(&ran.stderr)
         )),
         Err(_) => give_up(
-            "missing: the archive of the proved library. Put the Rattle kit's `rt` into PATH, which makes it (`rt staticlib host`, some \
+            "missing: the archive of the proved library. Put the Rattle kit's `rt` into PATH, which makes it (`rt lib` in crates/host, some \
              minutes the first time), or set KOTUSERAW_ARCHIVE to the path of one that was made elsewhere.",
         ),
     }

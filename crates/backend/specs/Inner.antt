@@ -1,8 +1,7 @@
 -- What the inner functions say. In the midst of an operation list: the record and the words, whatever the numbers
 -- are, and what an operation comes to; and a lent slice of operations as a list by value.
-use Rattle.std.specs.Prelude.{ℕ, ◌+◌, ◌≤◌, ◌≡◌, Bool, true, false, ◌||◌, List, [], ◌∷◌, ◌++◌, ltb, eqb, length, take, set, replicate}
+use Rattle.std.specs.Prelude.{ℕ, ◌+◌, ◌≤◌, ◌≡◌, Bool, true, false, ◌||◌, List, [], ◌∷◌, ◌++◌, ltb, eqb, length, take, set, replicate, if◌then◌else◌}
 use Rattle.std.proofs.Math.Option.{none}
-use Rattle.words.specs.If.{if◌then◌else◌}
 use Rattle.entry.specs.Limits.{entry_room, log_words, snapshot_words, most_ops}
 use Rattle.entry.specs.Change.{Change, entries_in, slice_formed, Laid}
 use Rattle.entry.specs.Sign.{sign_formed}

@@ -1,7 +1,6 @@
 -- The request of an operation list, read off its arguments.
-use Rattle.std.specs.Prelude.{ℕ, Bool, ◌&&◌, ◌||◌, not, List, map, leb, eqb, length, take}
+use Rattle.std.specs.Prelude.{ℕ, Bool, ◌&&◌, ◌||◌, not, List, map, leb, eqb, length, take, if◌then◌else◌}
 use Rattle.std.proofs.Math.Option.{none, some}
-use Rattle.words.specs.If.{if◌then◌else◌}
 use Rattle.entry.specs.Limits.{snapshot_words, most_ops}
 use Rattle.entry.specs.Change.{entries_of, entries_in, whole_in}
 use Rattle.snapshot.specs.Calls.{snapshot_formed}

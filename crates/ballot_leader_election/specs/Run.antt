@@ -1,8 +1,7 @@
 -- What a call comes to: of any state, its answer and the state after it. Every exported call is an equation with `run`,
 -- and the one that makes a state with `with_call`.
-use Rattle.std.specs.Prelude.{ℕ, ◌||◌, not, List, [], ◌∷◌, ltb, eqb, length}
+use Rattle.std.specs.Prelude.{ℕ, ◌||◌, not, List, [], ◌∷◌, ltb, eqb, length, if◌then◌else◌}
 use Rattle.std.proofs.Math.Option.{Option, none, some}
-use Rattle.words.specs.If.{if◌then◌else◌}
 use Rattle.entry.specs.Limits.{most_peers}
 use Rattle.entry.specs.Guards.{Guard, guard, Verdict, passes, refuses, first, Answer, refused, replied, refused_by}
 use Rattle.entry.specs.declared.Ballot.{Ballot}

@@ -1,7 +1,6 @@
 -- Document 003, function by function: what a round shows, the steps of a timeout, rounds and messages.
-use Rattle.std.specs.Prelude.{ℕ, ◌+◌, ◌/◌, Bool, true, false, ◌&&◌, ◌||◌, not, List, [], ◌∷◌, ◌++◌, map, leb, eqb, length}
+use Rattle.std.specs.Prelude.{ℕ, ◌+◌, ◌/◌, Bool, true, false, ◌&&◌, ◌||◌, not, List, [], ◌∷◌, ◌++◌, map, leb, eqb, length, if◌then◌else◌}
 use Rattle.std.proofs.Math.Option.{Option, none, some}
-use Rattle.words.specs.If.{if◌then◌else◌}
 use Rattle.words.specs.All.{any_of, count_of}
 use Rattle.entry.specs.Order.{ballot_order, same_ballot, no_ballot}
 use Rattle.entry.specs.declared.Ballot.{Ballot}

@@ -1,7 +1,6 @@
 // What the replies of a round show. Each loop has one way out, and takes every reply that is held, a repeated one too.
-ghost use Rattle.std.specs.Prelude.{◌≡◌, not, ◌<◌};
+ghost use Rattle.std.specs.Prelude.{◌≡◌, not, ◌<◌, if◌then◌else◌};
 ghost use Rattle.std.proofs.Math.Option.{some};
-ghost use Rattle.words.specs.If.{if◌then◌else◌};
 ghost use Rattle.words.specs.All.{any_of};
 ghost use Rattle.ballot_leader_election.specs.State.{replies_in};
 ghost use Rattle.ballot_leader_election.specs.Steps.{above, later_of, max_ballot, potential_followers};

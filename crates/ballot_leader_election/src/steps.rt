@@ -1,7 +1,6 @@
 // The steps of a timeout on where a node stands, in the Rust's order: the leader, happiness, the takeover and, after
 // the new round, the promise.
-ghost use Rattle.std.specs.Prelude.{◌≡◌, true, ◌≤◌, ◌<◌};
-ghost use Rattle.words.specs.If.{if◌then◌else◌};
+ghost use Rattle.std.specs.Prelude.{◌≡◌, true, ◌≤◌, ◌<◌, if◌then◌else◌};
 ghost use Rattle.entry.specs.Limits.{most_peers, last_round};
 ghost use Rattle.entry.specs.Guards.{replied};
 ghost use Rattle.ballot_leader_election.specs.State.{standing_in, replies_in};

@@ -1,7 +1,6 @@
 -- An entry: "a 64-bit key with either a block place below 2^48 or removed". Its form, and the words that it is:
 -- nothing but this crate says how many there are, and what each of them means.
-use Rattle.std.specs.Prelude.{ℕ, ◌*◌, ◌/◌, ◌%◌, ◌≤◌, ◌≡◌, Bool, true, ◌&&◌, List, [], ◌∷◌, ltb, leb, eqb, length, get_or, take, drop}
-use Rattle.words.specs.If.{if◌then◌else◌}
+use Rattle.std.specs.Prelude.{ℕ, ◌*◌, ◌/◌, ◌%◌, ◌≤◌, ◌≡◌, Bool, true, ◌&&◌, List, [], ◌∷◌, ltb, leb, eqb, length, get_or, take, drop, if◌then◌else◌}
 use Rattle.words.specs.All.{all_of}
 use Rattle.words.specs.Words.{laid, all_zero}
 use Rattle.words.specs.Coded.{Code, entries_at, laid_out}

@@ -1,6 +1,5 @@
 -- Ballots: "order compares n, priority, pid; equality also compares config_id".
-use Rattle.std.specs.Prelude.{ℕ, Bool, ◌&&◌, ltb, eqb}
-use Rattle.words.specs.If.{if◌then◌else◌}
+use Rattle.std.specs.Prelude.{ℕ, Bool, ◌&&◌, ltb, eqb, if◌then◌else◌}
 use Rattle.entry.specs.declared.Ballot.{Ballot}
 use Rattle.entry.specs.declared.Ordering.{Ordering}
 use Rattle.entry.specs.declared.Ordering.TheVariants.{Less, Equal, Greater}

@@ -1,8 +1,7 @@
 -- A reply on a key, and the words that it is: what is said of the key, or nothing, which is unknown. Nothing but this
 -- crate says how many words there are, and what each of them means.
-use Rattle.std.specs.Prelude.{ℕ, ◌*◌, ◌/◌, Bool, true, List, [], ◌∷◌, leb, eqb, length, get_or, take, drop}
+use Rattle.std.specs.Prelude.{ℕ, ◌*◌, ◌/◌, Bool, true, List, [], ◌∷◌, leb, eqb, length, get_or, take, drop, if◌then◌else◌}
 use Rattle.std.proofs.Math.Option.{Option, none, some}
-use Rattle.words.specs.If.{if◌then◌else◌}
 use Rattle.words.specs.Coded.{Code}
 use Rattle.entry.specs.Limits.{reply_width, unknown_word}
 use Rattle.entry.specs.Change.{Said, said_is, said_formed, said_of, word_of}

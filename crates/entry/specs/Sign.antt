@@ -1,8 +1,7 @@
 -- A stop-sign: "a 32-bit configuration id, up to seven node ids and up to 32 metadata bytes, or no metadata. At least
 -- one node; unused array elements are zero." The id's 32 bits and the arrays' lengths are known by the struct's
 -- types.
-use Rattle.std.specs.Prelude.{ℕ, Bool, false, ◌&&◌, ◌||◌, not, List, leb, eqb, length, drop, replicate}
-use Rattle.words.specs.If.{if◌then◌else◌}
+use Rattle.std.specs.Prelude.{ℕ, Bool, false, ◌&&◌, ◌||◌, not, List, leb, eqb, length, drop, replicate, if◌then◌else◌}
 use Rattle.words.specs.Words.{all_zero}
 use Rattle.entry.specs.Limits.{most_nodes, most_metadata}
 use Rattle.entry.specs.declared.StopSign.{StopSign}

@@ -1,8 +1,7 @@
 -- What a read says, as the host sees it.
-use Rattle.std.specs.Prelude.{ℕ, false, List, [], leb, eqb, length}
+use Rattle.std.specs.Prelude.{ℕ, false, List, [], leb, eqb, length, if◌then◌else◌}
 use Rattle.std.proofs.Math.Option.{Option, none, some}
 use Rattle.std.proofs.Math.Seq.{paste}
-use Rattle.words.specs.If.{if◌then◌else◌}
 use Rattle.entry.specs.Guards.{Answer, refused, replied}
 use Rattle.model.specs.Log.{given}
 use Rattle.model.specs.Read.{Marker, trimmed, snapshotted, Shown}

@@ -1,8 +1,7 @@
 -- Requests as the host writes them. A kind is its place in the library's enum, from 0; one that there is not makes a
 -- request malformed.
-use Rattle.std.specs.Prelude.{ℕ, Bool, ◌&&◌, ◌||◌, List, [], ◌∷◌, map, leb, ltb, eqb, take}
+use Rattle.std.specs.Prelude.{ℕ, Bool, ◌&&◌, ◌||◌, List, [], ◌∷◌, map, leb, ltb, eqb, take, if◌then◌else◌}
 use Rattle.std.proofs.Math.Option.{Option, none, some}
-use Rattle.words.specs.If.{if◌then◌else◌}
 use Rattle.entry.specs.Limits.{last_word}
 use Rattle.entry.specs.Change.{Said, place, removed}
 use Rattle.entry.specs.declared.Compaction.{Compaction}

@@ -1,6 +1,5 @@
 // Requests, from numbers. A kind that there is not makes a request that is malformed: 11, after 12.
-ghost use Rattle.std.specs.Prelude.{◌≡◌, ◌≤◌, ltb};
-ghost use Rattle.words.specs.If.{if◌then◌else◌};
+ghost use Rattle.std.specs.Prelude.{◌≡◌, ◌≤◌, ltb, if◌then◌else◌};
 ghost use Rattle.entry.specs.Limits.{last_word};
 ghost use Rattle.entry.specs.Change.{said_is};
 ghost use Rattle.entry.specs.Upto.{upto_of};

@@ -1,6 +1,5 @@
 -- What the inner functions say and require.
-use Rattle.std.specs.Prelude.{ℕ, zero, suc, ◌+◌, ◌≤◌, ◌≡◌, Bool, true, ◌&&◌, List, [], ◌∷◌, ◌++◌, eqb, length, take, drop}
-use Rattle.words.specs.If.{if◌then◌else◌}
+use Rattle.std.specs.Prelude.{ℕ, zero, suc, ◌+◌, ◌≤◌, ◌≡◌, Bool, true, ◌&&◌, List, [], ◌∷◌, ◌++◌, eqb, length, take, drop, if◌then◌else◌}
 use Rattle.records.specs.Big.{value}
 use Rattle.records.specs.Sealed.{unpacked, sealed, is_sealed}
 use Rattle.entry.specs.Limits.{largest_batch, log_words, snapshot_words}

@@ -1,7 +1,6 @@
 -- What each record of an image has in it, field by field: "Each record starts with a two-byte mark: C7 48 header,
 -- C7 4B key, C7 45 entry, C7 53 stop-sign".
-use Rattle.std.specs.Prelude.{ℕ, ◌+◌, ◌*◌, ◌/◌, ◌%◌, ◌^◌, Bool, List, [], ◌∷◌, ◌++◌, map, eqb, take, replicate}
-use Rattle.words.specs.If.{if◌then◌else◌}
+use Rattle.std.specs.Prelude.{ℕ, ◌+◌, ◌*◌, ◌/◌, ◌%◌, ◌^◌, Bool, List, [], ◌∷◌, ◌++◌, map, eqb, take, replicate, if◌then◌else◌}
 use Rattle.records.specs.Sealed.{Field, field, sealed}
 use Rattle.entry.specs.Limits.{width, key_room, entry_room, most_nodes, most_metadata}
 use Rattle.entry.specs.Change.{Change, change_code}

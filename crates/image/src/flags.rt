@@ -1,7 +1,6 @@
 // The header's flag byte, set and tested with masks.
-ghost use Rattle.std.specs.Prelude.{◌≡◌, not, ltb, eqb};
+ghost use Rattle.std.specs.Prelude.{◌≡◌, not, ltb, eqb, if◌then◌else◌};
 ghost use Rattle.std.specs.Int.Bits.{bit_and, bit_or};
-ghost use Rattle.words.specs.If.{if◌then◌else◌};
 ghost use Rattle.image.specs.Layout.{flag_byte, bit_held};
 
 const SNAPSHOT_HELD: u8 = 1;

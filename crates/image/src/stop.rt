@@ -1,6 +1,5 @@
 // A stop-sign's record: put, judged and loaded.
-ghost use Rattle.std.specs.Prelude.{◌≡◌, true, map, ◌+◌, ◌*◌, ◌≤◌, length, take, drop, replicate};
-ghost use Rattle.words.specs.If.{if◌then◌else◌};
+ghost use Rattle.std.specs.Prelude.{◌≡◌, true, map, ◌+◌, ◌*◌, ◌≤◌, length, take, drop, replicate, if◌then◌else◌};
 ghost use Rattle.words.specs.Words.{laid, spliced};
 ghost use Rattle.entry.specs.Limits.{most_nodes, most_metadata};
 ghost use Rattle.entry.specs.Sign.{sign_formed, no_sign};

@@ -1,7 +1,6 @@
 -- What the inner functions say: the first refusal of numbers, a call that moves no word, and what a batch comes to.
-use Rattle.std.specs.Prelude.{ℕ, ◌+◌, ◌*◌, ◌≡◌, true, List, leb, eqb, length}
+use Rattle.std.specs.Prelude.{ℕ, ◌+◌, ◌*◌, ◌≡◌, true, List, leb, eqb, length, if◌then◌else◌}
 use Rattle.std.proofs.Math.Option.{Option, none, some}
-use Rattle.words.specs.If.{if◌then◌else◌}
 use Rattle.entry.specs.Limits.{width}
 use Rattle.entry.specs.Change.{entries_formed, entries_of}
 use Rattle.entry.specs.Guards.{Verdict, passes, refuses, Answer, refused, replied}

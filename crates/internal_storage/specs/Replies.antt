@@ -1,7 +1,6 @@
 -- What the answers say in document 01's words.
-use Rattle.std.specs.Prelude.{ℕ, Bool}
+use Rattle.std.specs.Prelude.{ℕ, Bool, if◌then◌else◌}
 use Rattle.std.proofs.Math.Option.{Option, none, some}
-use Rattle.words.specs.If.{if◌then◌else◌}
 use Rattle.entry.specs.Guards.{Answer, refused, replied, refused_by}
 use Rattle.entry.specs.declared.StopSign.{StopSign}
 use Rattle.model.specs.Append.{Flushed}

@@ -1,7 +1,6 @@
 -- Module 3: appends, the stop-sign, flushes and reload.
-use Rattle.std.specs.Prelude.{ℕ, ◌+◌, Bool, ◌&&◌, List, [], ◌∷◌, ◌++◌, ltb, leb, eqb, length}
+use Rattle.std.specs.Prelude.{ℕ, ◌+◌, Bool, ◌&&◌, List, [], ◌∷◌, ◌++◌, ltb, leb, eqb, length, if◌then◌else◌}
 use Rattle.std.proofs.Math.Option.{Option, none, some}
-use Rattle.words.specs.If.{if◌then◌else◌}
 use Rattle.entry.specs.Limits.{entry_room, last_index}
 use Rattle.entry.specs.Change.{Change}
 use Rattle.entry.specs.Guards.{Guard, guard}

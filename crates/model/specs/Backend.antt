@@ -1,7 +1,6 @@
 -- Module 4: the operation list.
-use Rattle.std.specs.Prelude.{ℕ, ◌+◌, ◌-◌, max, Bool, true, ◌&&◌, ◌||◌, not, List, [], ◌∷◌, ◌++◌, ltb, leb, eqb, length, take, drop}
+use Rattle.std.specs.Prelude.{ℕ, ◌+◌, ◌-◌, max, Bool, true, ◌&&◌, ◌||◌, not, List, [], ◌∷◌, ◌++◌, ltb, leb, eqb, length, take, drop, if◌then◌else◌}
 use Rattle.std.proofs.Math.Option.{Option, none}
-use Rattle.words.specs.If.{if◌then◌else◌}
 use Rattle.words.specs.All.{all_of}
 use Rattle.entry.specs.Limits.{entry_room, last_index, most_ops}
 use Rattle.entry.specs.Change.{Change, entries_formed}

@@ -1,8 +1,7 @@
 -- Module 6, and of document 02 the one call of E7, told trim or snapshot and an index or all; and E2's hole, which a
 -- trim may leave.
-use Rattle.std.specs.Prelude.{ℕ, ◌-◌, Bool, true, false, ◌&&◌, List, [], ◌∷◌, ltb, drop}
+use Rattle.std.specs.Prelude.{ℕ, ◌-◌, Bool, true, false, ◌&&◌, List, [], ◌∷◌, ltb, drop, if◌then◌else◌}
 use Rattle.std.proofs.Math.Option.{Option, none, some}
-use Rattle.words.specs.If.{if◌then◌else◌}
 use Rattle.entry.specs.Change.{Change}
 use Rattle.entry.specs.Guards.{Guard, guard}
 use Rattle.entry.specs.declared.Compaction.{Compaction}

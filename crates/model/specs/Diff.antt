@@ -1,7 +1,6 @@
 -- Module 7: what a follower lacks.
-use Rattle.std.specs.Prelude.{ℕ, Bool, ◌&&◌, List, ltb, leb}
+use Rattle.std.specs.Prelude.{ℕ, Bool, ◌&&◌, List, ltb, leb, if◌then◌else◌}
 use Rattle.std.proofs.Math.Option.{Option, none, some}
-use Rattle.words.specs.If.{if◌then◌else◌}
 use Rattle.entry.specs.Change.{Change}
 use Rattle.entry.specs.Guards.{Guard}
 use Rattle.snapshot.specs.Folds.{fold}

@@ -1,7 +1,6 @@
 -- The history of a log as document 01 defines it, and a run of calls with what their syncs stand for.
-use Rattle.std.specs.Prelude.{ℕ, ◌-◌, ◌≡◌, Bool, true, false, List, [], ◌∷◌, ◌++◌, length, take}
+use Rattle.std.specs.Prelude.{ℕ, ◌-◌, ◌≡◌, Bool, true, false, List, [], ◌∷◌, ◌++◌, length, take, if◌then◌else◌}
 use Rattle.std.proofs.Math.Option.{none, some}
-use Rattle.words.specs.If.{if◌then◌else◌}
 use Rattle.entry.specs.Change.{Change}
 use Rattle.entry.specs.Guards.{Verdict, passes, refuses, first}
 use Rattle.snapshot.specs.Folds.{fold}

@@ -1,6 +1,5 @@
 -- "The log and its numbers": the numbers of a state, what they come to, and when they are well formed.
-use Rattle.std.specs.Prelude.{ℕ, ◌+◌, ◌-◌, Bool, ◌&&◌, ◌||◌, not, ltb, leb, eqb}
-use Rattle.words.specs.If.{if◌then◌else◌}
+use Rattle.std.specs.Prelude.{ℕ, ◌+◌, ◌-◌, Bool, ◌&&◌, ◌||◌, not, ltb, leb, eqb, if◌then◌else◌}
 use Rattle.entry.specs.Limits.{entry_room, last_index, largest_batch}
 
 -- entries are counted here, and a stop-sign is held or not

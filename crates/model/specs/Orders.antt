@@ -1,7 +1,6 @@
 -- The table's rows for each call: "Order, first that applies. All: 12, 11", and then `order_of`; and "Carries".
-use Rattle.std.specs.Prelude.{ℕ, List, [], ◌∷◌, ◌++◌, eqb}
+use Rattle.std.specs.Prelude.{ℕ, List, [], ◌∷◌, ◌++◌, eqb, if◌then◌else◌}
 use Rattle.std.proofs.Math.Option.{Option, none, some}
-use Rattle.words.specs.If.{if◌then◌else◌}
 use Rattle.model.specs.Numbers.{Numbers, end_of, accepted_of}
 use Rattle.model.specs.Compact.{snapshots_only}
 use Rattle.model.specs.Sync.{Part, part_numbers, decided_then, accepted_then}

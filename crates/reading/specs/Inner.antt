@@ -1,7 +1,6 @@
 -- What the inner functions reply, by a record's numbers: what stands at an index, and the rule of module 5's read. That
 -- what they say is what the model shows is proved.
-use Rattle.std.specs.Prelude.{ℕ, ◌-◌, ◌≤◌, ◌<◌, min, false, ◌&&◌, ◌||◌, ltb, leb, eqb}
-use Rattle.words.specs.If.{if◌then◌else◌}
+use Rattle.std.specs.Prelude.{ℕ, ◌-◌, ◌≤◌, ◌<◌, min, false, ◌&&◌, ◌||◌, ltb, leb, eqb, if◌then◌else◌}
 use Rattle.model.specs.Numbers.{Numbers, end_of, accepted_of, stop_decided}
 use Rattle.state_cache.specs.State.{numbers_in}
 use Rattle.state_cache.specs.declared.IndexRecord.{IndexRecord}

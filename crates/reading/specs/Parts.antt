@@ -1,6 +1,5 @@
 -- "The entries are shown as a part of the lent log itself": that part, by its first entry and how many there are.
-use Rattle.std.specs.Prelude.{ℕ, ◌+◌, ◌*◌, List, [], leb, length, take, drop}
-use Rattle.words.specs.If.{if◌then◌else◌}
+use Rattle.std.specs.Prelude.{ℕ, ◌+◌, ◌*◌, List, [], leb, length, take, drop, if◌then◌else◌}
 use Rattle.entry.specs.Limits.{width}
 
 -- the words of so many entries from the first-th on, none where they do not lie in the slice

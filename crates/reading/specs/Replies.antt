@@ -1,7 +1,6 @@
 -- What the code's bounds and read replies say in the model's words, and the words of the entries that they show.
-use Rattle.std.specs.Prelude.{ℕ, ◌*◌, List, [], length, drop}
+use Rattle.std.specs.Prelude.{ℕ, ◌*◌, List, [], length, drop, if◌then◌else◌}
 use Rattle.std.proofs.Math.Option.{Option, none, some}
-use Rattle.words.specs.If.{if◌then◌else◌}
 use Rattle.entry.specs.Limits.{width}
 use Rattle.entry.specs.Change.{entries_of}
 use Rattle.entry.specs.Guards.{Answer, refused, replied, refused_by}

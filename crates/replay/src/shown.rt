@@ -1,8 +1,7 @@
 // The lines of what a read shows. Each function puts bytes into out from index `at` on, and answers the index after
 // them.
-ghost use Rattle.std.specs.Prelude.{◌≡◌, List, ◌++◌, ℕ, ◌+◌, ◌≤◌, length, take};
+ghost use Rattle.std.specs.Prelude.{◌≡◌, List, ◌++◌, ℕ, ◌+◌, ◌≤◌, length, take, if◌then◌else◌};
 ghost use Rattle.std.proofs.Math.Option.{none, some};
-ghost use Rattle.words.specs.If.{if◌then◌else◌};
 ghost use Rattle.entry.specs.Limits.{log_words};
 ghost use Rattle.model.specs.Log.{given};
 ghost use Rattle.state_cache.specs.State.{raw, one_if};

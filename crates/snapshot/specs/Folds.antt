@@ -1,7 +1,6 @@
 -- Snapshots: document 01, module 2. Nothing here speaks of words or slices.
-use Rattle.std.specs.Prelude.{ℕ, Bool, true, ◌&&◌, List, [], ◌∷◌, ltb, leb, eqb, length}
+use Rattle.std.specs.Prelude.{ℕ, Bool, true, ◌&&◌, List, [], ◌∷◌, ltb, leb, eqb, length, if◌then◌else◌}
 use Rattle.std.proofs.Math.Option.{Option, none, some, or_else}
-use Rattle.words.specs.If.{if◌then◌else◌}
 use Rattle.entry.specs.Change.{Said, Change}
 
 -- a change put at its key: in the place of an equal one, else before the first larger one

@@ -1,6 +1,5 @@
 -- What the inner functions say: a search among ascending keys, and a fold in so many words.
-use Rattle.std.specs.Prelude.{ℕ, suc, ◌*◌, ◌≤◌, ◌≡◌, Bool, true, false, List, [], ◌∷◌, ltb, leb, eqb, length}
-use Rattle.words.specs.If.{if◌then◌else◌}
+use Rattle.std.specs.Prelude.{ℕ, suc, ◌*◌, ◌≤◌, ◌≡◌, Bool, true, false, List, [], ◌∷◌, ltb, leb, eqb, length, if◌then◌else◌}
 use Rattle.entry.specs.Limits.{width, snapshot_words}
 use Rattle.entry.specs.Change.{Change, entries_formed, entries_of, stored, Laid}
 use Rattle.entry.specs.Guards.{first}

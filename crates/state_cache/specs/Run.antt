@@ -1,7 +1,6 @@
 -- What a call comes to: of any state and any request, its answer and the state after it. Every exported call is an
 -- equation with `run`.
-use Rattle.std.specs.Prelude.{ℕ, Bool, ◌&&◌, not, List, ◌∷◌, leb, eqb, length}
-use Rattle.words.specs.If.{if◌then◌else◌}
+use Rattle.std.specs.Prelude.{ℕ, Bool, ◌&&◌, not, List, ◌∷◌, leb, eqb, length, if◌then◌else◌}
 use Rattle.entry.specs.Limits.{largest_batch, log_words, snapshot_words}
 use Rattle.entry.specs.Guards.{guard, Verdict, passes, refuses, first, Answer, refused, replied, refused_by}
 use Rattle.model.specs.Numbers.{Numbers}

@@ -1,8 +1,7 @@
 -- The state as a caller lends it: when it is well formed, the log that it stands for, and the state that stands for a
 -- log.
-use Rattle.std.specs.Prelude.{ℕ, ◌+◌, ◌*◌, Bool, ◌&&◌, ◌||◌, not, List, ◌++◌, eqb, length, drop}
+use Rattle.std.specs.Prelude.{ℕ, ◌+◌, ◌*◌, Bool, ◌&&◌, ◌||◌, not, List, ◌++◌, eqb, length, drop, if◌then◌else◌}
 use Rattle.std.proofs.Math.Option.{Option, none, some}
-use Rattle.words.specs.If.{if◌then◌else◌}
 use Rattle.entry.specs.Limits.{width, log_words, snapshot_words}
 use Rattle.entry.specs.Change.{entries_of, stored, stored_in}
 use Rattle.entry.specs.Sign.{sign_formed, sign_blank, no_sign, blank}

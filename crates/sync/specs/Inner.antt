@@ -1,7 +1,6 @@
 -- What the inner functions say: the snapshot held after a sync, the record after it, its marks, its run and its
 -- stop-sign; and the log's words after it.
-use Rattle.std.specs.Prelude.{ℕ, ◌+◌, ◌-◌, ◌*◌, ◌≤◌, ◌≡◌, Bool, true, false, ◌||◌, not, List, length, take}
-use Rattle.words.specs.If.{if◌then◌else◌}
+use Rattle.std.specs.Prelude.{ℕ, ◌+◌, ◌-◌, ◌*◌, ◌≤◌, ◌≡◌, Bool, true, false, ◌||◌, not, List, length, take, if◌then◌else◌}
 use Rattle.words.specs.Words.{laid, spliced}
 use Rattle.entry.specs.Limits.{width, entry_room, log_words, snapshot_words}
 use Rattle.entry.specs.Change.{Change, Laid, whole_in}

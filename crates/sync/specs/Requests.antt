@@ -1,7 +1,6 @@
 -- A sync's request, read off the arguments: its log part, if it has one, and whether the lent words are in form.
-use Rattle.std.specs.Prelude.{ℕ, Bool, true, false, ◌&&◌, ◌||◌, not, List, eqb, length}
+use Rattle.std.specs.Prelude.{ℕ, Bool, true, false, ◌&&◌, ◌||◌, not, List, eqb, length, if◌then◌else◌}
 use Rattle.std.proofs.Math.Option.{Option, none, some}
-use Rattle.words.specs.If.{if◌then◌else◌}
 use Rattle.entry.specs.Limits.{snapshot_words}
 use Rattle.entry.specs.Change.{Change, entries_formed, entries_of, entries_in, whole_in}
 use Rattle.entry.specs.Sign.{sign_formed}

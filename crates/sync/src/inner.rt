@@ -1,7 +1,6 @@
 // What a sync does once the state is known to be well formed: not for a user, whose call is in lib.rt.
-ghost use Rattle.std.specs.Prelude.{◌-◌, ◌≤◌, ◌≡◌, true, false};
+ghost use Rattle.std.specs.Prelude.{◌-◌, ◌≤◌, ◌≡◌, true, false, if◌then◌else◌};
 ghost use Rattle.std.proofs.Math.Option.{some};
-ghost use Rattle.words.specs.If.{if◌then◌else◌};
 ghost use Rattle.entry.specs.Guards.{first};
 ghost use Rattle.entry.specs.Limits.{snapshot_words};
 ghost use Rattle.entry.specs.Change.{entries_of};

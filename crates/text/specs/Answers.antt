@@ -1,7 +1,6 @@
 -- What the program prints, as bytes: the lines of document 01's replay, and document 02's `place P`, `removed` and
 -- `unknown`.
-use Rattle.std.specs.Prelude.{ℕ, zero, suc, ◌+◌, ◌-◌, ◌/◌, ◌%◌, Bool, List, [], ◌∷◌, ◌++◌, ltb}
-use Rattle.words.specs.If.{if◌then◌else◌}
+use Rattle.std.specs.Prelude.{ℕ, zero, suc, ◌+◌, ◌-◌, ◌/◌, ◌%◌, Bool, List, [], ◌∷◌, ◌++◌, ltb, if◌then◌else◌}
 use Rattle.entry.specs.Change.{Said, place, removed, Change}
 use Rattle.text.specs.Bytes.{bytes}
 use Rattle.text.specs.Rooms.{most_digits}

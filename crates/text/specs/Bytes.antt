@@ -1,8 +1,7 @@
 -- A text as bytes: for texts of ASCII alone, whose characters are their bytes. And where a byte stands first.
-use Rattle.std.specs.Prelude.{ℕ, suc, List, [], ◌∷◌, eqb}
+use Rattle.std.specs.Prelude.{ℕ, suc, List, [], ◌∷◌, eqb, if◌then◌else◌}
 use Prim.Native.Char.{code}
 use Prim.Native.String.{String, [] as none, ◌∷◌ as ◌then◌}
-use Rattle.words.specs.If.{if◌then◌else◌}
 
 abbrev pub bytes : String → List ℕ
 bytes none = []

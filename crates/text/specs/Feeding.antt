@@ -1,7 +1,6 @@
 -- Lines that come in parts, and answers that wait to be written.
-use Rattle.std.specs.Prelude.{ℕ, ◌+◌, Bool, true, false, List, ◌++◌, leb, length, take}
+use Rattle.std.specs.Prelude.{ℕ, ◌+◌, Bool, true, false, List, ◌++◌, leb, length, take, if◌then◌else◌}
 use Rattle.std.proofs.Math.Option.{Option, none, some}
-use Rattle.words.specs.If.{if◌then◌else◌}
 
 -- the bytes of a line that have come, or none where they are more than its buffer holds
 abbrev pub come : Bool → ℕ → List ℕ → Option (List ℕ)

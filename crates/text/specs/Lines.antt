@@ -1,6 +1,5 @@
 -- The lines of an input.
-use Rattle.std.specs.Prelude.{ℕ, Bool, List, [], ◌∷◌, ◌++◌, eqb}
-use Rattle.words.specs.If.{if◌then◌else◌}
+use Rattle.std.specs.Prelude.{ℕ, Bool, List, [], ◌∷◌, ◌++◌, eqb, if◌then◌else◌}
 
 -- those that have ended, without their line ends, and the bytes of the one that has not
 pub record Lines : Type 0 where

@@ -1,6 +1,5 @@
 -- "Numbers are decimal without leading zeros; one past 64 bits .. makes a bad line."
-use Rattle.std.specs.Prelude.{ℕ, ◌+◌, ◌-◌, ◌*◌, ◌^◌, Bool, false, ◌&&◌, not, List, [], ◌∷◌, ltb, leb, eqb}
-use Rattle.words.specs.If.{if◌then◌else◌}
+use Rattle.std.specs.Prelude.{ℕ, ◌+◌, ◌-◌, ◌*◌, ◌^◌, Bool, false, ◌&&◌, not, List, [], ◌∷◌, ltb, leb, eqb, if◌then◌else◌}
 use Rattle.words.specs.All.{all_of}
 use Rattle.text.specs.declared.Parsed.{Parsed}
 use Rattle.text.specs.declared.Parsed.TheVariants.{Value, NoNumber}

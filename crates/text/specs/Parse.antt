@@ -1,8 +1,7 @@
 -- What a line means: "Commands are the nine shown, with `snap` taking an index or `all`. .. Other lines print `bad
 -- line`." And document 02: ""All" is now open to trimming too (`trim all`)", and the program "gains `find K`".
-use Rattle.std.specs.Prelude.{ℕ, ◌^◌, Bool, true, false, ◌&&◌, List, [], ◌∷◌, ltb, eqb}
+use Rattle.std.specs.Prelude.{ℕ, ◌^◌, Bool, true, false, ◌&&◌, List, [], ◌∷◌, ltb, eqb, if◌then◌else◌}
 use Prim.Native.String.{String}
-use Rattle.words.specs.If.{if◌then◌else◌}
 use Rattle.entry.specs.declared.Compaction.{Compaction}
 use Rattle.entry.specs.declared.Compaction.TheVariants.{Trim, Snapshot}
 use Rattle.entry.specs.declared.Upto.TheVariants.{All, Index}

@@ -1,6 +1,5 @@
 -- What is told of a refused image, as bytes: the refusal's number, the offset that 15 carries, and what it means.
-use Rattle.std.specs.Prelude.{ℕ, ◌+◌, List, ◌++◌, eqb, length}
-use Rattle.words.specs.If.{if◌then◌else◌}
+use Rattle.std.specs.Prelude.{ℕ, ◌+◌, List, ◌++◌, eqb, length, if◌then◌else◌}
 use Rattle.text.specs.Bytes.{bytes}
 use Rattle.text.specs.Rooms.{most_digits}
 use Rattle.text.specs.Answers.{decimal_of}

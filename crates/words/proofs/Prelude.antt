@@ -9,7 +9,7 @@ unfoldable pub use mathlib.Core.Bool.{◌&&◌, ◌||◌, not}
 unfoldable pub use lib.Dec.{eqb, ltb, leb}
 pub use borrow.Author.Tests.{not-true, not-false, eq-eqb, ne_eqb, eqb-true, eqb-false, lt-ltb, le-ltb, ltb-true}
 pub use borrow.Author.Tests.{ltb-false, le-leb, lt-leb, leb-true, leb-false}
-unfoldable pub use Rattle.words.specs.If.{if◌then◌else◌}
+pub use Rattle.std.specs.Prelude.{if◌then◌else◌}
 pub use mathlib.Core.Option.{Option, none, some}
 pub use mathlib.Core.List.{List, [], ◌∷◌, append-nil, append_assoc}
 unfoldable pub use mathlib.Core.List.{◌++◌, map}

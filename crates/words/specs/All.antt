@@ -1,6 +1,5 @@
 -- A test of the elements of a list: whether all pass it, whether any does, and how many do.
-use Rattle.std.specs.Prelude.{ℕ, ◌+◌, Bool, true, false, ◌&&◌, ◌||◌, List, [], ◌∷◌}
-use Rattle.words.specs.If.{if◌then◌else◌}
+use Rattle.std.specs.Prelude.{ℕ, ◌+◌, Bool, true, false, ◌&&◌, ◌||◌, List, [], ◌∷◌, if◌then◌else◌}
 
 unfoldable pub all_of : {A : Type 0} → (A → Bool) → List A → Bool
 all_of t [] = true

@@ -1,4 +1,3 @@
-pub mod If
 pub mod All
 pub mod Words
 pub mod Coded

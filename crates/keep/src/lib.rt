@@ -12,6 +12,7 @@ use std::io::{ErrorKind, Read, Write};
 use std::os::unix::fs::{OpenOptionsExt, PermissionsExt};
 use std::rt::Files;
 use std::{fs, io, str};
+use std_io::io::last_error;
 
 // The bytes that the name of the temporary file has after the path's.
 const TAIL: usize = 7;
@@ -90,10 +91,14 @@ fn fill<F: Write + OpenFile>(file: &mut F, bytes: &[u8]) -> io::Result<()> {
     file.sync_all()
 }
 
-// Fills a new file, and closes it either way. std tells no error of a close; all that was filled has reached the device
-// by then.
+// Fills a new file, and closes it either way: an error that came late is told at the close. A close tells its error to
+// nobody, but the system keeps it, as the newest that there was.
 fn fill_and_close<F: Write + OpenFile + Drop>(mut file: F, bytes: &[u8]) -> bool {
-    fill(&mut file, bytes).is_ok()
+    let filled = fill(&mut file, bytes).is_ok();
+    let before = last_error().raw_os_error();
+    drop(file);
+    let after = last_error().raw_os_error();
+    filled & (before == after)
 }
 
 // Puts a path and the tail that `number` replaces to the start of name. So the file stands beside the path's, on the

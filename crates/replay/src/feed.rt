@@ -1,6 +1,6 @@
 // The input, which comes in parts: lines begin, go on and end in them. Answers wait in `out` until the next might not
 // fit, or until the next part is read.
-ghost use Rattle.std.specs.Prelude.{◌≡◌, false, ◌≤◌, length, take, IfOk};
+ghost use Rattle.std.specs.Prelude.{◌≡◌, false, ◌≤◌, length, take, IfOk, OnErr};
 ghost use Rattle.state_cache.specs.State.{Raw, raw};
 ghost use Rattle.text.specs.Lines.{Lines, line_ended, rest_with, ended_if, lines_from, last_ended};
 ghost use Rattle.text.specs.Feeding.{come, joined};
@@ -66,6 +66,7 @@ fn finish(
         (come st.held.over st.held.len line.now) (take st.used out.old)
         → Reached from (line_ended ls) (raw fed.index log.new snapshot.new)
         (come fed.held.over fed.held.len line.now) (take fed.used out.new)) }
+    ensures failed { OnErr result ((log.new ≡ log.old) × (snapshot.new ≡ snapshot.old)) }
 {
     let used = st.used;
     let index = st.index;
@@ -118,6 +119,7 @@ fn take_line(
         → Reached from (ended_if ends (rest_with bytes.now ls))
         (raw fed.index log.new snapshot.new)
         (come fed.held.over fed.held.len line.new) (take fed.used out.new)) }
+    ensures failed { OnErr result ((log.new ≡ log.old) × (snapshot.new ≡ snapshot.old)) }
 {
     let s = keep(bytes, st, line);
     if ends {
@@ -143,6 +145,7 @@ pub(crate) fn take_part(
         (come st.held.over st.held.len line.old) (take st.used out.old)
         → Reached from (lines_from ls part.now) (raw fed.index log.new snapshot.new)
         (come fed.held.over fed.held.len line.new) (take fed.used out.new)) }
+    ensures failed { OnErr result ((length log.new ≡ length log.old) × (length snapshot.new ≡ length snapshot.old)) }
 {
     let mut s = st;
     let mut at = 0;
@@ -179,6 +182,7 @@ pub(crate) fn end(
         (come st.held.over st.held.len line.now) (take st.used out.old)
         → Reached from (last_ended ls) (raw fed.index log.new snapshot.new)
         (come fed.held.over fed.held.len line.now) (take fed.used out.new)) }
+    ensures failed { OnErr result ((log.new ≡ log.old) × (snapshot.new ≡ snapshot.old)) }
 {
     let held = st.held;
     if held.over | (held.len > 0) {

@@ -32,4 +32,5 @@ returns c =
       reached = λ (from : Raw) (ls : Lines) st.
           let len = c.args.st.held.len in
           rw (no_last_line ls len c.args.line.now from x waits c.args.st.held.over st c.if-held.false) st;
+      failed = tt;
     }

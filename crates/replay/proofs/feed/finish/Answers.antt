@@ -25,4 +25,5 @@ returns c =
       len_in_bounds = (omega arith, omega (arith, done.ensures.at_bound, c.in_ok-at.ensures, next_low last_start c.args.st.used));
       reached = λ (from : Raw) (ls : Lines) st.
           finished from ls x came c.args.st.used c.args.out.now st _ _ c.args.line.now answered;
+      failed = tt;
     }

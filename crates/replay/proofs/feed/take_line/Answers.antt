@@ -33,4 +33,5 @@ returns c =
       reached = λ (from : Raw) (ls : Lines) st.
           let k = kept from ls _ _ _ _ _ _ _ _ _ c.args.out.now bytes keep.ensures.len_in_bounds.2 keep.ensures.len_in_bounds.1 in
           rw c.if-ends.false (k c.requires.buffer keep.ensures.line_after st);
+      failed = tt;
     }

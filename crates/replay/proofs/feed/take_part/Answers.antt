@@ -43,4 +43,5 @@ returns c =
     record {
       len_in_bounds = omega arith;
       reached = λ (from : Raw) (ls : Lines) st. rw (← whole) (turn.invariant.1 from ls st);
+      failed = tt;
     }

@@ -1,9 +1,10 @@
 -- `replay::main` is safe and ends, and keeps where the program stands: at each turn some input has come, and its lines
 -- have been answered from the log that the program started from. The measure is the number of turns left.
-use Rattle.words.proofs.Prelude.{arith, sym, ap, ◌∙◌, [], ◌++◌}
+use Rattle.words.proofs.Prelude.{arith, ◌≡◌, ap, false, ltb, [], ◌++◌, length}
 use Rattle.state_cache.specs.{State.raw, declared.IndexRecord.IndexRecord}
 use Rattle.text.specs.{Lines.no_line, Lines.lines_of}
 use Rattle.text.proofs.LineLaws.{lines-append}
+use Rattle.replay.specs.Told.{told_text}
 use Rattle.replay.proofs.{Inputs.begun, Starts.begins}
 use Rattle.replay.proofs.main.Goals as goal
 
@@ -14,12 +15,11 @@ begin-begun-requires c =
 pub loop-turns-init : goal.loop-turns-init
 loop-turns-init c =
     let e = c.start-s.ensures in
-    let tell = c.in_ok-tell in
     let made = c.begin-begun in
     let given = c.argument-given.result in
     let from = raw made.result.index made.new.log made.new.snapshot in
     let same = ap (λ (i : IndexRecord). raw i made.new.log made.new.snapshot) e.0 in
-    let nothing = sym tell.ensures ∙ c.if-branch.false in (
+    let nothing : ltb 0 (length (told_text made.result.told)) ≡ false = cc c.in_ok-tell.ensures in (
       omega (arith, e.1, e.3),
       record {
         from = from;

@@ -28,7 +28,6 @@ put_full l o h = rw (le-ltb l.count most_ops h)
 
 put_few : (l : OpList) (held os : List CodeOp) → length l.ops ≡ most_ops → Holding l held
     → length held + length os ≤ most_ops → Holding (put_all l os) (held ++ os)
-unfolding put_all
 put_few l held [] long h few = rw (append-nil held) h
 put_few l held (o ∷ os) long h few =
     rw (put_room l o (omega (arith, h.count)), ← append_assoc held (o ∷ []) os)
@@ -47,7 +46,6 @@ put_few l held (o ∷ os) long h few =
 
 put_many : (l : OpList) (os : List CodeOp) → l.count ≤ most_ops + 1 → most_ops < l.count + length os
     → (put_all l os).count ≡ most_ops + 1
-unfolding put_all
 put_many l [] h over = omega arith
 put_many l (o ∷ os) h over = elim (reach (suc l.count) most_ops) [
   | reached few ↦ ap (λ (m : OpList). (put_all m os).count) (put_room l o few)

@@ -7,11 +7,10 @@ use Rattle.words.specs.{All.all_of, Words.laid, Words.spliced, Coded.words_of, C
 use Rattle.words.proofs.{Tests.and_right, Tests.or_right, CodedLaws.entries_length}
 use Rattle.entry.specs.{Limits.width, Limits.entry_room, Limits.snapshot_words, Change.Change, Change.change_code}
 use Rattle.entry.specs.{Change.entries_of, Change.entries_in, Change.slice_formed, Sign.sign_formed, Sign.sign_if}
-use Rattle.entry.specs.{Sign.sign_blank, Sign.blank, Sign.no_sign, Guards.Guard, Guards.Verdict, Guards.passes}
-use Rattle.entry.specs.{Guards.refuses, Guards.first, Guards.Answer, Guards.refused, Guards.replied, Guards.settle}
-use Rattle.entry.specs.{Refusals.number_of, Refusals.carried_of, declared.Ballot.Ballot, declared.LogIndex.LogIndex}
-use Rattle.entry.specs.{declared.StopSign.StopSign, declared.Refusal.Refusal, declared.Refusal.TheVariants.NoRoom}
-use Rattle.entry.specs.{declared.Refusal.TheVariants.OutsideRun}
+use Rattle.entry.specs.{Sign.sign_blank, Sign.blank, Sign.no_sign, Guards.Guard, Guards.passes}
+use Rattle.entry.specs.{Guards.refuses, Guards.first, declared.Ballot.Ballot, declared.LogIndex.LogIndex}
+use Rattle.entry.specs.{declared.StopSign.StopSign, declared.Refusal.Refusal}
+use Rattle.std.specs.Prelude.{Result, Ok, Err}
 use Rattle.entry.proofs.GuardLaws.{clear_all, passing, stopping, found, first_goes_on}
 use Rattle.entry.proofs.SliceLaws.{laid_of, stored_laid}
 use Rattle.snapshot.specs.{Folds.rising, Calls.snapshot_formed, Inner.Holds}
@@ -20,32 +19,23 @@ use Rattle.model.specs.Numbers.{Numbers, end_of}
 use Rattle.model.specs.Log.{given, if_given, retaining, with_run as log_with_run}
 use Rattle.model.specs.Backend.{Op, append_entries, append_on_prefix, set_decided, set_compacted, trim, set_promise, set_round}
 use Rattle.model.specs.Backend.{set_sign, set_snapshot, Lent, supplied, Midst, step, step_guards}
-use Rattle.state_cache.specs.{State.Raw, State.raw, State.sign_held, State.log_of, Inner.with_entries, Inner.with_stop}
-use Rattle.state_cache.specs.{Inner.with_decided, Inner.with_promise, declared.IndexRecord.IndexRecord}
-use Rattle.state_cache.specs.{declared.Settled.Settled, declared.Settled.TheVariants.Done}
-use Rattle.state_cache.specs.{declared.Settled.TheVariants.Refused}
+use Rattle.state_cache.specs.{State.Raw, State.raw, State.sign_held, State.log_of, Inner.with_entries}
+use Rattle.state_cache.specs.{declared.IndexRecord.IndexRecord}
 use Rattle.backend.specs.{declared.Op.Op as CodeOp, declared.OpKind.OpKind, declared.Lent.Lent as CodeLent}
 use Rattle.backend.specs.{declared.inner.step.Stepped.Stepped, Ops.of_kind, Ops.op_of, Ops.lent_of}
 use Rattle.backend.specs.{Ops.incoming_formed, Inner.midst_of, Inner.Kept, Inner.rejoined, Inner.room_guards}
 use Rattle.backend.specs.{Inner.Goes, Inner.Steps, Inner.Lends, Inner.only_entries, Inner.asked_keys}
-use Rattle.backend.specs.{Inner.asked_words, Inner.with_round, Inner.with_compacted, Inner.with_snapshot}
+use Rattle.backend.specs.{Inner.asked_words}
 use Rattle.backend.proofs.Amid.{kept_count, batch_count, put_log, put_held, trim_log, trim_held}
 
-abbrev stepped : Settled → ℕ → IndexRecord → Stepped
-stepped a start x = record { answer = a; start = start; index = x }
+abbrev stepped : ℕ → IndexRecord → Result Stepped Refusal
+stepped start x = Ok (record { start = start; index = x })
 
-no_reply_lem : (n k : ℕ) → ◌≡◌ {A = Answer (Unit {0})} (refused n k) (replied tt) → ⊥
-no_reply_lem n k e = let z : ◌≡◌ {A = ℕ} 0 1 = cc in omega arith
-
--- refused, or done with nothing to refuse
-module _ (gs : List Guard) (next : Midst) (start : ℕ) (x : IndexRecord) (log snapshot : List ℕ) where
-  goes_refused : (f : Refusal) → refuses (number_of f) (carried_of f) ≡ first gs
-      → Goes gs next (stepped (Refused f) start x) log snapshot
-  goes_refused f e = record { verdict = ap (λ (v : Verdict). settle v tt) e; after = λ q. absurd (no_reply_lem _ _ q) }
-
-  goes_done : passes ≡ first gs → midst_of start (raw x log snapshot) ≡ next → Kept (raw x log snapshot)
-      → Goes gs next (stepped Done start x) log snapshot
-  goes_done e p h = record { verdict = ap (λ (v : Verdict). settle v tt) e; after = λ q. (p, h) }
+-- done with nothing to refuse
+goes_done : (gs : List Guard) (next : Midst) (start : ℕ) (x : IndexRecord) (log snapshot : List ℕ) → passes ≡ first gs
+    → midst_of start (raw x log snapshot) ≡ next → Kept (raw x log snapshot)
+    → Goes gs next (stepped start x) log snapshot
+goes_done gs next start x log snapshot e p h = record { stands = e; after = p; kept = h }
 
 -- two tests of the same order
 ltb_same : (a b c d : ℕ) → (a < b → c < d) → (c < d → a < b) → ltb a b ≡ ltb c d
@@ -57,14 +47,16 @@ ltb_same a b c d f g = go (ltb a b) (ltb c d) refl refl
     go false false p q = p ∙ sym q
 
 -- the same by other names
-goes_as : (gs gs' : List Guard) (next next' : Midst) (s : Stepped) (log snapshot : List ℕ) → first gs ≡ first gs'
-    → next ≡ next' → Goes gs next s log snapshot → Goes gs' next' s log snapshot
-goes_as gs gs' next next' s log snapshot e p g = record {
-  verdict = g.verdict ∙ ap (λ (v : Verdict). settle v tt) e;
-  after = λ q. ((g.after q).0 ∙ p, (g.after q).1);
+goes_as : (gs gs' : List Guard) (next next' : Midst) (s : Result Stepped Refusal) (log snapshot : List ℕ)
+    → first gs ≡ first gs' → next ≡ next' → Goes gs next s log snapshot → Goes gs' next' s log snapshot
+goes_as gs gs' next next' (Ok s) log snapshot e p g = record {
+  stands = g.stands ∙ e;
+  after = g.after ∙ p;
+  kept = g.kept;
 }
+goes_as gs gs' next next' (Err f) log snapshot e p g = g ∙ e
 
-pub goes_of : (n : Numbers) (l : Lent) (m : Midst) (o : CodeOp) (k : OpKind) (s : Stepped) (log snapshot : List ℕ)
+pub goes_of : (n : Numbers) (l : Lent) (m : Midst) (o : CodeOp) (k : OpKind) (s : Result Stepped Refusal) (log snapshot : List ℕ)
     → o.kind ≡ k
     → Steps n l (of_kind k o) m s log snapshot
     → Steps n l (op_of o) m s log snapshot
@@ -109,13 +101,11 @@ module _ (start : ℕ) (r : Raw) (h : Kept r) where
     unfolding log_of
     room_is = omega (arith, counted, batch_count r h)
 
-    pub put_refused : (words : List ℕ) → entry_room < at + r.index.batched + length entries / width
-        → Goes (room_guards at (length es) m) (rejoined at es m)
-        (stepped (Refused NoRoom) start r.index) words r.snapshot
-    put_refused words over =
-        goes_refused (room_guards at (length es) m) (rejoined at es m) start r.index words r.snapshot NoRoom
-        (found {gs = room_guards at (length es) m} {v = refuses 1 0}
-        (stopping (lt-ltb entry_room wanted (omega (arith, room_is, over))) refl))
+    pub put_refused : entry_room < at + r.index.batched + length entries / width
+        → refuses 1 0 ≡ first (room_guards at (length es) m)
+    put_refused over =
+        found {gs = room_guards at (length es) m} {v = refuses 1 0}
+        (stopping (lt-ltb entry_room wanted (omega (arith, room_is, over))) refl)
 
     pub put_goes : (words : List ℕ) → at + r.index.batched + length entries / width ≤ entry_room
         → at ≤ r.index.retained → slice_formed entries ≡ true
@@ -123,7 +113,7 @@ module _ (start : ℕ) (r : Raw) (h : Kept r) where
         (spliced (at * width) ((r.index.retained - at) * width) entries
         (take ((r.index.retained + r.index.batched) * width) r.log))
         → Goes (room_guards at (length es) m) (rejoined at es m)
-        (stepped Done start (with_entries (at + length entries / width) r.index.batched r.index)) words
+        (stepped start (with_entries (at + length entries / width) r.index.batched r.index)) words
         r.snapshot
     put_goes words fits inside whole e =
         let k : at + length entries / width ≡ at + length es = omega (arith, counted) in
@@ -158,18 +148,15 @@ module _ (start : ℕ) (r : Raw) (h : Kept r) where
             (λ k. omega (arith, counted))
 
     pub prefix_outside : (end : ℕ) → end ≡ end_of n → beside ≡ true
-        → Steps n l (append_on_prefix i) m
-        (stepped (Refused (OutsideRun (record { 0 = end }))) start r.index) words r.snapshot
+        → refuses 7 end ≡ first (step_guards n l (append_on_prefix i) m)
     unfolding step_guards
     prefix_outside end p e =
-        goes_refused (step_guards n l (append_on_prefix i) m) (step l (append_on_prefix i) m) start r.index words
-        r.snapshot (OutsideRun (record { 0 = end }))
-        (found {gs = step_guards n l (append_on_prefix i) m} {v = refuses 7 end} (stopping (sym beside_is ∙ e) p))
+        found {gs = step_guards n l (append_on_prefix i) m} {v = refuses 7 end} (stopping (sym beside_is ∙ e) p)
 
     pub prefix_inside : beside ≡ false → kept ≤ r.index.retained
     prefix_inside e = ltb-false r.index.retained kept (or_right (ltb i start) (ltb r.index.retained kept) e)
 
-    pub prefix_goes : (s : Stepped) → beside ≡ false
+    pub prefix_goes : (s : Result Stepped Refusal) → beside ≡ false
         → Goes (room_guards kept (length (entries_in entries)) m)
         (rejoined kept (entries_in entries) m) s words r.snapshot
         → Steps n l (append_on_prefix i) m s words r.snapshot
@@ -188,7 +175,7 @@ module _ (start : ℕ) (r : Raw) (h : Kept r) where
       → words ≡ laid (length r.log)
       (spliced 0 (gone * width) [] (take ((r.index.retained + r.index.batched) * width) r.log))
       → Goes [] (step (only_entries []) (trim i) m)
-      (stepped Done next (with_entries (r.index.retained - gone) r.index.batched r.index)) words
+      (stepped next (with_entries (r.index.retained - gone) r.index.batched r.index)) words
       r.snapshot
   unfolding step first
   trim_goes i below gone next words p least q e =
@@ -202,7 +189,7 @@ module _ (start : ℕ) (r : Raw) (h : Kept r) where
   -- ---- the operations
 
   module _ (n : Numbers) (l : Lent) where
-    pub append_goes : (s : Stepped) (words : List ℕ)
+    pub append_goes : (s : Result Stepped Refusal) (words : List ℕ)
         → Goes (room_guards r.index.retained (length l.entries) m)
         (rejoined r.index.retained l.entries m) s words r.snapshot
         → Steps n l append_entries m s words r.snapshot
@@ -215,45 +202,45 @@ module _ (start : ℕ) (r : Raw) (h : Kept r) where
         (take_all r.index.retained (log_of r).run.retained (omega (arith, kept_count r h))))
         g
 
-    pub on_prefix_goes : (entries : List ℕ) (i : ℕ) (s : Stepped) (words : List ℕ) → l.entries ≡ entries_in entries
+    pub on_prefix_goes : (entries : List ℕ) (i : ℕ) (s : Result Stepped Refusal) (words : List ℕ) → l.entries ≡ entries_in entries
         → Steps n (only_entries entries) (append_on_prefix i) m s words r.snapshot
         → Steps n l (append_on_prefix i) m s words r.snapshot
     unfolding step_guards step
     on_prefix_goes entries i s words e g = rw e g
 
     pub promise_goes : (b : Ballot)
-        → Steps n l (set_promise b) m (stepped Done start (with_promise b r.index)) r.log r.snapshot
+        → Steps n l (set_promise b) m (stepped start (record r.index { promise = b })) r.log r.snapshot
     unfolding step_guards step log_of first sign_held
     promise_goes b =
-        goes_done [] (step l (set_promise b) m) start (with_promise b r.index) r.log r.snapshot refl refl
+        goes_done [] (step l (set_promise b) m) start (record r.index { promise = b }) r.log r.snapshot refl refl
         (record { log = h.log; snapshot = h.snapshot; none_held = h.none_held; sign = h.sign })
 
     pub decided_goes : (i : LogIndex)
         → Steps n l (set_decided i.0) m
-        (stepped Done start (with_decided i r.index)) r.log r.snapshot
+        (stepped start (record r.index { decided = i })) r.log r.snapshot
     unfolding step_guards step log_of first sign_held
     decided_goes i =
-        goes_done [] (step l (set_decided i.0) m) start (with_decided i r.index) r.log r.snapshot refl refl
+        goes_done [] (step l (set_decided i.0) m) start (record r.index { decided = i }) r.log r.snapshot refl refl
         (record { log = h.log; snapshot = h.snapshot; none_held = h.none_held; sign = h.sign })
 
     pub round_goes : (b : Ballot) → Steps n l (set_round b) m
-        (stepped Done start (with_round b r.index)) r.log r.snapshot
+        (stepped start (record r.index { accepted_round = b })) r.log r.snapshot
     unfolding step_guards step log_of first sign_held
     round_goes b =
-        goes_done [] (step l (set_round b) m) start (with_round b r.index) r.log r.snapshot refl refl
+        goes_done [] (step l (set_round b) m) start (record r.index { accepted_round = b }) r.log r.snapshot refl refl
         (record { log = h.log; snapshot = h.snapshot; none_held = h.none_held; sign = h.sign })
 
     pub compacted_goes : (i : LogIndex)
         → Steps n l (set_compacted i.0) m
-        (stepped Done start (with_compacted i r.index)) r.log r.snapshot
+        (stepped start (record r.index { compacted = i })) r.log r.snapshot
     unfolding step_guards step log_of first sign_held
     compacted_goes i =
         goes_done [] (step l (set_compacted i.0) m) start
-        (with_compacted i r.index) r.log
+        (record r.index { compacted = i }) r.log
         r.snapshot refl refl
         (record { log = h.log; snapshot = h.snapshot; none_held = h.none_held; sign = h.sign })
 
-    pub trimmed_goes : (i : ℕ) (s : Stepped) (words : List ℕ)
+    pub trimmed_goes : (i : ℕ) (s : Result Stepped Refusal) (words : List ℕ)
         → Goes [] (step (only_entries []) (trim i) m) s words r.snapshot
         → Steps n l (trim i) m s words r.snapshot
     unfolding step_guards step
@@ -266,10 +253,10 @@ module _ (start : ℕ) (r : Raw) (h : Kept r) where
 
     pub sign_goes : (t : Bool) → supplied lent (set_sign t) ≡ true
         → Steps n lent (set_sign t) m
-        (stepped Done start (with_stop t (sign_if t b.stop) r.index)) r.log r.snapshot
+        (stepped start (record r.index { stop_held = t; stop = sign_if t b.stop })) r.log r.snapshot
     unfolding step_guards step first
     sign_goes t e =
-        goes_done [] (step lent (set_sign t) m) start (with_stop t (sign_if t b.stop) r.index) r.log
+        goes_done [] (step lent (set_sign t) m) start (record r.index { stop_held = t; stop = sign_if t b.stop }) r.log
         r.snapshot refl
         (unfold log_of in ap (λ (g : Option StopSign). record { start = start; log = record { run = (log_of r).run; tail = record { batched = (log_of r).tail.batched; size = (log_of r).tail.size; sign = g }; marks = (log_of r).marks } })
         (set t b.stop_lent e))
@@ -291,11 +278,11 @@ module _ (start : ℕ) (r : Raw) (h : Kept r) where
 
     pub snapshot_goes : (t : Bool) → supplied lent (set_snapshot t) ≡ true
         → Steps n lent (set_snapshot t) m
-        (stepped Done start (with_snapshot t (asked_keys t b.keys) r.index)) r.log (asked_words t incoming)
+        (stepped start (record r.index { snapshot_held = t; keys = asked_keys t b.keys })) r.log (asked_words t incoming)
     unfolding step_guards step first
     snapshot_goes t e =
         goes_done [] (step lent (set_snapshot t) m) start
-        (with_snapshot t (asked_keys t b.keys) r.index) r.log
+        (record r.index { snapshot_held = t; keys = asked_keys t b.keys }) r.log
         (asked_words t incoming) refl
         (unfold log_of in ap (λ (g : Option (List Change)). record { start = start; log = record { run = record { compacted = (log_of r).run.compacted; retained = (log_of r).run.retained; held = g }; tail = (log_of r).tail; marks = (log_of r).marks } })
         (set t b.snapshot_lent e))

@@ -1,7 +1,7 @@
 -- What is judged after the last operation: refusal 9, then 12. In the midst of a list the words are always in form, so
 -- the state is well formed exactly if its log is.
 use Rattle.words.proofs.Prelude.{arith, ◌≡◌, refl, sym, ap, ◌∙◌, ℕ, ◌+◌, Bool, true, false, and-true, ◌&&◌, not, eqb}
-use Rattle.words.proofs.Prelude.{ltb, not-false, eq-eqb, ltb-false, List, length}
+use Rattle.words.proofs.Prelude.{ltb, not-false, eq-eqb, List, length}
 use Rattle.words.proofs.{Tests.and_left, Tests.and_right, Tests.both_true, CodedLaws.entries_length}
 use Rattle.entry.specs.Limits.{last_index, log_words, snapshot_words}
 use Rattle.entry.specs.Change.{Change, change_code, entries_of, stored_in, Laid}
@@ -12,7 +12,7 @@ use Rattle.snapshot.specs.{Folds.rising, Calls.snapshot_formed}
 use Rattle.model.specs.{Numbers.Numbers, Numbers.end_of, Numbers.accepted_of, Numbers.numbers_formed, Log.numbers_of}
 use Rattle.model.specs.{Log.well_formed, Backend.last_guards}
 use Rattle.state_cache.specs.{State.Raw, State.numbers_in, State.one_if, State.sign_held, State.snapshot_held, State.formed}
-use Rattle.state_cache.specs.{State.log_of, Inner.Small, declared.IndexRecord.IndexRecord}
+use Rattle.state_cache.specs.{State.log_of, declared.IndexRecord.IndexRecord}
 use Rattle.state_cache.proofs.Stands.{snapshot_tests, log_formed, given_by}
 use Rattle.backend.specs.Inner.{midst_of, Kept}
 
@@ -106,12 +106,6 @@ module _ (n : Numbers) (start : ℕ) (r : Raw) (h : Kept r) where
   last_past last p over = judged (refuses 9 last) (stopping (past_is ∙ over) p)
 
   module _ (inside : past ≡ false) where
-    pub last_small : Small (numbers_in r.index)
-    unfolding accepted_of end_of
-    last_small =
-        let low = ltb-false last_index (accepted_of (numbers_in r.index) + r.index.batched) inside in
-        record { few = omega (arith, h.log.fits); waiting = omega (arith, h.log.fits); low = omega (arith, low) }
-
     last_ill : (eqb start r.index.compacted.0 && well_formed (log_of r)) ≡ false → Says (refused 12 0)
     unfolding last_guards log_of
     last_ill e = judged (refuses 12 0) (passing (past_is ∙ inside) (stopping (ap not e) refl))

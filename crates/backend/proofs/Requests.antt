@@ -1,11 +1,11 @@
 -- The request: what each operation needs, the parts lent beside the list, and refusal 11.
-use Rattle.words.proofs.Prelude.{arith, ◌≡◌, refl, sym, ap, ap₂, ◌∙◌, ℕ, suc, ◌+◌, ◌≤◌, ◌<◌, Bool, true, false}
+use Rattle.words.proofs.Prelude.{arith, ◌≡◌, refl, sym, ap, ap₂, ◌∙◌, ℕ, ◌≤◌, ◌<◌, Bool, true, false}
 use Rattle.words.proofs.Prelude.{true≢false, ◌&&◌, ◌||◌, not, eqb, leb, eqb-true, le-leb, lt-leb, leb-true}
-use Rattle.words.proofs.Prelude.{if◌then◌else◌, none, some, List, [], ◌∷◌, map, length-map, length, take, drop, get_or}
-use Rattle.words.proofs.Prelude.{length-take-le, drop-cons}
-use lib.{ListN.get_or-map, Seq.get_or-take}
+use Rattle.words.proofs.Prelude.{if◌then◌else◌, none, some, List, [], ◌∷◌, map, length-map, length, take}
+use Rattle.words.proofs.Prelude.{length-take-le}
+use Rattle.std.specs.List.{list_all}
 use Rattle.words.specs.All.{all_of}
-use Rattle.words.proofs.{Tests.and_left, Tests.and_right, Tests.both_true, Alls.all_turn, CodedLaws.entries_length}
+use Rattle.words.proofs.{Tests.and_left, Tests.and_right, Tests.both_true, CodedLaws.entries_length}
 use Rattle.entry.specs.{Limits.snapshot_words, Limits.most_ops, Change.change_code, Change.entries_formed, Change.entries_of}
 use Rattle.entry.specs.{Change.entries_in, Change.whole_in, Change.slice_formed, Sign.sign_formed, Guards.refused}
 use Rattle.entry.specs.{declared.StopSign.StopSign}
@@ -18,24 +18,9 @@ use Rattle.model.specs.Calls.{write, malformed}
 use Rattle.model.proofs.Forms.{of_snapshot}
 use Rattle.state_cache.specs.{State.Raw, State.formed, Run.outcome, Run.run}
 use Rattle.state_cache.proofs.{Stands.ready_of, Stands.given_by, Runs.not_whole, Runs.bad_call}
-use Rattle.backend.specs.{declared.Op.Op as CodeOp, declared.OpKind.OpKind}
-use Rattle.backend.specs.{declared.OpKind.TheVariants.SetStopsign, declared.OpKind.TheVariants.SetSnapshot}
-use Rattle.backend.specs.{declared.OpList.OpList, declared.Lent.Lent as CodeLent, Ops.of_kind, Ops.op_of, Ops.ops_in}
+use Rattle.backend.specs.{declared.Op.Op as CodeOp}
+use Rattle.backend.specs.{declared.OpList.OpList, declared.Lent.Lent as CodeLent, Ops.op_of, Ops.ops_in}
 use Rattle.backend.specs.{Ops.lent_of, Ops.incoming_formed, Ops.whole_lent, Ops.whole_list, Inner.Lends, Inner.Listed}
-use Rattle.backend.specs.{Inner.no_op}
-
-module _ (b : CodeLent) (o : CodeOp) where
-  by_kind : (k : OpKind) → o.kind ≡ k → supplied (lent_of b [] []) (of_kind k o) ≡ supplied (lent_of b [] []) (op_of o)
-  by_kind k e = ap (λ (j : OpKind). supplied (lent_of b [] []) (of_kind j o)) (sym e)
-
-  pub sign_supplied : o.kind ≡ SetStopsign → (not o.given || b.stop_lent) ≡ supplied (lent_of b [] []) (op_of o)
-  sign_supplied e = ap (λ (t : Bool). not o.given || t) (sym (given_by b.stop_lent b.stop))
-      ∙ by_kind SetStopsign e
-
-  pub snapshot_supplied : o.kind ≡ SetSnapshot
-      → (not o.given || b.snapshot_lent) ≡ supplied (lent_of b [] []) (op_of o)
-  snapshot_supplied e = ap (λ (t : Bool). not o.given || t) (sym (given_by b.snapshot_lent _))
-      ∙ by_kind SetSnapshot e
 
 -- what a request in form lends
 module _ (b : CodeLent) (entries incoming : List ℕ) (f : Lends b entries incoming) where
@@ -47,25 +32,14 @@ module _ (b : CodeLent) (entries incoming : List ℕ) (f : Lends b entries incom
 
 -- the operations of a list by value, one after the other
 module _ (ops : List CodeOp) (n : ℕ) (few : n ≤ most_ops) (eight : length ops ≡ most_ops) where
-  pub ops_length : length (map op_of (take n ops)) ≡ n
+  ops_length : length (map op_of (take n ops)) ≡ n
   ops_length = length-map (take n ops) op_of ∙ length-take-le n ops (omega arith)
 
-  pub op_cons : (i : ℕ) (d : CodeOp) → i < n
-      → drop i (map op_of (take n ops)) ≡ op_of (get_or ops i d) ∷ drop (suc i) (map op_of (take n ops))
-  op_cons i d h =
-      drop-cons (map op_of (take n ops)) i (op_of d) (omega (arith, ops_length))
-      ∙ ap (λ (o : Op). o ∷ drop (suc i) (map op_of (take n ops)))
-      (get_or-map op_of (take n ops) i d ∙ ap op_of (get_or-take n ops i d h))
-
--- one turn of the test that each operation is supplied
-pub supplied_turn : (b : CodeLent) (ops : List CodeOp) (n : ℕ) → n ≤ most_ops → length ops ≡ most_ops → (i : ℕ) → i < n
-    → (ok t asked : Bool)
-    → t ≡ supplied (lent_of b [] []) (op_of (get_or ops i no_op))
-    → (ok && all_of (supplied (lent_of b [] [])) (drop i (map op_of (take n ops)))) ≡ asked
-    → (ok && t && all_of (supplied (lent_of b [] [])) (drop (i + 1) (map op_of (take n ops)))) ≡ asked
-supplied_turn b ops n few eight i h ok t asked e inv =
-    rw e (all_turn (supplied (lent_of b [] [])) (map op_of (take n ops)) i ok asked inv (op_of (get_or ops i no_op))
-    (op_cons ops n few eight i no_op h))
+-- a test of each operation, as std has it
+pub all_ops : (t : Op → Bool) (os : List CodeOp) → list_all (λ (o : CodeOp). t (op_of o)) os ≡ all_of t (map op_of os)
+unfolding all_of
+all_ops t [] = refl
+all_ops t (o ∷ os) = ap (λ (u : Bool). t (op_of o) && u) (all_ops t os)
 
 -- ---- the tests of a request, in the code's order and in the model's
 

@@ -1,6 +1,7 @@
 -- The operations one after the other: what is left of a list, from the state so far, comes to what the whole list does.
 use Rattle.words.proofs.Prelude.{arith, ◌≡◌, refl, sym, ap, ◌∙◌, ℕ, suc, ◌+◌, ◌≤◌, ◌<◌, add-one, true, ◌&&◌, not, leb}
-use Rattle.words.proofs.Prelude.{List, [], ◌∷◌, map, drop_of_length-le, length, take, drop, get_or}
+use Rattle.words.proofs.Prelude.{List, [], ◌∷◌, map, drop_of_length-le, length, length-map, drop, drop-cons, get_or}
+use lib.ListN.{get_or-map}
 use Rattle.words.specs.All.{all_of}
 use Rattle.words.proofs.{Tests.and_right, Alls.all_head, Alls.all_drop}
 use Rattle.entry.specs.{Limits.most_ops, Guards.Verdict, Guards.passes, Guards.refuses, Guards.first, Guards.Answer}
@@ -12,13 +13,13 @@ use Rattle.model.specs.{Backend.ops_formed, Backend.Midst, Backend.step, Backend
 use Rattle.model.specs.{Backend.last_guards, Backend.op_guards, Backend.midst, Backend.write_guards, Backend.list_written}
 use Rattle.model.specs.{Calls.write, Calls.malformed, Calls.further, Calls.effect, Calls.reply_of}
 use Rattle.state_cache.specs.{State.Raw, State.raw, State.numbers_in, State.formed, State.log_of, Run.outcome, Run.run}
-use Rattle.state_cache.specs.{Run.settled, declared.IndexRecord.IndexRecord, declared.Settled.Settled}
-use Rattle.state_cache.specs.{declared.Settled.TheVariants.Done, declared.Settled.TheVariants.Refused}
+use Rattle.state_cache.specs.{declared.IndexRecord.IndexRecord}
+use Rattle.std.specs.Prelude.{Result}
 use Rattle.state_cache.proofs.{Stands.stands_of, Runs.call_refused, Runs.call_stands}
 use Rattle.backend.specs.{declared.Op.Op as CodeOp, declared.inner.step.Stepped.Stepped, Ops.op_of}
-use Rattle.backend.specs.{declared.Lent.Lent as CodeLent, declared.OpList.OpList, Inner.midst_of, Inner.Kept}
-use Rattle.backend.specs.{Inner.Goes, Inner.Listed, Inner.Wrote, Inner.no_op}
-use Rattle.backend.proofs.{Requests.ops_length, Requests.op_cons, Lasts.numbers_of_lem, Lasts.last_formed}
+use Rattle.backend.specs.{Inner.midst_of, Inner.Kept}
+use Rattle.backend.specs.{Inner.Came, Inner.Stood, Inner.Wrote, Inner.no_op}
+use Rattle.backend.proofs.{Lasts.numbers_of_lem, Lasts.last_formed}
 
 -- a verdict is known by what it settles
 settle_refused : (v : Verdict) (n k : ℕ) → ◌≡◌ {A = Answer (Unit {0})} (refused n k) (settle v tt) → refuses n k ≡ v
@@ -34,49 +35,43 @@ pub record Left (n : Numbers) (l : Lent) (ops : List Op) (m : Midst) (asked : Ve
   pub verdict : first (op_guards n l ops m) ≡ asked
   pub after : steps l ops m ≡ end
 
-module _ (n : Numbers) (l : Lent) (codes : List CodeOp) (count : ℕ) (few : count ≤ most_ops)
-    (eight : length codes ≡ most_ops) (asked : Verdict) (end : Midst) where
+module _ (n : Numbers) (l : Lent) (codes : List CodeOp) (asked : Verdict) (end : Midst) where
   abbrev ops : List Op
-  ops = map op_of (take count codes)
+  ops = map op_of codes
 
   module _ (m : Midst) (i : ℕ) (left : Left n l (drop i ops) m asked end) where
-    module _ (h : i < count) where
+    module _ (h : i < length codes) where
       abbrev o : Op
       o = op_of (get_or codes i no_op)
 
       cons : drop i ops ≡ o ∷ drop (suc i) ops
-      cons = op_cons codes count few eight i no_op h
+      cons =
+          drop-cons ops i (op_of no_op) (omega (arith, length-map codes op_of))
+          ∙ ap (λ (p : Op). p ∷ drop (suc i) ops) (get_or-map op_of codes i no_op)
 
       pub is_supplied : all_of (supplied l) ops ≡ true → supplied l o ≡ true
       is_supplied e = all_head (supplied l) o (drop (suc i) ops) (rw (← cons) (all_drop (supplied l) i ops e))
 
-      module _ (s : Stepped) (log snapshot : List ℕ) (g : Goes (step_guards n l o m) (step l o m) s log snapshot) where
-        pub turn_refused : (f : Refusal) → s.answer ≡ Refused f → asked ≡ refuses (number_of f) (carried_of f)
-        unfolding op_guards
-        turn_refused f e =
-            sym left.verdict ∙ ap (λ (os : List Op). first (op_guards n l os m)) cons
-            ∙ sym (first_left (step_guards n l o m) (op_guards n l (drop (suc i) ops) (step l o m))
-            (number_of f) (carried_of f)
-            (settle_refused (first (step_guards n l o m)) (number_of f) (carried_of f) (ap settled (sym e) ∙ g.verdict)))
+      pub turn_refused : (v w : ℕ) → refuses v w ≡ first (step_guards n l o m) → refuses v w ≡ asked
+      unfolding op_guards
+      turn_refused v w e =
+          first_left (step_guards n l o m) (op_guards n l (drop (suc i) ops) (step l o m)) v w e
+          ∙ ap (λ (os : List Op). first (op_guards n l os m)) (sym cons) ∙ left.verdict
 
-        pub turn_held : s.answer ≡ Done → Kept (raw s.index log snapshot)
-        turn_held e = (g.after (ap settled e)).1
+      pub turn_left : (s : Stepped) (log snapshot : List ℕ) → Came (step_guards n l o m) (step l o m) s log snapshot
+          → Left n l (drop (i + 1) ops) (midst_of s.start (raw s.index log snapshot)) asked end
+      unfolding op_guards steps
+      turn_left s log snapshot g =
+          rw (add-one i, g.after)
+          (record {
+            verdict =
+                sym (first_right (step_guards n l o m) (op_guards n l (drop (suc i) ops) (step l o m)) g.stands)
+                ∙ ap (λ (os : List Op). first (op_guards n l os m)) (sym cons) ∙ left.verdict;
+            after = ap (λ (os : List Op). steps l os m) (sym cons) ∙ left.after;
+          })
 
-        pub turn_left : s.answer ≡ Done
-            → Left n l (drop (i + 1) ops) (midst_of s.start (raw s.index log snapshot)) asked end
-        unfolding op_guards steps
-        turn_left e =
-            rw (add-one i, (g.after (ap settled e)).0)
-            (record {
-              verdict =
-                  sym (first_right (step_guards n l o m) (op_guards n l (drop (suc i) ops) (step l o m))
-                  (settle_replied (first (step_guards n l o m)) (ap settled (sym e) ∙ g.verdict)))
-                  ∙ ap (λ (os : List Op). first (op_guards n l os m)) (sym cons) ∙ left.verdict;
-              after = ap (λ (os : List Op). steps l os m) (sym cons) ∙ left.after;
-            })
-
-    pub ended : count ≤ i → Left n l [] m asked end
-    ended h = rw (drop_of_length-le ops {i = i} (omega (arith, ops_length codes count few eight))) at left
+    pub ended : length codes ≤ i → Left n l [] m asked end
+    ended h = rw (drop_of_length-le ops {i = i} (omega (arith, length-map codes op_of))) at left
 
 -- the whole list, on a well-formed state
 module _ (r : Raw) (l : Lent) (ops : List Op) where
@@ -94,34 +89,35 @@ module _ (r : Raw) (l : Lent) (ops : List Op) where
     after = refl;
   }
 
-  pub wrote_refused : (f : Refusal) (x : Raw) → asked ≡ refuses (number_of f) (carried_of f) → Wrote r l ops (Refused f) x
-  wrote_refused f x e = record { verdict = ap (λ (v : Verdict). settle v tt) (sym e); after = λ q. absurd (never q) }
-    where
-      never : ◌≡◌ {A = Answer (Unit {0})} (refused_by f) (replied tt) → ⊥
-      never q = let z : ◌≡◌ {A = ℕ} 0 1 = cc in omega arith
+  module _ (n : Numbers) (start : ℕ) (x : Raw) (h : Kept x) (left : Left n l [] (midst_of start x) asked end) where
+    abbrev judged : Answer (Unit {0})
+    judged = settle (first (last_guards n (midst_of start x))) tt
 
-  pub wrote : (n : Numbers) (start : ℕ) (x : Raw) (a : Settled) → Kept x → Left n l [] (midst_of start x) asked end
-      → settled a ≡ settle (first (last_guards n (midst_of start x))) tt → Wrote r l ops a x
-  unfolding op_guards steps list_written
-  wrote n start x a h left e = record {
-    verdict = e ∙ ap (λ (v : Verdict). settle v tt) left.verdict;
-    after =
-        λ q. (last_formed n start x h (sym (settle_replied _ (sym q ∙ e))), ap (λ (m : Midst). m.log) left.after);
-  }
+    pub last_refused : (f : Refusal) → refused_by f ≡ judged
+        → refuses (number_of f) (carried_of f) ≡ asked
+    unfolding op_guards
+    last_refused f e = settle_refused _ (number_of f) (carried_of f) e ∙ left.verdict
 
-  module _ (ok : formed r ≡ true) (fine : ops_formed l ops ≡ true) (a : Settled) (x : Raw) (w : Wrote r l ops a x) where
-    pub write_refused : (f : Refusal) → a ≡ Refused f → outcome (refused_by f) r ≡ run (write l ops) true r
+    pub stood : replied tt ≡ judged → Stood r l ops x
+    unfolding op_guards steps list_written
+    stood e =
+        let p = settle_replied _ e in
+        record {
+          stands = p ∙ left.verdict;
+          formed = last_formed n start x h (sym p);
+          after = ap (λ (m : Midst). m.log) left.after;
+        }
+
+  module _ (ok : formed r ≡ true) (fine : ops_formed l ops ≡ true) where
+    pub write_refused : (f : Refusal) → refuses (number_of f) (carried_of f) ≡ asked
+        → outcome (refused_by f) r ≡ run (write l ops) true r
     unfolding malformed further
-    write_refused f e =
-        call_refused (write l ops) r ok (ap not fine) (number_of f) (carried_of f)
-        (settle_refused asked (number_of f) (carried_of f) (ap settled (sym e) ∙ w.verdict))
+    write_refused f e = call_refused (write l ops) r ok (ap not fine) (number_of f) (carried_of f) e
 
-    pub write_stands : a ≡ Done → outcome (replied tt) x ≡ run (write l ops) true r
+    pub write_stands : (x : Raw) → Stood r l ops x → outcome (replied tt) x ≡ run (write l ops) true r
     unfolding malformed further effect reply_of
-    write_stands e =
-        let p = w.after (ap settled e) in
-        call_stands (write l ops) r ok (ap not fine) (settle_replied asked (ap settled (sym e) ∙ w.verdict)) tt x refl
-        (rw p.1 at (stands_of x p.0))
+    write_stands x w =
+        call_stands (write l ops) r ok (ap not fine) w.stands tt x refl (rw w.after at (stands_of x w.formed))
 
 pub ops_supplied : (l : Lent) (ops : List Op) → ops_formed l ops ≡ true → all_of (supplied l) ops ≡ true
 unfolding ops_formed
@@ -133,10 +129,6 @@ ops_supplied l ops e =
 
 -- on copies of the words
 module _ (i : IndexRecord) (log log' snapshot snapshot' : List ℕ) (p : log' ≡ log) (q : snapshot' ≡ snapshot) where
-  pub listed_copy : (b : CodeLent) (entries incoming : List ℕ) (list : OpList)
-      → Listed (raw i log snapshot) b entries incoming list → Listed (raw i log' snapshot') b entries incoming list
-  listed_copy b entries incoming list g = rw (p, q) g
-
-  pub wrote_copy : (l : Lent) (ops : List Op) (a : Settled) (x : Raw) → Wrote (raw i log' snapshot') l ops a x
-      → Wrote (raw i log snapshot) l ops a x
-  wrote_copy l ops a x w = rw (p, q) at w
+  pub wrote_copy : (l : Lent) (ops : List Op) (a : Result IndexRecord Refusal) (m n : List ℕ)
+      → Wrote (raw i log' snapshot') l ops a m n → Wrote (raw i log snapshot) l ops a m n
+  wrote_copy l ops a m n w = rw (p, q) at w

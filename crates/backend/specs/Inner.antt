@@ -1,24 +1,23 @@
 -- What the inner functions say. In the midst of an operation list: the record and the words, whatever the numbers
 -- are, and what an operation comes to; and a lent slice of operations as a list by value.
 use Rattle.std.specs.Prelude.{ℕ, ◌+◌, ◌≤◌, ◌≡◌, Bool, true, false, ◌||◌, List, [], ◌∷◌, ◌++◌, ltb, eqb, length, take, set, replicate, if◌then◌else◌}
+use Rattle.std.specs.Prelude.{Result, Ok, Err}
+use Rattle.std.specs.List.{fold}
 use Rattle.std.proofs.Math.Option.{none}
 use Rattle.entry.specs.Limits.{entry_room, log_words, snapshot_words, most_ops}
 use Rattle.entry.specs.Change.{Change, entries_in, slice_formed, Laid}
 use Rattle.entry.specs.Sign.{sign_formed}
 use Rattle.entry.specs.Order.{no_ballot}
-use Rattle.entry.specs.Guards.{Guard, guard, first, replied, settle}
+use Rattle.entry.specs.Guards.{Guard, guard, passes, refuses, first}
+use Rattle.entry.specs.Refusals.{number_of, carried_of}
 use Rattle.snapshot.specs.Inner.{Holds}
 use Rattle.model.specs.Numbers.{Numbers}
 use Rattle.model.specs.Log.{if_given, retaining}
 use Rattle.model.specs.Backend.{Op, Lent, ops_formed, Midst, on_run, step_guards, step, write_guards, list_written}
 use Rattle.state_cache.specs.State.{Raw, raw, sign_held, formed, log_of}
-use Rattle.state_cache.specs.Inner.{Ready, with_run}
-use Rattle.state_cache.specs.Run.{settled}
-use Rattle.entry.specs.declared.Ballot.{Ballot}
-use Rattle.entry.specs.declared.LogIndex.{LogIndex}
+use Rattle.state_cache.specs.Inner.{Ready}
+use Rattle.entry.specs.declared.Refusal.{Refusal}
 use Rattle.state_cache.specs.declared.IndexRecord.{IndexRecord}
-use Rattle.state_cache.specs.declared.Settled.{Settled}
-use Rattle.state_cache.specs.declared.Settled.TheVariants.{Done}
 use Rattle.backend.specs.declared.Lent.{Lent as CodeLent}
 use Rattle.backend.specs.declared.Op.{Op as CodeOp}
 use Rattle.backend.specs.declared.OpKind.TheVariants.{AppendEntries}
@@ -36,28 +35,6 @@ asked_keys given n = if given then n else 0
 
 abbrev pub asked_words : Bool → List ℕ → List ℕ
 asked_words given ws = if given then ws else replicate snapshot_words 0
-
--- a record with what an operation sets: those that no other call sets alone
-abbrev pub with_round : Ballot → IndexRecord → IndexRecord
-with_round b x = record {
-  batch_size = x.batch_size;
-  retained = x.retained;
-  batched = x.batched;
-  compacted = x.compacted;
-  decided = x.decided;
-  promise = x.promise;
-  accepted_round = b;
-  snapshot_held = x.snapshot_held;
-  keys = x.keys;
-  stop_held = x.stop_held;
-  stop = x.stop;
-}
-
-abbrev pub with_compacted : LogIndex → IndexRecord → IndexRecord
-with_compacted i x = with_run i x.retained x.snapshot_held x.keys x
-
-abbrev pub with_snapshot : Bool → ℕ → IndexRecord → IndexRecord
-with_snapshot held n x = with_run x.compacted x.retained held n x
 
 -- the run's start, and the log that the record and the words stand for
 abbrev pub midst_of : ℕ → Raw → Midst
@@ -77,18 +54,18 @@ rejoined at es m = on_run (retaining (take at m.log.run.retained ++ es) m.log.ru
 abbrev pub room_guards : ℕ → ℕ → Midst → List Guard
 room_guards at n m = guard 1 0 (ltb entry_room (at + length m.log.tail.batched + n)) ∷ []
 
--- one that stands
-abbrev pub done_at : ℕ → IndexRecord → Stepped
-done_at start x = record { answer = Done; start = start; index = x }
+-- an operation that stands, with the record and the words after it
+pub record Came (gs : List Guard) (next : Midst) (s : Stepped) (log snapshot : List ℕ) : Type 0 where
+  pub stands : passes ≡ first gs
+  pub after : midst_of s.start (raw s.index log snapshot) ≡ next
+  pub kept : Kept (raw s.index log snapshot)
 
--- what an operation comes to: its answer, by the first refusal that applies; and where none does the record and the
--- words after it
-pub record Goes (gs : List Guard) (next : Midst) (s : Stepped) (log snapshot : List ℕ) : Type 0 where
-  pub verdict : settled s.answer ≡ settle (first gs) tt
-  pub after : settled s.answer ≡ replied tt
-      → (midst_of s.start (raw s.index log snapshot) ≡ next) × Kept (raw s.index log snapshot)
+-- what an operation comes to: the first refusal that applies, or where none does the state after it
+abbrev pub Goes : List Guard → Midst → Result Stepped Refusal → List ℕ → List ℕ → Type 0
+Goes gs next (Ok s) log snapshot = Came gs next s log snapshot
+Goes gs next (Err r) log snapshot = refuses (number_of r) (carried_of r) ≡ first gs
 
-abbrev pub Steps : Numbers → Lent → Op → Midst → Stepped → List ℕ → List ℕ → Type 0
+abbrev pub Steps : Numbers → Lent → Op → Midst → Result Stepped Refusal → List ℕ → List ℕ → Type 0
 Steps n l o m s log snapshot = Goes (step_guards n l o m) (step l o m) s log snapshot
 
 -- what is known of the parts that are lent beside a list in form
@@ -104,11 +81,16 @@ pub record Listed (r : Raw) (b : CodeLent) (entries incoming : List ℕ) (list :
   pub few : list.count ≤ most_ops
   pub okay : ops_formed (lent_of b entries incoming) (ops_in list) ≡ true
 
--- what it comes to: the first refusal that applies; and where none does a well-formed state that stands for what the
--- list wrote
-pub record Wrote (r : Raw) (l : Lent) (ops : List Op) (answer : Settled) (x : Raw) : Type 0 where
-  pub verdict : settled answer ≡ settle (first (write_guards l ops (log_of r))) tt
-  pub after : settled answer ≡ replied tt → (formed x ≡ true) × (log_of x ≡ list_written l ops (log_of r))
+-- a list that stands leaves a well-formed state that stands for what it wrote
+pub record Stood (r : Raw) (l : Lent) (ops : List Op) (x : Raw) : Type 0 where
+  pub stands : passes ≡ first (write_guards l ops (log_of r))
+  pub formed : formed x ≡ true
+  pub after : log_of x ≡ list_written l ops (log_of r)
+
+-- what it comes to: the first refusal that applies, or where none does the state after it
+abbrev pub Wrote : Raw → Lent → List Op → Result IndexRecord Refusal → List ℕ → List ℕ → Type 0
+Wrote r l ops (Ok x) log snapshot = Stood r l ops (raw x log snapshot)
+Wrote r l ops (Err f) log snapshot = refuses (number_of f) (carried_of f) ≡ first (write_guards l ops (log_of r))
 
 -- what stands past the end of a list
 abbrev pub no_op : CodeOp
@@ -123,6 +105,5 @@ put_of l o =
     if ltb l.count most_ops then record { count = l.count + 1; ops = set l.ops l.count o }
     else record { count = most_ops + 1; ops = l.ops }
 
-unfoldable pub put_all : OpList → List CodeOp → OpList
-put_all l [] = l
-put_all l (o ∷ os) = put_all (put_of l o) os
+abbrev pub put_all : OpList → List CodeOp → OpList
+put_all l os = fold put_of l os

@@ -5,11 +5,11 @@
 ghost use Rattle.std.specs.Prelude.{◌≡◌, map};
 ghost use Rattle.model.specs.Calls.{write};
 ghost use Rattle.state_cache.specs.State.{raw};
-ghost use Rattle.state_cache.specs.Run.{outcome, run, settled};
+ghost use Rattle.state_cache.specs.Run.{run, changed};
 ghost use Rattle.backend.specs.Ops.{op_of, ops_in, lent_of, whole_lent, whole_list};
 
 use entry::{Ballot, LogIndex, Refusal, StopSign};
-use state_cache::{IndexRecord, Settled, SettledAt};
+use state_cache::IndexRecord;
 
 pub mod inner;
 
@@ -19,7 +19,7 @@ pub const OPERATIONS: usize = 8;
 pub const TOO_MANY: usize = OPERATIONS + 1;
 
 // The Rust's `StorageOp` but `AppendEntry`.
-#[derive(Clone, Copy)]
+#[derive(Clone, Copy, Debug, PartialEq, Eq)]
 pub enum OpKind {
     AppendEntries,
     AppendOnPrefix,
@@ -32,9 +32,9 @@ pub enum OpKind {
     SetSnapshot,
 }
 
-// An operation; fields that its kind does not use are not looked at. `given` says whether the last two kinds set what
-// is lent, or none.
-#[derive(Clone, Copy)]
+// An operation: one small struct of every kind, by document 01; fields that its kind does not use are not looked at.
+// `given` says whether the last two kinds set what is lent, or none.
+#[derive(Clone, Copy, Debug, PartialEq, Eq)]
 pub struct Op {
     pub kind: OpKind,
     pub index: LogIndex,
@@ -42,16 +42,17 @@ pub struct Op {
     pub given: bool,
 }
 
-// Operations by value. A count above OPERATIONS says that there were more.
-#[derive(Clone, Copy)]
+// Operations by value, as C's struct holds them: an array and a count. One above OPERATIONS says that there were more.
+#[derive(Clone, Copy, Debug, PartialEq, Eq)]
 pub struct OpList {
     pub count: usize,
     pub ops: [Op; OPERATIONS],
 }
 
-// What is lent beside the operations and the entries: a snapshot, with its number of keys, and a stop-sign, or none.
+// What is lent beside the operations and the entries: a snapshot, with its number of keys, and a stop-sign, or none. A
+// flag and a value, since C passes it as it is.
 #[repr(C)]
-#[derive(Clone, Copy)]
+#[derive(Clone, Copy, Debug, PartialEq, Eq)]
 pub struct Lent {
     pub snapshot_lent: bool,
     pub keys: usize,
@@ -69,23 +70,17 @@ pub fn write_list(
     incoming: &[u64],
     lent: Lent,
     list: OpList,
-) -> SettledAt
-    ensures { outcome (settled result.answer) (raw result.index log.new snapshot.new)
+) -> Result<IndexRecord, Refusal>
+    ensures { changed index result log.new snapshot.new
         ≡ run (write (lent_of lent entries.now incoming.now) (ops_in list))
         (whole_list lent entries.now incoming.now list)
         (raw index log.old snapshot.old) }
 {
     if !state_cache::well_formed(index, log, snapshot) {
-        return SettledAt {
-            answer: Settled::Refused(Refusal::IllFormed),
-            index,
-        };
+        return Err(Refusal::IllFormed);
     }
     if !inner::request::request_formed(entries, incoming, lent, list) {
-        return SettledAt {
-            answer: Settled::Refused(Refusal::Malformed),
-            index,
-        };
+        return Err(Refusal::Malformed);
     }
     inner::list::write_at(index, log, snapshot, entries, incoming, lent, list)
 }
@@ -99,8 +94,8 @@ pub fn write_atomically(
     incoming: &[u64],
     lent: Lent,
     ops: &[Op],
-) -> SettledAt
-    ensures { outcome (settled result.answer) (raw result.index log.new snapshot.new)
+) -> Result<IndexRecord, Refusal>
+    ensures { changed index result log.new snapshot.new
         ≡ run (write (lent_of lent entries.now incoming.now) (map op_of ops.now))
         (whole_lent lent entries.now incoming.now)
         (raw index log.old snapshot.old) }

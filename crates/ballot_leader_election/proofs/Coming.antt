@@ -1,12 +1,21 @@
 -- What a call comes to, by its refusals: 12 first, then those of the call, and where none applies its reply and the
 -- state after it.
 use Rattle.words.proofs.Prelude.{◌≡◌, sym, ap, ◌∙◌, ℕ, true, false, not, List}
-use Rattle.entry.specs.Guards.{Guard, Verdict, passes, refuses, first, refused, replied}
+use Rattle.std.specs.Prelude.{Result, Ok, Err}
+use Rattle.std.specs.Result.{IsErrAnd}
+use Rattle.entry.specs.Guards.{Guard, Verdict, passes, refuses, first, refused, replied, refused_by}
+use Rattle.entry.specs.declared.Refusal.{Refusal}
+use Rattle.entry.specs.declared.Refusal.TheVariants.{IllFormed}
 use Rattle.entry.proofs.GuardLaws.{first_refuses, first_goes_on}
 use Rattle.ballot_leader_election.specs.declared.BallotLeaderElection.{BallotLeaderElection}
 use Rattle.ballot_leader_election.specs.State.{Election, election_of, laid_election, formed}
 use Rattle.ballot_leader_election.specs.Calls.{Call, guards, effect, reply_of}
 use Rattle.ballot_leader_election.specs.Run.{outcome, chosen, comes, run}
+
+-- what a `?` gives back
+pub err_is : {A : Type 0} (r : Result A Refusal) (d : Refusal) → IsErrAnd r (λ (y : Refusal). y ≡ d) → r ≡ Err d
+err_is (Ok x) d h = absurd h
+err_is (Err y) d h = ap Err h
 
 module _ {A : Type 0} (gs : List Guard) (y : A) (next : Election) (e : BallotLeaderElection) where
   pub comes_refused : (n k : ℕ) → refuses n k ≡ first gs → outcome (refused n k) e ≡ comes gs y next e
@@ -23,6 +32,9 @@ module _ (c : Call) (e : BallotLeaderElection) where
   ill_formed f =
       comes_refused _ (reply_of c (election_of e)) (effect c (election_of e)) e 12 0
       (sym (first_refuses 12 0 (not (formed e)) (guards c (election_of e)) (ap not f)))
+
+  pub refuses_ill_formed : (r : Refusal) → (r ≡ IllFormed) × (formed e ≡ false) → outcome (refused_by r) e ≡ run c e
+  refuses_ill_formed r p = ap (λ (q : Refusal). outcome (refused_by q) e) p.0 ∙ ill_formed p.1
 
   pub well_formed_lem : formed e ≡ true
       → comes (guards c (election_of e)) (reply_of c (election_of e)) (effect c (election_of e)) e ≡ run c e

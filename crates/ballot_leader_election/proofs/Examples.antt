@@ -1,12 +1,12 @@
 -- Elections computed in the logic, each where a hurried reader of document 003 would err.
 use Rattle.words.proofs.Prelude.{◌≡◌, refl, ℕ, Bool, true, false, none, some, List, [], ◌∷◌, map}
-use Rattle.words.specs.All.{any_of, count_of}
-use Rattle.entry.specs.Order.{compare_of, no_ballot}
+use Rattle.std.specs.Prelude.{Some}
+use Rattle.entry.specs.Order.{no_ballot}
 use Rattle.entry.specs.declared.Ballot.{Ballot}
 use Rattle.ballot_leader_election.specs.declared.HeartbeatReply.{HeartbeatReply}
 use Rattle.ballot_leader_election.specs.declared.BLEConfig.{BLEConfig}
 use Rattle.ballot_leader_election.specs.State.{Election}
-use Rattle.ballot_leader_election.specs.Steps.{quorum, above, max_from, max_ballot, update_leader, potential_followers}
+use Rattle.ballot_leader_election.specs.Steps.{quorum, above, max_ballot, update_leader, potential_followers}
 use Rattle.ballot_leader_election.specs.Steps.{is_happy, takeover_due, promised}
 use Rattle.ballot_leader_election.specs.Steps.{standing, leading, timed_out, starting_at}
 
@@ -29,7 +29,7 @@ mine = ballot 1 1 0 5
 pub repeated_reply : map (λ (rs : List HeartbeatReply). is_happy 4 rs (standing mine mine true))
     ((led ∷ led ∷ []) ∷ (led ∷ []) ∷ [])
     ≡ true ∷ false ∷ []
-unfolding is_happy quorum potential_followers above compare_of any_of count_of
+unfolding is_happy quorum potential_followers above
 repeated_reply = refl
 
 -- `max()` takes the last of equal ones, and an equal ballot of another configuration does not move the leader, but is
@@ -37,10 +37,10 @@ repeated_reply = refl
 abbrev other : Ballot
 other = ballot 2 1 0 5
 
-pub equal_ballots : (max_ballot (from mine mine true ∷ from other mine true ∷ []) ≡ some other)
+pub equal_ballots : (max_ballot (from mine mine true ∷ from other mine true ∷ []) ≡ Some other)
     × ((update_leader (from other mine true ∷ []) (standing mine mine true) ≡ standing mine mine true)
     × (leading (standing mine other true) ≡ none))
-unfolding max_from update_leader above compare_of
+unfolding update_leader above
 equal_ballots = (refl, (refl, refl))
 
 -- a node that recovers the default ballot starts as a new one, and any other at n = 0
@@ -65,7 +65,7 @@ left = record {
 }
 
 pub takeover : (timed_out no_ballot left).standing ≡ standing (ballot 1 8 0 1) (ballot 1 8 0 1) true
-unfolding update_leader is_happy takeover_due promised quorum max_from above compare_of any_of
+unfolding update_leader is_happy takeover_due promised quorum above
 takeover = refl
 
 -- the same with a promise: of another pid it is the leader, and of its own it is its ballot too; one that is not above
@@ -76,5 +76,5 @@ pub promise_above : map (λ (p : Ballot). (timed_out p left).standing)
     ∷ standing (ballot 1 9 0 1) (ballot 1 9 0 1) true
     ∷ standing (ballot 1 8 0 1) (ballot 1 8 0 1) true
     ∷ []
-unfolding update_leader is_happy takeover_due promised quorum max_from above compare_of any_of
+unfolding update_leader is_happy takeover_due promised quorum above
 promise_above = refl

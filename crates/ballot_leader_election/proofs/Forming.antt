@@ -1,10 +1,12 @@
 -- A well-formed state, from its test to its facts and back: what is blank is one value, and a list in form is its
 -- elements and blanks.
-use Rattle.words.proofs.Prelude.{arith, ◌≡◌, sym, ap, ◌∙◌, ℕ, ◌-◌, ◌≤◌, Bool, true, false, true≢false, ◌&&◌, not, eqb, leb}
-use Rattle.words.proofs.Prelude.{eqb-true, eq-eqb, ne_eqb, leb-true, le-leb, not-true, length-drop, take-append-drop, List, ◌++◌}
+use Rattle.words.proofs.Prelude.{arith, ◌≡◌, refl, sym, ap, ◌∙◌, ℕ, zero, suc, ◌-◌, ◌≤◌, Bool, true, false, true≢false, ◌&&◌, not, eqb, leb}
+use Rattle.words.proofs.Prelude.{eqb-true, eq-eqb, ne_eqb, leb-true, le-leb, not-true, length-drop, take-append-drop, List, [], ◌∷◌, ◌++◌}
 use Rattle.words.proofs.Prelude.{length, take, drop, replicate, length-take-le}
-use Rattle.words.specs.{All.all_of, Words.padded}
-use Rattle.words.proofs.{Tests.and_left, Tests.and_right, Tests.both_true, Alls.all_are, Alls.all_pass, Laws.drop_padded}
+use mathlib.Core.Bool.{beq}
+use Rattle.std.specs.List.{list_all}
+use Rattle.words.specs.Words.{padded}
+use Rattle.words.proofs.{Tests.and_left, Tests.and_right, Tests.both_true, Laws.drop_padded}
 use Rattle.words.proofs.Laws.{length-padded}
 use Rattle.entry.specs.{Limits.most_peers, Limits.most_replies, Limits.most_outgoing, Order.same_ballot, Order.no_ballot}
 use Rattle.entry.specs.declared.Ballot.{Ballot}
@@ -41,6 +43,11 @@ same_ballot_lem a b e =
     let pid = eqb-true a.pid b.pid (fourth_of p q r s e) in
     λ t. record { config_id = config t; n = number t; priority = priority t; pid = pid t }
 
+-- a derived `==` with false
+pub false_test : (b : Bool) → beq b false ≡ not b
+false_test true = refl
+false_test false = refl
+
 unhappy : (b : Bool) → not b ≡ true → b ≡ false
 unhappy b e = not-true b e
 
@@ -66,6 +73,18 @@ blank_message m e =
     let reply = blank_reply m.reply (fourth_of p q s (reply_blank m.reply) e) in
     λ t. record { from = from t; to = to t; is_reply = asks t; reply = reply t }
 
+-- where one element alone passes, a list that passes is that element over and over
+module _ {A : Type 0} (t : A → Bool) (b : A) where
+  all_are : ((x : A) → t x ≡ true → x ≡ b) → (l : List A) → list_all t l ≡ true → l ≡ replicate (length l) b
+  all_are known [] e = refl
+  all_are known (x ∷ l) e =
+      rw (known x (and_left (t x) (list_all t l) e))
+      (ap (λ (r : List A). b ∷ r) (all_are known l (and_right (t x) (list_all t l) e)))
+
+  all_pass : t b ≡ true → (n : ℕ) → list_all t (replicate n b) ≡ true
+  all_pass e zero = refl
+  all_pass e (suc n) = both_true (t b) (list_all t (replicate n b)) e (all_pass e n)
+
 -- a list in form, at any room and any test that one value alone passes
 module _ {A : Type 0} (t : A → Bool) (blank : A) (room : ℕ) where
   pub held_of : (n : ℕ) (xs : List A) → ((x : A) → t x ≡ true → x ≡ blank) → list_formed t room n xs ≡ true → Held blank room n xs
@@ -74,7 +93,7 @@ module _ {A : Type 0} (t : A → Bool) (blank : A) (room : ℕ) where
       let long = eqb-true (length xs) room (and_left (eqb (length xs) room) _ e) in
       let rest = and_right (eqb (length xs) room) _ e in
       let few = leb-true n room (and_left (leb n room) _ rest) in
-      let blanks = all_are t blank known (drop n xs) (and_right (leb n room) (all_of t (drop n xs)) rest) in
+      let blanks = all_are t blank known (drop n xs) (and_right (leb n room) (list_all t (drop n xs)) rest) in
       let taken = length-take-le n xs (omega (arith, long, few)) in
       let count : length (drop n xs) ≡ room - length (take n xs) = simp length-drop (omega (arith, long, taken)) in
       record {
@@ -90,7 +109,7 @@ module _ {A : Type 0} (t : A → Bool) (blank : A) (room : ℕ) where
   padded_formed xs passes h =
       both_true (eqb (length (padded blank room xs)) room) _ (eq-eqb _ _ (length-padded blank room xs h))
       (both_true (leb (length xs) room) _ (le-leb _ _ h)
-      (ap (all_of t) (drop_padded blank room xs) ∙ all_pass t blank passes (room - length xs)))
+      (ap (list_all t) (drop_padded blank room xs) ∙ all_pass t blank passes (room - length xs)))
 
   pub padded_held : ((x : A) → t x ≡ true → x ≡ blank) → (xs : List A) → t blank ≡ true → length xs ≤ room
       → Held blank room (length xs) (padded blank room xs)

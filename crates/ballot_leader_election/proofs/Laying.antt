@@ -1,13 +1,12 @@
 -- States as the code lays them out: a list and one element more, requests to each peer, and a state whose parts are
 -- laid out.
-use Rattle.words.proofs.Prelude.{arith, ◌≡◌, refl, sym, ap, ap₂, ◌∙◌, ℕ, suc, ◌+◌, ◌-◌, ◌≤◌, ◌<◌, add-one, List, []}
+use Rattle.words.proofs.Prelude.{arith, ◌≡◌, refl, sym, ap, ap₂, ◌∙◌, ℕ, suc, ◌+◌, ◌≤◌, ◌<◌, add-one, List, []}
 use Rattle.words.proofs.Prelude.{◌∷◌, append-nil, append_assoc, ◌++◌, map, length-append, length-map, length-take-le}
-use Rattle.words.proofs.Prelude.{length, take, drop, replicate, get_or, take_all}
+use Rattle.words.proofs.Prelude.{length, take, get_or, take_all}
 use mathlib.Core.List.{map-append}
-use lib.ListN.{length-replicate, replicate-append-replicate}
-use lib.Seq.{paste, take-suc, get_or-take, take-length, drop_at}
-use Rattle.words.specs.Words.{padded}
-use Rattle.words.proofs.Laws.{padded_more, take_padded}
+use Rattle.std.proofs.Common.{set}
+use lib.Seq.{take-suc}
+use Rattle.words.proofs.Laws.{length-padded, padded_more, take_padded}
 use Rattle.entry.specs.Limits.{most_peers, most_replies, most_outgoing}
 use Rattle.ballot_leader_election.specs.declared.HeartbeatReply.{HeartbeatReply}
 use Rattle.ballot_leader_election.specs.declared.BLEMessage.{BLEMessage}
@@ -20,7 +19,6 @@ use Rattle.ballot_leader_election.specs.State.{Election, no_reply, no_message, p
 use Rattle.ballot_leader_election.specs.State.{laid_peers, laid_replies, laid_messages, standing_in, election_of, laid_election}
 use Rattle.ballot_leader_election.specs.Steps.{request}
 use Rattle.ballot_leader_election.specs.Inner.{Held, PeersHeld, RepliesHeld, MessagesHeld, Formed, Listed}
-use Rattle.ballot_leader_election.specs.Inner.{sent_to, kept_in}
 
 -- the first n elements are n
 pub held_length : {A : Type 0} {blank : A} {room n : ℕ} {xs : List A} → Held blank room n xs → length (take n xs) ≡ n
@@ -45,19 +43,13 @@ back_messages l h =
     let held = h.rest in
     λ t. record { count = count t; held = sym held t }
 
--- zeros with some numbers over their front
-pub pasted_zeros : (n : ℕ) (s : List ℕ) → length s ≤ n → paste (replicate n 0) 0 s (length s) ≡ padded 0 n s
-pasted_zeros n s h =
-    let k : ℕ = length s in
-    let zeros : List ℕ = replicate k 0 in
-    let e : k + (n - k) ≡ n = omega (arith, h) in
-    let f : length zeros ≡ k = length-replicate k 0 in
-    let g : replicate n 0 ≡ zeros ++ replicate (n - k) 0 = ap (λ (m : ℕ). replicate m 0) (sym e)
-    ∙ sym (replicate-append-replicate k (n - k) 0) in
-    let z : 0 + k ≡ k = omega arith in
-    ap₂ ◌++◌ (take-length s) (ap₂ drop z g ∙ drop_at zeros (replicate (n - k) 0) k f)
+-- one element more, as the code puts it there
+abbrev pub sent_to : Outgoing → BLEMessage → Outgoing
+sent_to l m = record { count = l.count + 1; held = set l.held l.count m }
 
--- one element more
+abbrev pub kept_in : Replies → HeartbeatReply → Replies
+kept_in l r = record { count = l.count + 1; held = set l.held l.count r }
+
 more_length : {A : Type 0} (xs : List A) (x : A) → length xs + 1 ≡ length (xs ++ x ∷ [])
 more_length xs x = simp length-append refl
 
@@ -96,35 +88,41 @@ module _ (ps : Peers) (ms : Outgoing) (from round : ℕ) (h : Listed ps ms) wher
   abbrev requests : ℕ → List BLEMessage
   requests i = requested ps ms from round i
 
-  pub requests_length : (i : ℕ) → i ≤ ps.count → length (requests i) ≡ ms.count + i
-  requests_length i k =
-      length-append (messages_in ms) _
+  requests_few : (i : ℕ) → i < length (peers_in ps) → length (requests i) < most_outgoing
+  requests_few i k =
+      let e : length (requests i) ≡ ms.count + i = length-append (messages_in ms) _
       ∙ ap₂ ◌+◌ (held_length h.outgoing)
-      (length-map (take i (peers_in ps)) (request from round) ∙ length-take-le i (peers_in ps) (omega (arith, held_length h.peers, k)))
+      (length-map (take i (peers_in ps)) (request from round) ∙ length-take-le i (peers_in ps) (omega (arith, k))) in
+      omega (arith, e, k, held_length h.peers, h.room)
 
   pub none_yet : ms ≡ laid_messages (requests 0)
   none_yet =
       sym (back_messages ms h.outgoing) ∙ ap laid_messages (sym (append-nil (messages_in ms)))
 
-  pub all_sent : (i : ℕ) (sent : Outgoing) → ps.count ≤ i → sent ≡ laid_messages (requests i)
+  pub all_sent : (i : ℕ) (sent : Outgoing) → length (peers_in ps) ≤ i → sent ≡ laid_messages (requests i)
       → sent ≡ laid_messages (messages_in ms ++ map (request from round) (peers_in ps))
   all_sent i sent k e =
-      e ∙ ap (λ (l : List ℕ). laid_messages (messages_in ms ++ map (request from round) l))
-      (take_all i (peers_in ps) (omega (arith, held_length h.peers, k)))
+      e ∙ ap (λ (l : List ℕ). laid_messages (messages_in ms ++ map (request from round) l)) (take_all i (peers_in ps) k)
 
-  pub request_sent : (i : ℕ) (sent : Outgoing) → i < ps.count → sent ≡ laid_messages (requests i)
-      → sent_to sent (request from round (get_or ps.held i 0)) ≡ laid_messages (requests (i + 1))
-  request_sent i sent k e =
-      let p = get_or ps.held i 0 in
-      let l = peers_in ps in
-      let taken : take (suc i) l ≡ take i l ++ p ∷ [] = take-suc l i 0 (omega (arith, held_length h.peers, k))
-      ∙ ap (λ (x : ℕ). take i l ++ x ∷ []) (get_or-take ps.count ps.held i 0 k) in
-      ap (λ (o : Outgoing). sent_to o (request from round p)) e
-      ∙ sent_more (requests i) (request from round p) (omega (arith, requests_length i (omega (arith, k)), h.room))
-      ∙ ap laid_messages (append_assoc (messages_in ms) _ _)
-      ∙ ap (λ (x : List BLEMessage). laid_messages (messages_in ms ++ x))
-      (sym (map-append (request from round) (take i l) (p ∷ []))
-      ∙ ap (map (request from round)) (sym taken ∙ ap (λ (k : ℕ). take k l) (sym (add-one i))))
+  module _ (i : ℕ) (sent : Outgoing) (k : i < length (peers_in ps)) (e : sent ≡ laid_messages (requests i)) where
+    pub room_left : sent.count < length sent.held
+    room_left =
+        let n : sent.count ≡ length (requests i) = ap (λ (o : Outgoing). o.count) e in
+        let l : length sent.held ≡ most_outgoing = ap (λ (o : Outgoing). length o.held) e
+        ∙ length-padded no_message most_outgoing (requests i) (omega (arith, requests_few i k)) in
+        omega (arith, n, l, requests_few i k)
+
+    pub request_sent : sent_to sent (request from round (get_or (peers_in ps) i 0)) ≡ laid_messages (requests (i + 1))
+    request_sent =
+        let p = get_or (peers_in ps) i 0 in
+        let l = peers_in ps in
+        let taken : take (suc i) l ≡ take i l ++ p ∷ [] = take-suc l i 0 k in
+        ap (λ (o : Outgoing). sent_to o (request from round p)) e
+        ∙ sent_more (requests i) (request from round p) (requests_few i k)
+        ∙ ap laid_messages (append_assoc (messages_in ms) _ _)
+        ∙ ap (λ (x : List BLEMessage). laid_messages (messages_in ms ++ x))
+        (sym (map-append (request from round) (take i l) (p ∷ []))
+        ∙ ap (map (request from round)) (sym taken ∙ ap (λ (k : ℕ). take k l) (sym (add-one i))))
 
 -- a state with these parts, and the configuration and peers of another: as it is, and as it is laid out
 abbrev pub parts : ℕ → Replies → Replies → Standing → Outgoing → BallotLeaderElection → BallotLeaderElection

@@ -1,4 +1,3 @@
-pub mod Seeing
 pub mod Forming
 pub mod Laying
 pub mod Coming

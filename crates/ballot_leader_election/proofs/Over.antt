@@ -1,9 +1,9 @@
 -- One ballot above another: by n, by priority where n is equal, by pid where both are. It goes on from ballot to ballot.
-use Rattle.words.proofs.Prelude.{arith, ◌≡◌, sym, ◌∙◌, ℕ, ◌≤◌, ◌<◌, true, false, true≢false, lt-ltb, le-ltb}
+use Rattle.words.proofs.Prelude.{arith, ◌≡◌, sym, ◌∙◌, ℕ, ◌≤◌, ◌<◌, true, false, true≢false, lt-ltb, le-ltb, eq-eqb, ne_eqb}
 use Rattle.words.proofs.Tests.{Stand, below, same, stand, above as greater}
-use Rattle.entry.specs.Order.{compare_of}
+use Rattle.std.specs.Ordering.{nat_cmp}
+use Rattle.std.specs.declared.cmp.Ordering.TheVariants.{Less, Equal, Greater}
 use Rattle.entry.specs.declared.Ballot.{Ballot}
-use Rattle.entry.specs.declared.Ordering.TheVariants.{Less, Equal, Greater}
 use Rattle.ballot_leader_election.specs.Steps.{above}
 
 pub data Over (a b : Ballot) : Type 0 where
@@ -11,17 +11,14 @@ pub data Over (a b : Ballot) : Type 0 where
   by_priority : a.n ≡ b.n → b.priority < a.priority → Over a b
   by_pid : a.n ≡ b.n → a.priority ≡ b.priority → b.pid < a.pid → Over a b
 
-compare_less : (a b : ℕ) → a < b → compare_of a b ≡ Less
-unfolding compare_of
+compare_less : (a b : ℕ) → a < b → nat_cmp a b ≡ Less
 compare_less a b h = simp (lt-ltb a b h)
 
-compare_same : (a b : ℕ) → a ≡ b → compare_of a b ≡ Equal
-unfolding compare_of
-compare_same a b h = simp (le-ltb a b (omega (arith, h)), le-ltb b a (omega (arith, h)))
+compare_same : (a b : ℕ) → a ≡ b → nat_cmp a b ≡ Equal
+compare_same a b h = simp (le-ltb a b (omega (arith, h)), eq-eqb a b h)
 
-compare_more : (a b : ℕ) → b < a → compare_of a b ≡ Greater
-unfolding compare_of
-compare_more a b h = simp (le-ltb a b (omega (arith, h)), lt-ltb b a h)
+compare_more : (a b : ℕ) → b < a → nat_cmp a b ≡ Greater
+compare_more a b h = simp (le-ltb a b (omega (arith, h)), ne_eqb a b (λ e. omega (arith, e, h)))
 
 module _ (a b : Ballot) where
   -- the greater of two is above the other

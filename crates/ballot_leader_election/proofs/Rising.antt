@@ -1,7 +1,8 @@
 -- Where a node stands goes onward in every step of a timeout: its own number does not fall, the leader stays or rises,
 -- and the own number is not above the leader's. A takeover puts it above both.
 use Rattle.words.proofs.Prelude.{arith, ◌≡◌, refl, ap, ◌∙◌, ℕ, ◌≤◌, ◌<◌, Bool, true, eqb, if◌then◌else◌}
-use Rattle.words.proofs.Prelude.{Option, none, some, List, length}
+use Rattle.words.proofs.Prelude.{List, length}
+use Rattle.std.specs.Prelude.{Option, Some, None}
 use Rattle.words.proofs.Tests.{either}
 use Rattle.entry.specs.declared.Ballot.{Ballot}
 use Rattle.ballot_leader_election.specs.declared.HeartbeatReply.{HeartbeatReply}
@@ -53,8 +54,8 @@ module _ (s : Standing) (h : Behind s) where
       record { own = omega arith; leader = rises o; behind = omega (arith, h, over_number b s.leader o) }
 
   leader_by_lem : (m : Option Ballot) → Onward s (leader_by m s)
-  leader_by_lem none = rests s h
-  leader_by_lem (some b) =
+  leader_by_lem None = rests s h
+  leader_by_lem (Some b) =
       either (Onward s) (above b s.leader) (standing s.current_ballot b s.happy) s
       (λ e. moved b s.happy e) (λ e. rests s h)
 

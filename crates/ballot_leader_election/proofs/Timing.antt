@@ -7,13 +7,13 @@ use Rattle.entry.specs.Guards.{passes, refuses, first, replied}
 use Rattle.entry.specs.declared.Ballot.{Ballot}
 use Rattle.entry.proofs.GuardLaws.{found, stopping, passing, clear_all}
 use Rattle.ballot_leader_election.specs.declared.BallotLeaderElection.{BallotLeaderElection}
-use Rattle.ballot_leader_election.specs.declared.Led.{Led}
+use Rattle.std.specs.Prelude.{Option}
 use Rattle.ballot_leader_election.specs.declared.steps.Standing.{Standing}
 use Rattle.ballot_leader_election.specs.State.{peers_in, replies_in, standing_in, election_of, laid_election}
 use Rattle.ballot_leader_election.specs.Steps.{update_leader, update_happiness, takeover_due, taken_over, check_takeover}
 use Rattle.ballot_leader_election.specs.Steps.{promised, leading, new_round, with_standing, timed_out}
 use Rattle.ballot_leader_election.specs.Calls.{round_spent, takeover_spent, round_guards, timeout_guards}
-use Rattle.ballot_leader_election.specs.Run.{outcome, led}
+use Rattle.ballot_leader_election.specs.Run.{outcome, ballot_is}
 use Rattle.ballot_leader_election.specs.Inner.{Formed, Begins, with_standing as standing_with}
 use Rattle.ballot_leader_election.proofs.Laying.{held_length}
 use Rattle.ballot_leader_election.proofs.Verdicts.{round_short, round_room}
@@ -94,11 +94,11 @@ module _ (e : BallotLeaderElection) (f : Formed e) (p : Ballot) (u j : Standing)
       stands_is : s ≡ (timed_out p (election_of e)).standing
       stands_is = es ∙ ap (promised e.pid p) taken_is
 
-      pub timed_out_lem : (l : Led) (b x : BallotLeaderElection) → led l ≡ replied (leading s)
+      pub timed_out_lem : (l : Option Ballot) (b x : BallotLeaderElection) → ballot_is l ≡ leading s
           → b ≡ laid_election (new_round (election_of e)) → x ≡ standing_with s b
-          → outcome (led l) x
+          → outcome (replied (ballot_is l)) x
           ≡ outcome (replied (leading (timed_out p (election_of e)).standing)) (laid_election (timed_out p (election_of e)))
       timed_out_lem l b x el eb ex =
-          ap₂ outcome (el ∙ ap (λ (z : Standing). replied (leading z)) stands_is)
+          ap₂ outcome (ap replied (el ∙ ap leading stands_is))
           (ex ∙ ap (standing_with s) eb
           ∙ ap (λ (z : Standing). laid_election (with_standing z (new_round (election_of e)))) stands_is)

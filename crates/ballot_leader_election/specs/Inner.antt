@@ -1,31 +1,13 @@
--- What the inner functions say: a list with one element more, which happy replies are looked for, and what is known of a
--- well-formed state.
-use Rattle.std.specs.Prelude.{ℕ, ◌+◌, ◌≤◌, ◌<◌, ◌≡◌, Bool, ◌&&◌, List, length, take, set}
+-- What the inner functions say: a state with another standing, and what is known of a well-formed one.
+use Rattle.std.specs.Prelude.{ℕ, ◌+◌, ◌≤◌, ◌<◌, ◌≡◌, List, length, take}
 use Rattle.words.specs.Words.{padded}
 use Rattle.entry.specs.Limits.{most_peers, most_replies, most_outgoing, last_round}
-use Rattle.entry.specs.Order.{same_ballot}
-use Rattle.ballot_leader_election.specs.declared.HeartbeatReply.{HeartbeatReply}
-use Rattle.ballot_leader_election.specs.declared.BLEMessage.{BLEMessage}
 use Rattle.ballot_leader_election.specs.declared.Peers.{Peers}
 use Rattle.ballot_leader_election.specs.declared.Replies.{Replies}
 use Rattle.ballot_leader_election.specs.declared.Outgoing.{Outgoing}
 use Rattle.ballot_leader_election.specs.declared.BallotLeaderElection.{BallotLeaderElection}
-use Rattle.ballot_leader_election.specs.declared.seen.Sought.{Sought}
-use Rattle.ballot_leader_election.specs.declared.seen.Sought.TheVariants.{Any, Of, LedAbove}
 use Rattle.ballot_leader_election.specs.declared.steps.Standing.{Standing}
 use Rattle.ballot_leader_election.specs.State.{no_reply, no_message}
-use Rattle.ballot_leader_election.specs.Steps.{above}
-
-abbrev pub sent_to : Outgoing → BLEMessage → Outgoing
-sent_to l m = record { count = l.count + 1; held = set l.held l.count m }
-
-abbrev pub kept_in : Replies → HeartbeatReply → Replies
-kept_in l r = record { count = l.count + 1; held = set l.held l.count r }
-
-abbrev pub sought_in : Sought → HeartbeatReply → Bool
-sought_in Any r = r.happy
-sought_in (Of b) r = same_ballot r.ballot b && r.happy
-sought_in (LedAbove b) r = above r.leader b && r.happy
 
 abbrev pub with_standing : Standing → BallotLeaderElection → BallotLeaderElection
 with_standing s e = record {

@@ -1,18 +1,12 @@
 -- What a call comes to: of any state, its answer and the state after it. Every exported call is an equation with `run`,
 -- and the one that makes a state with `with_call`.
-use Rattle.std.specs.Prelude.{ℕ, ◌||◌, not, List, [], ◌∷◌, ltb, eqb, length, if◌then◌else◌}
+use Rattle.std.specs.Prelude.{ℕ, ◌||◌, not, List, ◌∷◌, ltb, eqb, length, if◌then◌else◌, Result, Ok, Err}
+use Rattle.std.specs.Prelude.{Option as Optional, Some, None}
 use Rattle.std.proofs.Math.Option.{Option, none, some}
 use Rattle.entry.specs.Limits.{most_peers}
-use Rattle.entry.specs.Guards.{Guard, guard, Verdict, passes, refuses, first, Answer, refused, replied, refused_by}
+use Rattle.entry.specs.Guards.{Guard, guard, Verdict, passes, refuses, first, Answer, refused, replied, refused_by, said_by}
+use Rattle.entry.specs.declared.Refusal.{Refusal}
 use Rattle.entry.specs.declared.Ballot.{Ballot}
-use Rattle.ballot_leader_election.specs.declared.Answer.{Answer as CodeAnswer}
-use Rattle.ballot_leader_election.specs.declared.Answer.TheVariants.{Done, Refused}
-use Rattle.ballot_leader_election.specs.declared.Led.{Led}
-use Rattle.ballot_leader_election.specs.declared.Led.TheVariants.{Leads, Nothing, Refused as LedRefused}
-use Rattle.ballot_leader_election.specs.declared.BallotAnswer.{BallotAnswer}
-use Rattle.ballot_leader_election.specs.declared.BallotAnswer.TheVariants.{Is, Refused as BallotRefused}
-use Rattle.ballot_leader_election.specs.declared.Recovered.{Recovered}
-use Rattle.ballot_leader_election.specs.declared.Recovered.TheVariants.{Nothing as NoLeader, Leader}
 use Rattle.ballot_leader_election.specs.declared.BLEConfig.{BLEConfig}
 use Rattle.ballot_leader_election.specs.declared.BallotLeaderElection.{BallotLeaderElection}
 use Rattle.ballot_leader_election.specs.State.{Election, election_of, laid_election, formed, no_election}
@@ -46,35 +40,26 @@ with_call c ps b =
     else outcome (replied tt) (laid_election (new_round (initial c ps b)))
 
 -- what the code's answers and requests say
-abbrev pub recovered_as : Recovered → Option Ballot
-recovered_as NoLeader = none
-recovered_as (Leader b) = some b
+abbrev pub ballot_is : Optional Ballot → Option Ballot
+ballot_is None = none
+ballot_is (Some b) = some b
 
-abbrev pub answered : CodeAnswer → Answer (Unit {0})
-answered Done = replied tt
-answered (Refused r) = refused_by r
+abbrev pub told : {A : Type 0} → Result A Refusal → Answer A
+told r = said_by (λ y. y) r
 
-abbrev pub led : Led → Answer (Option Ballot)
-led (Leads b) = replied (some b)
-led Nothing = replied none
-led (LedRefused r) = refused_by r
+-- of a call that hands the state back, alone or with a reply beside it: where it is refused that stays as it was lent
+abbrev pub changed : BallotLeaderElection → Result BallotLeaderElection Refusal → Outcome (Unit {0})
+changed e (Ok next) = outcome (replied tt) next
+changed e (Err r) = outcome (refused_by r) e
 
-abbrev pub ballot_said : BallotAnswer → Answer Ballot
-ballot_said (Is b) = replied b
-ballot_said (BallotRefused r) = refused_by r
+abbrev pub changed_at : {A B : Type 0} → (A → B) → BallotLeaderElection → Result (BallotLeaderElection × A) Refusal → Outcome B
+changed_at f e (Ok (next, y)) = outcome (replied (f y)) next
+changed_at f e (Err r) = outcome (refused_by r) e
 
--- a list that a call hands out beside its answer, as the code lays it out: none where the call is refused
-pub record Handed (L : Type 0) : Type 0 where
-  pub answer : Answer (Unit {0})
-  pub list : L
-  pub after : BallotLeaderElection
+-- a list that a call hands out, as the code lays it out
+abbrev pub laid_by : {A L : Type 0} → (List A → L) → Answer (List A) → Answer L
+laid_by lay (replied xs) = replied (lay xs)
+laid_by lay (refused n k) = refused n k
 
-abbrev pub handed : {L : Type 0} → Answer (Unit {0}) → L → BallotLeaderElection → Handed L
-handed a l e = record { answer = a; list = l; after = e }
-
-abbrev pub handed_by : {A L : Type 0} → (List A → L) → Answer (List A) → BallotLeaderElection → Handed L
-handed_by lay (replied xs) e = handed (replied tt) (lay xs) e
-handed_by lay (refused n k) e = handed (refused n k) (lay []) e
-
-abbrev pub handed_out : {A L : Type 0} → (List A → L) → Outcome (List A) → Handed L
-handed_out lay o = handed_by lay o.answer o.after
+abbrev pub handed_out : {A L : Type 0} → (List A → L) → Outcome (List A) → Outcome L
+handed_out lay o = outcome (laid_by lay o.answer) o.after

@@ -1,6 +1,6 @@
 -- A node's state: the fields of document 003, its lists as lists. How the code lays it out, and when it is well formed.
 use Rattle.std.specs.Prelude.{ℕ, Bool, false, ◌&&◌, not, List, [], leb, eqb, length, take, drop}
-use Rattle.words.specs.All.{all_of}
+use Rattle.std.specs.List.{list_all}
 use Rattle.words.specs.Words.{padded}
 use Rattle.entry.specs.Limits.{most_peers, most_replies, most_outgoing}
 use Rattle.entry.specs.Order.{same_ballot, no_ballot}
@@ -91,7 +91,7 @@ laid_election x = record {
 
 -- a list in form: no more elements than its array has, and blanks after them. The array's length is the struct's own.
 unfoldable pub list_formed : {A : Type 0} → (A → Bool) → ℕ → ℕ → List A → Bool
-list_formed blank room n xs = eqb (length xs) room && (leb n room && all_of blank (drop n xs))
+list_formed blank room n xs = eqb (length xs) room && (leb n room && list_all blank (drop n xs))
 
 -- "A state whose own n is above the leader's isn't well formed"; "At most 6 peers, 16 replies a round, 32 outgoing
 -- messages"; 003: a pid "Must not be 0"

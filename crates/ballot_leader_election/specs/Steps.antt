@@ -1,11 +1,11 @@
 -- Document 003, function by function: what a round shows, the steps of a timeout, rounds and messages.
 use Rattle.std.specs.Prelude.{ℕ, ◌+◌, ◌/◌, Bool, true, false, ◌&&◌, ◌||◌, not, List, [], ◌∷◌, ◌++◌, map, leb, eqb, length, if◌then◌else◌}
+use Rattle.std.specs.Prelude.{Option as Optional, Some, None, count_by}
+use Rattle.std.specs.List.{list_any, fold}
+use Rattle.std.specs.Ordering.{is_gt}
 use Rattle.std.proofs.Math.Option.{Option, none, some}
-use Rattle.words.specs.All.{any_of, count_of}
 use Rattle.entry.specs.Order.{ballot_order, same_ballot, no_ballot}
 use Rattle.entry.specs.declared.Ballot.{Ballot}
-use Rattle.entry.specs.declared.Ordering.{Ordering}
-use Rattle.entry.specs.declared.Ordering.TheVariants.{Less, Equal, Greater}
 use Rattle.ballot_leader_election.specs.declared.HeartbeatReply.{HeartbeatReply}
 use Rattle.ballot_leader_election.specs.declared.BLEMessage.{BLEMessage}
 use Rattle.ballot_leader_election.specs.declared.BLEConfig.{BLEConfig}
@@ -16,34 +16,25 @@ use Rattle.ballot_leader_election.specs.State.{Election}
 unfoldable pub quorum : ℕ → ℕ → Bool
 quorum peers nodes = leb ((peers + 1) / 2 + 1) nodes
 
-abbrev pub is_greater : Ordering → Bool
-is_greater Less = false
-is_greater Equal = false
-is_greater Greater = true
-
 -- one ballot greater than another, by the order, which does not look at the configuration
 unfoldable pub above : Ballot → Ballot → Bool
-above a b = is_greater (ballot_order a b)
+above a b = is_gt (ballot_order a b)
 
 -- `max()`: of equal ones the last
 abbrev pub later_of : Ballot → Ballot → Ballot
 later_of a b = if above a b then a else b
 
-unfoldable pub max_from : Ballot → List HeartbeatReply → Ballot
-max_from b [] = b
-max_from b (r ∷ rs) = max_from (later_of b r.ballot) rs
-
-abbrev pub max_ballot : List HeartbeatReply → Option Ballot
-max_ballot [] = none
-max_ballot (r ∷ rs) = some (max_from r.ballot rs)
+abbrev pub max_ballot : List HeartbeatReply → Optional Ballot
+max_ballot [] = None
+max_ballot (r ∷ rs) = Some (fold (λ (max : Ballot) (q : HeartbeatReply). later_of max q.ballot) r.ballot rs)
 
 abbrev pub standing : Ballot → Ballot → Bool → Standing
 standing mine leader happy = record { current_ballot = mine; leader = leader; happy = happy }
 
 -- `update_leader`
-abbrev pub leader_by : Option Ballot → Standing → Standing
-leader_by none s = s
-leader_by (some max) s =
+abbrev pub leader_by : Optional Ballot → Standing → Standing
+leader_by None s = s
+leader_by (Some max) s =
     if above max s.leader then standing s.current_ballot max s.happy else s
 
 unfoldable pub update_leader : List HeartbeatReply → Standing → Standing
@@ -51,7 +42,16 @@ update_leader rs s = leader_by (max_ballot rs) s
 
 -- `update_happiness`: `==` looks at the configuration too, `<=` and `>` do not
 unfoldable pub potential_followers : Ballot → List HeartbeatReply → ℕ
-potential_followers mine rs = count_of (λ (r : HeartbeatReply). not (above r.leader mine)) rs
+potential_followers mine rs = count_by (λ (r : HeartbeatReply). not (above r.leader mine)) rs
+
+abbrev pub any_happy : List HeartbeatReply → Bool
+any_happy rs = list_any (λ (r : HeartbeatReply). r.happy) rs
+
+abbrev pub leader_happy : Ballot → List HeartbeatReply → Bool
+leader_happy leader rs = list_any (λ (r : HeartbeatReply). same_ballot r.ballot leader && r.happy) rs
+
+abbrev pub larger_happy : Ballot → List HeartbeatReply → Bool
+larger_happy mine rs = list_any (λ (r : HeartbeatReply). above r.leader mine && r.happy) rs
 
 abbrev pub leads : Standing → Bool
 leads s = same_ballot s.leader s.current_ballot
@@ -59,9 +59,8 @@ leads s = same_ballot s.leader s.current_ballot
 unfoldable pub is_happy : ℕ → List HeartbeatReply → Standing → Bool
 is_happy peers rs s =
     if leads s
-    then quorum peers (potential_followers s.current_ballot rs + 1)
-    || any_of (λ (r : HeartbeatReply). above r.leader s.current_ballot && r.happy) rs
-    else any_of (λ (r : HeartbeatReply). same_ballot r.ballot s.leader && r.happy) rs
+    then quorum peers (potential_followers s.current_ballot rs + 1) || larger_happy s.current_ballot rs
+    else leader_happy s.leader rs
 
 abbrev pub update_happiness : ℕ → List HeartbeatReply → Standing → Standing
 update_happiness peers rs s = standing s.current_ballot s.leader (is_happy peers rs s)
@@ -72,7 +71,7 @@ numbered n b = record { config_id = b.config_id; n = n; priority = b.priority; p
 
 unfoldable pub takeover_due : ℕ → List HeartbeatReply → Standing → Bool
 takeover_due peers rs s =
-    not s.happy && (not (any_of (λ (r : HeartbeatReply). r.happy) rs) && quorum peers (length rs + 1))
+    not s.happy && (not (any_happy rs) && quorum peers (length rs + 1))
 
 abbrev pub taken_over : Standing → Standing
 taken_over s = let mine = numbered (s.leader.n + 1) s.current_ballot in standing mine mine true

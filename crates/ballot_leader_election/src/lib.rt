@@ -1,18 +1,18 @@
 // The leader election of document 003, request E8 of document 02. It stands apart from the log: a node's state goes
 // into a call by value and comes back beside the answer. A contract is one equation: the answer and the whole state
-// after the call. Names are the Rust's.
+// after the call, which where it is refused is the one that was lent. Names are the Rust's.
 #![tactic(auto)]
 
 ghost use Rattle.std.specs.Prelude.{◌≡◌};
-ghost use Rattle.ballot_leader_election.specs.State.{laid_replies, laid_messages, formed};
+ghost use Rattle.ballot_leader_election.specs.State.{laid_replies, laid_messages, formed, no_election};
 ghost use Rattle.ballot_leader_election.specs.Calls.{set_priority, outgoing_mut, handle, new_hb_round, hb_timeout};
 ghost use Rattle.ballot_leader_election.specs.Calls.{get_current_ballot, get_ballots};
-ghost use Rattle.ballot_leader_election.specs.Run.{outcome, run, recovered_as, with_call, answered, led, ballot_said};
-ghost use Rattle.ballot_leader_election.specs.Run.{handed, handed_out};
+ghost use Rattle.ballot_leader_election.specs.Run.{outcome, run, with_call, ballot_is, told, changed, changed_at};
+ghost use Rattle.ballot_leader_election.specs.Run.{handed_out};
 
 use entry::{Ballot, Refusal};
 
-mod forms;
+pub mod forms;
 mod rounds;
 mod seen;
 mod steps;
@@ -32,9 +32,12 @@ const INITIAL_ROUND: u32 = 1;
 
 const RECOVERY_ROUND: u32 = 0;
 
+// The pid that no node has.
+const NO_PID: u64 = 0;
+
 // A reply to a heartbeat: of which round, and where its sender stood.
 #[repr(C)]
-#[derive(Clone, Copy)]
+#[derive(Clone, Copy, Debug, PartialEq, Eq)]
 pub struct HeartbeatReply {
     pub round: u32,
     pub ballot: Ballot,
@@ -43,9 +46,9 @@ pub struct HeartbeatReply {
 }
 
 // A message from one node to another: the reply to a heartbeat, or the request of one, which has a round and nothing
-// else of a reply.
+// else of a reply. It has a flag and is no enum because of the C interface, which takes none.
 #[repr(C)]
-#[derive(Clone, Copy)]
+#[derive(Clone, Copy, Debug, PartialEq, Eq)]
 pub struct BLEMessage {
     pub from: u64,
     pub to: u64,
@@ -53,23 +56,24 @@ pub struct BLEMessage {
     pub reply: HeartbeatReply,
 }
 
-// Lists by value: the first `count` elements are held, and the others are zero.
+// Lists by value: the first `count` elements are held, and the others are zero. They are three and not one generic
+// struct because of the C interface: an exported function's struct has no type or const parameters.
 #[repr(C)]
-#[derive(Clone, Copy)]
+#[derive(Clone, Copy, Debug, PartialEq, Eq)]
 pub struct Peers {
     pub count: usize,
     pub held: [u64; PEERS],
 }
 
 #[repr(C)]
-#[derive(Clone, Copy)]
+#[derive(Clone, Copy, Debug, PartialEq, Eq)]
 pub struct Replies {
     pub count: usize,
     pub held: [HeartbeatReply; REPLIES],
 }
 
 #[repr(C)]
-#[derive(Clone, Copy)]
+#[derive(Clone, Copy, Debug, PartialEq, Eq)]
 pub struct Outgoing {
     pub count: usize,
     pub held: [BLEMessage; OUTGOING],
@@ -77,7 +81,7 @@ pub struct Outgoing {
 
 // A node's state.
 #[repr(C)]
-#[derive(Clone, Copy)]
+#[derive(Clone, Copy, Debug, PartialEq, Eq)]
 pub struct BallotLeaderElection {
     pub configuration_id: u32,
     pub pid: u64,
@@ -93,67 +97,11 @@ pub struct BallotLeaderElection {
 
 // What a node starts from, beside its peers.
 #[repr(C)]
-#[derive(Clone, Copy)]
+#[derive(Clone, Copy, Debug, PartialEq, Eq)]
 pub struct BLEConfig {
     pub configuration_id: u32,
     pub pid: u64,
     pub priority: u32,
-}
-
-// The Rust's `Option<Ballot>` of a recovered leader.
-#[derive(Clone, Copy)]
-pub enum Recovered {
-    Nothing,
-    Leader(Ballot),
-}
-
-// The reply of a call that has nothing more to say.
-#[derive(Clone, Copy)]
-pub enum Answer {
-    Done,
-    Refused(Refusal),
-}
-
-#[derive(Clone, Copy)]
-pub struct Answered {
-    pub answer: Answer,
-    pub election: BallotLeaderElection,
-}
-
-// The reply of a timeout: the node's ballot where it leads.
-#[derive(Clone, Copy)]
-pub enum Led {
-    Leads(Ballot),
-    Nothing,
-    Refused(Refusal),
-}
-
-#[derive(Clone, Copy)]
-pub struct TimedOut {
-    pub answer: Led,
-    pub election: BallotLeaderElection,
-}
-
-// The reply of a call that tells a ballot.
-#[derive(Clone, Copy)]
-pub enum BallotAnswer {
-    Is(Ballot),
-    Refused(Refusal),
-}
-
-// Replies handed out, none where the call is refused.
-#[derive(Clone, Copy)]
-pub struct Ballots {
-    pub answer: Answer,
-    pub replies: Replies,
-}
-
-// Messages handed out, none where the call is refused, and the state without them.
-#[derive(Clone, Copy)]
-pub struct Taken {
-    pub answer: Answer,
-    pub outgoing: Outgoing,
-    pub election: BallotLeaderElection,
 }
 
 // Document 02's "well formed": the own number is not above the leader's, no list has more than fits, what is unused is
@@ -161,133 +109,85 @@ pub struct Taken {
 pub fn well_formed(e: BallotLeaderElection) -> bool
     ensures { result ≡ formed e }
 {
-    let mine = e.current_ballot;
-    let leader = e.leader;
-    let peers = forms::peers_formed(e.peers);
-    let replies = forms::replies_formed(e.heartbeat_replies);
-    let prev = forms::replies_formed(e.prev_replies);
-    let outgoing = forms::outgoing_formed(e.outgoing);
-    (mine.n <= leader.n) & ((e.pid != 0) & (peers & (replies & (prev & outgoing))))
+    let (reply, message) = (forms::no_reply(), forms::no_message());
+    let peers = forms::list_formed(e.peers.count, &e.peers.held, &0);
+    let replies = forms::list_formed(e.heartbeat_replies.count, &e.heartbeat_replies.held, &reply);
+    let prev = forms::list_formed(e.prev_replies.count, &e.prev_replies.held, &reply);
+    let outgoing = forms::list_formed(e.outgoing.count, &e.outgoing.held, &message);
+    (e.current_ballot.n <= e.leader.n)
+        & ((e.pid != NO_PID) & (peers & (replies & (prev & outgoing))))
 }
 
 // A node that starts, or starts again with the leader that it had promised to: round 1 has begun.
-pub fn with(config: BLEConfig, peers: &[u64], recovered: Recovered) -> Answered
-    ensures { outcome (answered result.answer) result.election
-        ≡ with_call config peers.now (recovered_as recovered) }
+pub fn with(
+    config: BLEConfig,
+    peers: &[u64],
+    recovered: Option<Ballot>,
+) -> Result<BallotLeaderElection, Refusal>
+    ensures { changed no_election result ≡ with_call config peers.now (ballot_is recovered) }
 {
-    if (config.pid == 0) | (PEERS < peers.len()) {
-        return Answered {
-            answer: Answer::Refused(Refusal::Malformed),
-            election: forms::no_election(),
-        };
+    if config.pid == NO_PID || PEERS < peers.len() {
+        return Err(Refusal::Malformed);
     }
     let start = rounds::initial(config, peers, recovered);
-    Answered {
-        answer: Answer::Done,
-        election: rounds::new_round(start),
-    }
+    Ok(rounds::new_round(start))
 }
 
 // Sets the priority that the node's ballot has from now on.
-pub fn set_priority(e: BallotLeaderElection, p: u32) -> Answered
-    ensures { outcome (answered result.answer) result.election ≡ run (set_priority p) e }
+pub fn set_priority(e: BallotLeaderElection, p: u32) -> Result<BallotLeaderElection, Refusal>
+    ensures { changed e result ≡ run (set_priority p) e }
 {
-    if !well_formed(e) {
-        return forms::refuse(e, Refusal::IllFormed);
-    }
-    let mut mine = e.current_ballot;
-    mine.priority = p;
-    let mut next = e;
-    next.current_ballot = mine;
-    Answered {
-        answer: Answer::Done,
-        election: next,
-    }
+    let mut next = forms::checked(e)?.state;
+    next.current_ballot.priority = p;
+    Ok(next)
 }
 
 // The outgoing messages, which leave the state: the Rust hands out its list, and its users empty that.
-pub fn outgoing_mut(e: BallotLeaderElection) -> Taken
-    ensures { handed (answered result.answer) result.outgoing result.election
-        ≡ handed_out laid_messages (run outgoing_mut e) }
+pub fn outgoing_mut(e: BallotLeaderElection) -> Result<(BallotLeaderElection, Outgoing), Refusal>
+    ensures { changed_at (λ l. l) e result ≡ handed_out laid_messages (run outgoing_mut e) }
 {
-    if !well_formed(e) {
-        return Taken {
-            answer: Answer::Refused(Refusal::IllFormed),
-            outgoing: forms::no_messages(),
-            election: e,
-        };
-    }
-    let outgoing = e.outgoing;
-    let none = forms::no_messages();
-    let mut next = e;
-    next.outgoing = none;
-    Taken {
-        answer: Answer::Done,
-        outgoing,
-        election: next,
-    }
+    let mut next = forms::checked(e)?.state;
+    next.outgoing = forms::no_messages();
+    Ok((next, e.outgoing))
 }
 
 // Handles a message: a request is replied to, a reply of this round is kept.
-pub fn handle(e: BallotLeaderElection, m: BLEMessage) -> Answered
-    ensures { outcome (answered result.answer) result.election ≡ run (handle m) e }
+pub fn handle(e: BallotLeaderElection, m: BLEMessage) -> Result<BallotLeaderElection, Refusal>
+    ensures { changed e result ≡ run (handle m) e }
 {
-    if !well_formed(e) {
-        return forms::refuse(e, Refusal::IllFormed);
-    }
-    let reply = m.reply;
+    let formed = forms::checked(e)?;
     if m.is_reply {
-        return rounds::handle_reply(e, reply);
+        return rounds::handle_reply(formed, m.reply);
     }
-    rounds::handle_request(e, m.from, reply.round)
+    rounds::handle_request(formed, m.from, m.reply.round)
 }
 
 // Begins a round: the replies of the last one are kept aside, and every peer is sent a request.
-pub fn new_hb_round(e: BallotLeaderElection) -> Answered
-    ensures { outcome (answered result.answer) result.election ≡ run new_hb_round e }
+pub fn new_hb_round(e: BallotLeaderElection) -> Result<BallotLeaderElection, Refusal>
+    ensures { changed e result ≡ run new_hb_round e }
 {
-    if !well_formed(e) {
-        return forms::refuse(e, Refusal::IllFormed);
-    }
-    rounds::new_round_at(e)
+    rounds::new_round_at(forms::checked(e)?)
 }
 
-// The end of a round, by what came in it and by what Sequence Paxos has promised.
-pub fn hb_timeout(e: BallotLeaderElection, promise: Ballot) -> TimedOut
-    ensures { outcome (led result.answer) result.election ≡ run (hb_timeout promise) e }
+// The end of a round, by what came in it and by what Sequence Paxos has promised: the node's ballot where it leads.
+pub fn hb_timeout(
+    e: BallotLeaderElection,
+    promise: Ballot,
+) -> Result<(BallotLeaderElection, Option<Ballot>), Refusal>
+    ensures { changed_at ballot_is e result ≡ run (hb_timeout promise) e }
 {
-    if !well_formed(e) {
-        return TimedOut {
-            answer: Led::Refused(Refusal::IllFormed),
-            election: e,
-        };
-    }
-    rounds::time_out(e, promise)
+    rounds::time_out(forms::checked(e)?, promise)
 }
 
-pub fn get_current_ballot(e: BallotLeaderElection) -> BallotAnswer
-    ensures { outcome (ballot_said result) e ≡ run get_current_ballot e }
+pub fn get_current_ballot(e: BallotLeaderElection) -> Result<Ballot, Refusal>
+    ensures { outcome (told result) e ≡ run get_current_ballot e }
 {
-    if !well_formed(e) {
-        return BallotAnswer::Refused(Refusal::IllFormed);
-    }
-    let ballot = e.current_ballot;
-    BallotAnswer::Is(ballot)
+    Ok(forms::checked(e)?.state.current_ballot)
 }
 
 // The replies of the round before.
-pub fn get_ballots(e: BallotLeaderElection) -> Ballots
-    ensures { handed (answered result.answer) result.replies e ≡ handed_out laid_replies (run get_ballots e) }
+pub fn get_ballots(e: BallotLeaderElection) -> Result<Replies, Refusal>
+    ensures { outcome (told result) e ≡ handed_out laid_replies (run get_ballots e) }
 {
-    if !well_formed(e) {
-        return Ballots {
-            answer: Answer::Refused(Refusal::IllFormed),
-            replies: forms::no_replies(),
-        };
-    }
-    let replies = e.prev_replies;
-    Ballots {
-        answer: Answer::Done,
-        replies,
-    }
+    Ok(forms::checked(e)?.state.prev_replies)
 }

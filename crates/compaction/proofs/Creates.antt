@@ -1,6 +1,9 @@
 -- A snapshot created from a lent state: refusals 12, 11, 3, 2, 16 and 8, or the fold written out.
 use Rattle.words.proofs.Prelude.{arith, ◌≡◌, refl, sym, ap, ◌∙◌, ℕ, ◌+◌, ◌-◌, ◌≤◌, ◌<◌, Bool, true, false, ltb, lt-ltb}
 use Rattle.words.proofs.Prelude.{le-ltb, some, List}
+use Rattle.std.specs.Prelude.{cond, eqb}
+use Rattle.std.specs.declared.cmp.Ordering.TheVariants.{Less, Equal, Greater}
+use Rattle.std.specs.Ordering.{nat_cmp, is_lt}
 use Rattle.entry.specs.Change.{Change}
 use Rattle.entry.specs.Guards.{Verdict, passes, refuses, first, Answer, refused, settle}
 use Rattle.entry.proofs.GuardLaws.{passing, stopping, found, first_goes_on}
@@ -15,8 +18,16 @@ use Rattle.state_cache.specs.{State.Raw, State.numbers_in, State.formed, State.l
 use Rattle.state_cache.specs.Inner.{hole_in}
 use Rattle.state_cache.proofs.Stands.{Stands, stands_of, hole_is}
 use Rattle.state_cache.proofs.Runs.{ill_formed, not_whole, call_refused, call_stands}
-use Rattle.internal_storage.proofs.Effects.{numbers}
-use Rattle.compaction.proofs.Folding.{fold_is}
+use Rattle.compaction.proofs.Folding.{numbers, fold_is}
+
+-- the derived order of two indexes, as a test of their numbers
+lt_by : (t u : Bool) → is_lt (cond t Less (cond u Equal Greater)) ≡ t
+lt_by true u = refl
+lt_by false true = refl
+lt_by false false = refl
+
+pub index_lt : (x y : ℕ) → is_lt (nat_cmp x y) ≡ ltb x y
+index_lt x y = lt_by (ltb x y) (eqb x y)
 
 -- no target is below compacted that is asked for at or above it
 pub target_from : (i : ℕ) (n : Numbers) → Sound n → n.compacted ≤ i → n.compacted ≤ target (some i) n

@@ -4,11 +4,12 @@ use Rattle.words.proofs.{Alls.all_take, CodedLaws.entries_take}
 use Rattle.entry.specs.{Limits.snapshot_words, Change.change_code, Change.change_formed, Change.entries_of}
 use Rattle.entry.proofs.SliceLaws.{stored_entries}
 use Rattle.snapshot.specs.{Folds.fold_onto, Folds.merge, Inner.Aside}
-use Rattle.model.specs.{Numbers.Numbers, Numbers.end_of, Numbers.log_decided, Log.Log, Log.or_empty, Log.folded_to}
+use Rattle.model.specs.{Numbers.Numbers, Numbers.end_of, Numbers.log_decided, Log.Log, Log.numbers_of, Log.or_empty}
+use Rattle.model.specs.{Log.folded_to}
 use Rattle.model.specs.{Inner.Sound}
 use Rattle.model.proofs.Forms.{ranges, formed_of, snapshot_held_lem}
-use Rattle.state_cache.specs.{State.Raw, State.formed, State.log_of, Inner.Ready}
-use Rattle.state_cache.proofs.Stands.{stands_of, log_formed, ready_of}
+use Rattle.state_cache.specs.{State.Raw, State.numbers_in, State.formed, State.log_of, Inner.Ready}
+use Rattle.state_cache.proofs.Stands.{numbers_are, stands_of, log_formed, ready_of}
 
 -- log-decided is in the run
 pub decided_low : (n : Numbers) → Sound n → (last : ℕ) → last ≡ log_decided n → n.compacted ≤ last
@@ -20,6 +21,9 @@ decided_high n f last l = rw l (unfold end_of in (ranges n f).high)
 module _ (r : Raw) (ok : formed r ≡ true) where
   abbrev s : Log
   s = log_of r
+
+  pub numbers : numbers_of s ≡ numbers_in r.index
+  numbers = numbers_are s r (stands_of r ok)
 
   pub snapshot_is : entries_of r.index.keys r.snapshot ≡ or_empty s.run.held
   snapshot_is =

@@ -17,7 +17,8 @@ module _ (r : Raw) (to : ℕ) where
   s = log_of r
 
   -- all words are cleared
-  pub hold_none : (exit : List ℕ) → exit ≡ replicate snapshot_words 0 → outcome (replied 0) exit ≡ held_written Trim to r
+  pub hold_none : (exit : List ℕ) → exit ≡ replicate snapshot_words 0
+      → outcome (replied 0) exit ≡ held_written Trim to r
   unfolding first laid words_of
   hold_none exit e = ap (λ (ws : List ℕ). outcome (replied 0) ws) e
 

@@ -2,6 +2,7 @@
 -- model's `compacted_to`.
 use Rattle.words.proofs.Prelude.{arith, ◌≡◌, refl, sym, ap, ◌∙◌, ℕ, ◌+◌, ◌-◌, ◌≤◌, Bool, true, false, lt-ltb, le-ltb}
 use Rattle.words.proofs.Prelude.{if◌then◌else◌, Option, List, [], ◌∷◌, ◌++◌, length-drop, length}
+use Rattle.std.specs.Prelude.{Result, Ok, Err}
 use Rattle.words.specs.Coded.{words_of}
 use Rattle.words.proofs.CodedLaws.{spliced_trim}
 use Rattle.entry.specs.{Limits.log_words, Limits.snapshot_words, Change.Change, Change.stored, Guards.Guard}
@@ -10,8 +11,7 @@ use Rattle.entry.specs.{Refusals.number_of, Refusals.carried_of, declared.Refusa
 use Rattle.entry.specs.{declared.Compaction.Compaction, declared.Compaction.TheVariants.Trim}
 use Rattle.entry.specs.{declared.Compaction.TheVariants.Snapshot}
 use Rattle.entry.proofs.GuardLaws.{first_left, first_right}
-use Rattle.snapshot.specs.{Calls.outcome as snapshot_outcome, Calls.folded, declared.Folded.Folded}
-use Rattle.snapshot.specs.{declared.Folded.TheVariants.Keys, declared.Folded.TheVariants.Refused}
+use Rattle.snapshot.specs.Calls.{outcome as snapshot_outcome, folded}
 use Rattle.snapshot.proofs.Calling.{wrote_nothing, wrote_keys}
 use Rattle.model.specs.Numbers.{Numbers, end_of}
 use Rattle.model.specs.Log.{Log, numbers_of, given, or_empty, folded_to}
@@ -20,12 +20,10 @@ use Rattle.model.specs.Compact.{compact_guards, held_then, compacted_to}
 use Rattle.model.specs.Calls.{Call, compact, malformed, further, effect, reply_of}
 use Rattle.model.proofs.{Forms.ranges, Keeps.target_range}
 use Rattle.state_cache.specs.{State.Raw, State.raw, State.numbers_in, State.formed, State.log_of, Run.outcome, Run.run}
-use Rattle.state_cache.specs.{Run.settled, declared.IndexRecord.IndexRecord, declared.Settled.Settled}
-use Rattle.state_cache.specs.{declared.Settled.TheVariants.Done}
-use Rattle.state_cache.specs.{declared.Settled.TheVariants.Refused as SettledRefused}
+use Rattle.state_cache.specs.declared.IndexRecord.{IndexRecord}
 use Rattle.state_cache.proofs.{Stands.Stands, Stands.stands_of, Stands.log_formed, Stands.ready_of, Runs.call_refused}
 use Rattle.state_cache.proofs.{Runs.call_stands, Changes.log_spliced}
-use Rattle.internal_storage.proofs.Effects.{numbers}
+use Rattle.compaction.proofs.Folding.{numbers}
 use Rattle.compaction.specs.Inner.{past_verdict, Stay, Up, Movable, Moved, held_at, holds_then, held_written}
 
 -- what is decided is held or compacted
@@ -88,12 +86,14 @@ module _ (r : Raw) (ok : formed r ≡ true) (what : Compaction) (upto : Option �
   nothing_due Trim = refl
   nothing_due Snapshot = refl
 
-  pub compact_stays : (a : Settled) → Stay upto r.index a → outcome (settled a) r ≡ run c true r
+  pub compact_above : (x : Refusal) → refuses (number_of x) (carried_of x) ≡ past_verdict upto r.index
+      → outcome (refused_by x) r ≡ run c true r
   unfolding malformed
-  compact_stays Done p =
-      stands (nothing_due what ∙ sym (goes_on p.verdict false (not_past (p.low refl)))) r (unmoved (p.low refl))
-  compact_stays (SettledRefused x) p =
-      call_refused c r ok refl (number_of x) (carried_of x) (past_stops (number_of x) (carried_of x) p.verdict)
+  compact_above x e = call_refused c r ok refl (number_of x) (carried_of x) (past_stops (number_of x) (carried_of x) e)
+
+  pub compact_stays : Stay upto r.index → outcome (replied tt) r ≡ run c true r
+  compact_stays p =
+      stands (nothing_due what ∙ sym (goes_on p.verdict false (not_past p.low))) r (unmoved p.low)
 
   module _ (to : ℕ) (u : Up upto r.index to) where
     in_run : to ≤ r.index.compacted.0 + r.index.retained
@@ -117,7 +117,8 @@ module _ (r : Raw) (ok : formed r ≡ true) (what : Compaction) (upto : Option �
     folds_to = ap (λ (j : ℕ). folded_to j s.run) ends_at
 
     -- the snapshot then held, in the words that hold it
-    held_is : (w : Compaction) → (given (held_then w upto s) ≡ holds_then w) × (or_empty (held_then w upto s) ≡ held_at w to s)
+    held_is : (w : Compaction)
+        → (given (held_then w upto s) ≡ holds_then w) × (or_empty (held_then w upto s) ≡ held_at w to s)
     held_is Trim = (refl, refl)
     held_is Snapshot = (refl, folds_to)
 
@@ -143,12 +144,13 @@ module _ (r : Raw) (ok : formed r ≡ true) (what : Compaction) (upto : Option �
     })
 
     -- what is written in the snapshot's place, or refused
-    module _ (a : Folded) (exit : List ℕ) (f : snapshot_outcome (folded a) exit ≡ held_written what to r) where
+    module _ (a : Result ℕ Refusal) (exit : List ℕ)
+        (f : snapshot_outcome (folded a) exit ≡ held_written what to r) where
       verdict : first (further c s) ≡ first (due true (folded_to to s.run))
       verdict =
           goes_on u.verdict true is_past ∙ ap (λ (es : List Change). first (due true es)) folds_to
 
-      pub compact_over : (x : Refusal) → a ≡ Refused x
+      pub compact_over : (x : Refusal) → a ≡ Err x
           → outcome (refused_by x) (raw r.index r.log exit) ≡ run c true r
       unfolding malformed
       compact_over x p =
@@ -156,7 +158,7 @@ module _ (r : Raw) (ok : formed r ≡ true) (what : Compaction) (upto : Option �
           ap (λ (ws : List ℕ). outcome (refused_by x) (raw r.index r.log ws)) q.1
           ∙ call_refused c r ok refl (number_of x) (carried_of x) (sym (verdict ∙ q.0))
 
-      pub compact_moves : (k : ℕ) → a ≡ Keys k → (held : Bool) → held ≡ holds_then what
+      pub compact_moves : (k : ℕ) → a ≡ Ok k → (held : Bool) → held ≡ holds_then what
           → (y : IndexRecord) (words : List ℕ) → Moved to held k r.index r.log y words
           → outcome (replied tt) (raw y words exit) ≡ run c true r
       compact_moves k p held h y words m =

@@ -1,11 +1,13 @@
 -- What the inner functions say: where a compaction ends, what is then held, and the run's start moved up there.
 use Rattle.std.specs.Prelude.{ℕ, ◌+◌, ◌-◌, ◌*◌, ◌≤◌, ◌<◌, ◌≡◌, Bool, true, false, List, [], ◌∷◌, length, take}
+use Rattle.std.specs.Prelude.{Option as Optional, Some, None, Result, Ok, Err}
 use Rattle.std.proofs.Math.Option.{Option}
 use Rattle.words.specs.Words.{laid, spliced}
 use Rattle.entry.specs.Limits.{width, log_words}
 use Rattle.entry.specs.Change.{Change, Laid}
 use Rattle.entry.specs.Guards.{Verdict, passes, refuses, first}
 use Rattle.entry.specs.Refusals.{number_of, carried_of}
+use Rattle.entry.specs.declared.Refusal.{Refusal}
 use Rattle.entry.specs.declared.Compaction.{Compaction}
 use Rattle.entry.specs.declared.Compaction.TheVariants.{Trim, Snapshot}
 use Rattle.snapshot.specs.Calls.{Outcome, written_by}
@@ -13,24 +15,15 @@ use Rattle.model.specs.Log.{Log, folded_to}
 use Rattle.model.specs.Compact.{target, above_decided, onto_guards, snapshots_only}
 use Rattle.state_cache.specs.State.{Raw, numbers_in, log_of}
 use Rattle.state_cache.specs.declared.IndexRecord.{IndexRecord}
-use Rattle.state_cache.specs.declared.Settled.{Settled}
-use Rattle.state_cache.specs.declared.Settled.TheVariants.{Done, Refused}
 use Rattle.state_cache.specs.Inner.{with_run}
-use Rattle.compaction.specs.declared.inner.Reach.{Reach}
-use Rattle.compaction.specs.declared.inner.Reach.TheVariants.{Stays, To}
-
--- refusal 2, or none
-abbrev pub verdict_in : Settled → Verdict
-verdict_in Done = passes
-verdict_in (Refused r) = refuses (number_of r) (carried_of r)
 
 abbrev pub past_verdict : Option ℕ → IndexRecord → Verdict
 past_verdict upto x = first (above_decided upto (numbers_in x) ∷ [])
 
--- the run's start stays: refusal 2 applies, or the target does not pass it
-pub record Stay (upto : Option ℕ) (x : IndexRecord) (a : Settled) : Type 0 where
-  pub verdict : verdict_in a ≡ past_verdict upto x
-  pub low : verdict_in a ≡ passes → target upto (numbers_in x) ≤ x.compacted.0
+-- the run's start stays: the target does not pass it
+pub record Stay (upto : Option ℕ) (x : IndexRecord) : Type 0 where
+  pub verdict : passes ≡ past_verdict upto x
+  pub low : target upto (numbers_in x) ≤ x.compacted.0
 
 -- or it moves up to the target
 pub record Up (upto : Option ℕ) (x : IndexRecord) (to : ℕ) : Type 0 where
@@ -38,9 +31,11 @@ pub record Up (upto : Option ℕ) (x : IndexRecord) (to : ℕ) : Type 0 where
   pub is : to ≡ target upto (numbers_in x)
   pub up : x.compacted.0 < to
 
-abbrev pub ReachIs : Option ℕ → IndexRecord → Reach → Type 0
-ReachIs upto x (Stays a) = Stay upto x a
-ReachIs upto x (To to) = Up upto x to
+-- or refusal 2 applies
+abbrev pub ReachIs : Option ℕ → IndexRecord → Result (Optional ℕ) Refusal → Type 0
+ReachIs upto x (Err r) = refuses (number_of r) (carried_of r) ≡ past_verdict upto x
+ReachIs upto x (Ok None) = Stay upto x
+ReachIs upto x (Ok (Some to)) = Up upto x to
 
 -- what the move needs of the record and the log's words
 pub record Movable (to : ℕ) (x : IndexRecord) (log : List ℕ) : Type 0 where

@@ -7,60 +7,46 @@ ghost use Rattle.model.specs.Calls.{query, create, compact};
 ghost use Rattle.model.specs.Compact.{target, past_decided};
 ghost use Rattle.state_cache.specs.State.{raw, numbers_in};
 ghost use Rattle.state_cache.specs.Inner.{Small, Ready};
-ghost use Rattle.state_cache.specs.Run.{outcome, run, settled};
+ghost use Rattle.state_cache.specs.Run.{run, changed};
 ghost use Rattle.compaction.specs.Inner.{ReachIs, Movable, Moved, held_written, holds_then};
 
-use entry::{Compaction, LogIndex, Refusal, Upto};
-use snapshot::Folded;
-use state_cache::{IndexRecord, Settled, SettledAt};
+use entry::{Compaction, LogIndex, Refusal};
+use state_cache::IndexRecord;
 
 // Whether refusal 2 applies.
-fn past_decided(index: IndexRecord, upto: Upto) -> bool
+fn past_decided(index: IndexRecord, upto: Option<LogIndex>) -> bool
     ensures { result ≡ past_decided (upto_of upto) (numbers_in index) }
 {
-    match upto {
-        Upto::All => false,
-        Upto::Index(i) => index.decided.0 < i.0,
-    }
+    upto.is_some_and(|i| index.decided < i)
 }
 
 // Where a compaction ends. An index that is decided is no more than log-decided, but for that of a decided
 // stop-sign, which is no entry to compact.
-fn target(index: IndexRecord, upto: Upto) -> u64
+fn target(index: IndexRecord, upto: Option<LogIndex>) -> u64
     requires { Small (numbers_in index) }
     ensures { result ≡ target (upto_of upto) (numbers_in index) }
 {
     let decided = state_cache::inner::log_decided(index);
-    match upto {
-        Upto::All => decided,
-        Upto::Index(i) => state_cache::inner::least(i.0, decided),
-    }
+    upto.map_or(decided, |i| i.0.min(decided))
 }
 
-// What becomes of the run's start: it stays, with the answer to that, or it moves up to an index.
-#[derive(Clone, Copy)]
-pub enum Reach {
-    Stays(Settled),
-    To(u64),
-}
-
-fn reach_of(index: IndexRecord, upto: Upto) -> Reach
+// Refusal 2, or the index that the run's start moves up to: none where the target does not pass it.
+fn reach_of(index: IndexRecord, upto: Option<LogIndex>) -> Result<Option<u64>, Refusal>
     requires { Small (numbers_in index) }
     ensures { ReachIs (upto_of upto) index result }
 {
-    let decided = index.decided;
     if past_decided(index, upto) {
-        return Reach::Stays(Settled::Refused(Refusal::AboveDecided(decided)));
+        return Err(Refusal::AboveDecided(index.decided));
     }
     let to = target(index, upto);
     if to <= index.compacted.0 {
-        return Reach::Stays(Settled::Done);
+        return Ok(None);
     }
-    Reach::To(to)
+    Ok(Some(to))
 }
 
 // Moves the run's start up to an index: the entries below it are cut out. The snapshot that is then held is the
-// caller's.
+// caller's: a flag and a count, no Option, since they are fields of the record that C has.
 pub fn move_to(
     index: IndexRecord,
     log: &mut [u64],
@@ -74,18 +60,24 @@ pub fn move_to(
     let gone = (to - index.compacted.0) as usize;
     let used = (index.retained + index.batched) * entry::WIDTH;
     words::cut_out(log, used, 0, gone * entry::WIDTH);
-    let start = LogIndex(to);
-    let mut next = index;
-    next.compacted = start;
-    next.retained = index.retained - gone;
-    next.snapshot_held = snapshot_held;
-    next.keys = keys;
-    next
+    IndexRecord {
+        compacted: LogIndex(to),
+        retained: index.retained - gone,
+        snapshot_held,
+        keys,
+        ..index
+    }
 }
 
 // The snapshot that is held once the run starts at `to`, in its place: none after a trim, which clears its words; after
 // a snapshot the fold of all below, or refusal 16 or 8. Says how many keys it has.
-fn hold(index: IndexRecord, log: &[u64], snapshot: &mut [u64], what: Compaction, to: u64) -> Folded
+fn hold(
+    index: IndexRecord,
+    log: &[u64],
+    snapshot: &mut [u64],
+    what: Compaction,
+    to: u64,
+) -> Result<usize, Refusal>
     requires { Ready (raw index log.now snapshot.old) × Movable to index log.now }
     ensures { snapshot_outcome (folded result) snapshot.new
         ≡ held_written what to (raw index log.now snapshot.old) }
@@ -93,11 +85,11 @@ fn hold(index: IndexRecord, log: &[u64], snapshot: &mut [u64], what: Compaction,
     match what {
         Compaction::Trim => {
             words::clear(snapshot, 0, entry::SNAPSHOT_WORDS);
-            Folded::Keys(0)
+            Ok(0)
         }
         Compaction::Snapshot => {
             if state_cache::inner::hole(index) {
-                return Folded::Refused(Refusal::Hole);
+                return Err(Refusal::Hole);
             }
             let gone = (to - index.compacted.0) as usize;
             snapshot::inner::fold_over(snapshot, index.keys, log, gone, &[], 0)
@@ -109,10 +101,7 @@ fn hold(index: IndexRecord, log: &[u64], snapshot: &mut [u64], what: Compaction,
 fn holds(what: Compaction) -> bool
     ensures { result ≡ holds_then what }
 {
-    match what {
-        Compaction::Trim => false,
-        Compaction::Snapshot => true,
-    }
+    what == Compaction::Snapshot
 }
 
 // Refusals 2, 16 and 8, the last two for snapshots only, or the entries below the target gone from the log.
@@ -121,32 +110,17 @@ pub fn compact_at(
     log: &mut [u64],
     snapshot: &mut [u64],
     what: Compaction,
-    upto: Upto,
-) -> SettledAt
+    upto: Option<LogIndex>,
+) -> Result<IndexRecord, Refusal>
     requires { Ready (raw index log.old snapshot.old) }
-    ensures { outcome (settled result.answer) (raw result.index log.new snapshot.new)
+    ensures { changed index result log.new snapshot.new
         ≡ run (compact what (upto_of upto)) true (raw index log.old snapshot.old) }
 {
-    let way = reach_of(index, upto);
-    match way {
-        Reach::Stays(answer) => SettledAt { answer, index },
-        Reach::To(to) => {
-            let held = hold(index, log, snapshot, what, to);
-            match held {
-                Folded::Refused(refusal) => SettledAt {
-                    answer: Settled::Refused(refusal),
-                    index,
-                },
-                Folded::Keys(keys) => {
-                    let next = move_to(index, log, to, holds(what), keys);
-                    SettledAt {
-                        answer: Settled::Done,
-                        index: next,
-                    }
-                }
-            }
-        }
-    }
+    let Some(to) = reach_of(index, upto)? else {
+        return Ok(index);
+    };
+    let keys = hold(index, log, snapshot, what, to)?;
+    Ok(move_to(index, log, to, holds(what), keys))
 }
 
 // Refusals 3, 2, 16 and 8, or the fold of all below the target.
@@ -156,7 +130,7 @@ pub fn create_at(
     snapshot: &[u64],
     idx: LogIndex,
     out: &mut [u64],
-) -> Folded
+) -> Result<usize, Refusal>
     requires { Ready (raw index log.now snapshot.now) × (length out.old ≡ snapshot_words) }
     ensures { snapshot_outcome (folded result) out.new
         ≡ written_out
@@ -164,17 +138,17 @@ pub fn create_at(
         out.old }
 {
     let start = index.compacted;
-    if idx.0 < start.0 {
-        return Folded::Refused(Refusal::BelowCompacted(start));
+    if idx < start {
+        return Err(Refusal::BelowCompacted(start));
     }
     let decided = index.decided;
-    let upto = Upto::Index(idx);
+    let upto = Some(idx);
     if past_decided(index, upto) {
-        return Folded::Refused(Refusal::AboveDecided(decided));
+        return Err(Refusal::AboveDecided(decided));
     }
     let holed = state_cache::inner::hole(index);
     if holed {
-        return Folded::Refused(Refusal::Hole);
+        return Err(Refusal::Hole);
     }
     let to = target(index, upto);
     let n = (to - start.0) as usize;

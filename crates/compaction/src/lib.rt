@@ -8,11 +8,10 @@ ghost use Rattle.entry.specs.Upto.{upto_of};
 ghost use Rattle.snapshot.specs.Calls.{outcome as snapshot_outcome, folded, written_out};
 ghost use Rattle.model.specs.Calls.{query, create, compact as compactCall};
 ghost use Rattle.state_cache.specs.State.{raw};
-ghost use Rattle.state_cache.specs.Run.{outcome, run, settled};
+ghost use Rattle.state_cache.specs.Run.{run, changed};
 
-use entry::{Compaction, LogIndex, Refusal, Upto};
-use snapshot::Folded;
-use state_cache::{IndexRecord, Settled, SettledAt};
+use entry::{Compaction, LogIndex, Refusal};
+use state_cache::IndexRecord;
 
 pub mod inner;
 
@@ -24,16 +23,13 @@ pub fn compact(
     log: &mut [u64],
     snapshot: &mut [u64],
     what: Compaction,
-    upto: Upto,
-) -> SettledAt
-    ensures { outcome (settled result.answer) (raw result.index log.new snapshot.new)
+    upto: Option<LogIndex>,
+) -> Result<IndexRecord, Refusal>
+    ensures { changed index result log.new snapshot.new
         ≡ run (compactCall what (upto_of upto)) true (raw index log.old snapshot.old) }
 {
     if !state_cache::well_formed(index, log, snapshot) {
-        return SettledAt {
-            answer: Settled::Refused(Refusal::IllFormed),
-            index,
-        };
+        return Err(Refusal::IllFormed);
     }
     inner::compact_at(index, log, snapshot, what, upto)
 }
@@ -45,18 +41,18 @@ pub fn create_snapshot(
     snapshot: &[u64],
     idx: LogIndex,
     out: &mut [u64],
-) -> Folded
+) -> Result<usize, Refusal>
     ensures { snapshot_outcome (folded result) out.new
         ≡ written_out
         (run (query (create idx.0)) (eqb (length out.old) snapshot_words)
         (raw index log.now snapshot.now)).answer out.old }
 {
     if !state_cache::well_formed(index, log, snapshot) {
-        return Folded::Refused(Refusal::IllFormed);
+        return Err(Refusal::IllFormed);
     }
     let roomy = out.len() == entry::SNAPSHOT_WORDS;
     if !roomy {
-        return Folded::Refused(Refusal::Malformed);
+        return Err(Refusal::Malformed);
     }
     inner::create_at(index, log, snapshot, idx, out)
 }

@@ -1,9 +1,9 @@
 -- What a diff gives, of a lent state: a fold onto the held snapshot, or of a part of the log.
-use Rattle.words.proofs.Prelude.{arith, ◌≡◌, refl, sym, ap, ap₂, ◌∙◌, ℕ, ◌-◌, ◌*◌, ◌≤◌, ◌<◌, min, Bool, true, false}
+use Rattle.words.proofs.Prelude.{arith, ◌≡◌, refl, sym, ap, ap₂, ◌∙◌, ℕ, ◌+◌, ◌-◌, ◌*◌, ◌≤◌, ◌<◌, min, Bool, true, false}
 use Rattle.words.proofs.Prelude.{true≢false, and-true, ◌&&◌, ◌||◌, not, ltb, leb, lt-ltb, le-ltb, ltb-false, le-leb}
 use Rattle.words.proofs.Prelude.{lt-leb, if◌then◌else◌, Option, none, some, List, [], length-drop, length, take, drop}
 use Rattle.words.proofs.Prelude.{replicate, take_all}
-use mathlib.Core.Bool.{and-false}
+use Rattle.std.proofs.Math.Bool.{and-false, or-false}
 use Rattle.words.specs.Coded.{entries_at}
 use Rattle.words.proofs.{Tests.Reach, Tests.reached, Tests.short, Tests.reach, Tests.or_left, Tests.or_right}
 use Rattle.words.proofs.{Alls.all_take, Alls.all_drop, CodedLaws.entries_take, CodedLaws.entries_drop}
@@ -16,8 +16,7 @@ use Rattle.model.specs.{Read.between, Diff.Given, Diff.plain, Diff.complete, Dif
 use Rattle.model.proofs.Forms.{formed_of, snapshot_folded}
 use Rattle.state_cache.specs.{State.Raw, State.numbers_in, State.formed, State.log_of, Inner.Ready, Inner.hole_in}
 use Rattle.state_cache.proofs.Stands.{Stands, stands_of, log_formed, ready_of, hole_is}
-use Rattle.internal_storage.proofs.Effects.{numbers}
-use Rattle.compaction.proofs.Folding.{decided_low, decided_high}
+use Rattle.compaction.proofs.Folding.{numbers, decided_low, decided_high}
 
 -- the model's diff, of a run up to an index
 abbrev diff_to : ℕ → ℕ → Run → Given
@@ -56,10 +55,6 @@ module _ (last i : ℕ) (r : Run) where
         held none e = let z : ◌≡◌ {A = ℕ} 0 1 = cc in absurd (omega arith)
         held (some t) e = refl
 
-        sole : (t : Bool) → (t || false) ≡ true → t ≡ true
-        sole true e = refl
-        sole false e = e
-
         go : Reach last r.compacted
             → (if ltb r.compacted last then complete (folded_to last r) else elim r.held [
               | none ↦ plain
@@ -67,7 +62,7 @@ module _ (last i : ℕ) (r : Run) where
             ]) ≡ complete (folded_to last r)
         go (reached x) =
             let e = le-ltb r.compacted last x in
-            rw e (held r.held (sole (given r.held) (rw e at g)) ∙ ap complete (sym (fold_none last r x)))
+            rw e (held r.held (sym (or-false (given r.held)) ∙ rw e at g) ∙ ap complete (sym (fold_none last r x)))
         go (short x) = rw (lt-ltb r.compacted last x)
 
 -- the entries of the part, where it starts no later than it ends
@@ -105,6 +100,13 @@ module _ (r : Raw) (ok : formed r ≡ true) (i last : ℕ) (l : last ≡ log_dec
 
   st : Stands s r
   st = stands_of r ok
+
+  -- log-decided is in the run
+  low : r.index.compacted.0 ≤ last
+  low = decided_low (numbers_in r.index) (ready_of r ok).numbers last l
+
+  high : last ≤ r.index.compacted.0 + r.index.retained
+  high = decided_high (numbers_in r.index) (ready_of r ok).numbers last l
 
   diff_is : diff_of i s ≡ diff_to last i s.run
   unfolding diff_of
@@ -163,16 +165,16 @@ module _ (r : Raw) (ok : formed r ≡ true) (i last : ℕ) (l : last ≡ log_dec
     part = entries_of (last - start) (drop ((start - r.index.compacted.0) * width) r.log)
 
     pub start_low : r.index.compacted.0 ≤ start
-    start_low = omega (arith, decided_low (numbers_in r.index) (ready_of r ok).numbers last l)
+    start_low = omega (arith, low)
 
     part_is : part ≡ between start last s.run
     unfolding log_of
     part_is =
         let first : ℕ = start - r.index.compacted.0 in
         sym (ap (take (last - start)) (entries_drop change_code first r.index.retained r.log
-        (omega (arith, start_low, decided_high (numbers_in r.index) (ready_of r ok).numbers last l)))
+        (omega (arith, start_low, high)))
         ∙ entries_take change_code (last - start) (r.index.retained - first) (drop (first * width) r.log)
-        (omega (arith, start_low, decided_low (numbers_in r.index) (ready_of r ok).numbers last l, decided_high (numbers_in r.index) (ready_of r ok).numbers last l)))
+        (omega (arith, start_low, low, high)))
 
     pub diff_delta : diff_of i s ≡ delta (fold part)
     diff_delta =
@@ -191,9 +193,12 @@ module _ (r : Raw) (ok : formed r ≡ true) (i last : ℕ) (l : last ≡ log_dec
 
     pub part_inside : (start - r.index.compacted.0) * width ≤ length r.log
     part_inside = let g : Ready r = ready_of r ok in
-        omega (arith, decided_high (numbers_in r.index) (ready_of r ok).numbers last l, g.log.fits, g.log.long)
+        omega (arith, high, g.log.fits, g.log.long)
 
     pub part_shows : Shows (last - start) (drop ((start - r.index.compacted.0) * width) r.log)
     part_shows =
         let g : Ready r = ready_of r ok in
-        record { inside = simp length-drop (omega (arith, start_low, decided_high (numbers_in r.index) (ready_of r ok).numbers last l, g.log.fits, g.log.long)); sound = part_formed_lem }
+        record {
+          inside = simp length-drop (omega (arith, start_low, high, g.log.fits, g.log.long));
+          sound = part_formed_lem;
+        }

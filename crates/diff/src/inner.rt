@@ -8,15 +8,13 @@ ghost use Rattle.state_cache.specs.State.{raw};
 ghost use Rattle.state_cache.specs.Inner.{Ready};
 ghost use Rattle.state_cache.specs.Run.{run};
 ghost use Rattle.diff.specs.Replies.{diff_said, out_after};
-ghost use Rattle.diff.specs.Inner.{fold_told};
 
 use super::Diff;
 use entry::{LogIndex, Refusal};
-use snapshot::Folded;
 use state_cache::IndexRecord;
 
 // Folds the n entries from the first-th on and writes the fold out.
-fn fold_part(log: &[u64], first: usize, n: usize, out: &mut [u64]) -> Folded
+fn fold_part(log: &[u64], first: usize, n: usize, out: &mut [u64]) -> Result<usize, Refusal>
     requires { (first * width ≤ length log.now)
         × (Shows n (drop (first * width) log.now) × (length out.old ≡ snapshot_words)) }
     ensures { outcome (folded result) out.new
@@ -27,21 +25,6 @@ fn fold_part(log: &[u64], first: usize, n: usize, out: &mut [u64]) -> Folded
     snapshot::inner::fold_out(&mut empty, 0, &log[at..], n, out)
 }
 
-// A fold's refusal, or what was written.
-fn tell(delta: bool, r: Folded, log_decided: LogIndex) -> Diff
-    ensures { result ≡ fold_told delta log_decided r }
-{
-    match r {
-        Folded::Refused(refusal) => Diff::Refused(refusal),
-        Folded::Keys(keys) => {
-            if delta {
-                return Diff::Delta { keys, log_decided };
-            }
-            Diff::Complete { keys, log_decided }
-        }
-    }
-}
-
 // Refusals 16 and 8, or the diff written out. Where nothing is retained below log-decided, the fold onto the held
 // snapshot is a copy of it; a log with a hole holds none.
 pub fn diff_at(
@@ -50,7 +33,7 @@ pub fn diff_at(
     snapshot: &[u64],
     from: LogIndex,
     out: &mut [u64],
-) -> Diff
+) -> Result<Diff, Refusal>
     requires { Ready (raw index log.now snapshot.now) × (length out.old ≡ snapshot_words) }
     ensures result_after { diff_said out.new result
         ≡ (run (query (diff from.0)) true (raw index log.now snapshot.now)).answer }
@@ -63,16 +46,16 @@ pub fn diff_at(
     let last = state_cache::inner::log_decided(index);
     let log_decided = LogIndex(last);
     if low < from.0 {
-        let start = state_cache::inner::least(from.0, last);
-        let r = fold_part(log, (start - low) as usize, (last - start) as usize, out);
-        return tell(true, r, log_decided);
+        let start = from.0.min(last);
+        let keys = fold_part(log, (start - low) as usize, (last - start) as usize, out)?;
+        return Ok(Diff::Delta { keys, log_decided });
     }
     if !(index.snapshot_held | (low < last)) {
-        return Diff::Nothing { log_decided };
+        return Ok(Diff::Nothing { log_decided });
     }
     if state_cache::inner::hole(index) {
-        return Diff::Refused(Refusal::Hole);
+        return Err(Refusal::Hole);
     }
-    let r = snapshot::inner::fold_aside(snapshot, index.keys, log, (last - low) as usize, out);
-    tell(false, r, log_decided)
+    let keys = snapshot::inner::fold_aside(snapshot, index.keys, log, (last - low) as usize, out)?;
+    Ok(Diff::Complete { keys, log_decided })
 }

@@ -15,12 +15,11 @@ pub mod inner;
 
 // What was written to the output slice, with its number of keys: a snapshot of all that is decided, one of what is
 // decided from an index on, or none. Beside each the index up to which it goes.
-#[derive(Clone, Copy)]
+#[derive(Clone, Copy, Debug, PartialEq, Eq)]
 pub enum Diff {
     Nothing { log_decided: LogIndex },
     Complete { keys: usize, log_decided: LogIndex },
     Delta { keys: usize, log_decided: LogIndex },
-    Refused(Refusal),
 }
 
 // Writes out what a follower lacks that has the log up to `from`. The log stays as it is.
@@ -30,7 +29,7 @@ pub fn create_diff_snapshot(
     snapshot: &[u64],
     from: LogIndex,
     out: &mut [u64],
-) -> Diff
+) -> Result<Diff, Refusal>
     ensures result_after { diff_said out.new result
         ≡ (run (query (diff from.0)) (eqb (length out.old) snapshot_words)
         (raw index log.now snapshot.now)).answer }
@@ -40,11 +39,11 @@ pub fn create_diff_snapshot(
         (raw index log.now snapshot.now)).answer out.old }
 {
     if !state_cache::well_formed(index, log, snapshot) {
-        return Diff::Refused(Refusal::IllFormed);
+        return Err(Refusal::IllFormed);
     }
     let roomy = out.len() == entry::SNAPSHOT_WORDS;
     if !roomy {
-        return Diff::Refused(Refusal::Malformed);
+        return Err(Refusal::Malformed);
     }
     inner::diff_at(index, log, snapshot, from, out)
 }

@@ -1,124 +1,90 @@
 // Lines out of the input, which comes in parts: a line may begin in one and end in another.
-ghost use Rattle.std.specs.Prelude.{◌≡◌, IfOk};
-ghost use Rattle.election.specs.Sizes.{Within};
+ghost use Rattle.std.specs.Prelude.{◌≤◌};
+ghost use Rattle.election.specs.Sizes.{chunk_room, longest};
 
-use super::lines;
-use super::lines::Asked;
 use std::io;
 use std::io::{Read, Stdin};
 use text::inner::Partial;
 
-pub(crate) const CHUNK: usize = 4096;
+const CHUNK: usize = 4096;
 
-// Which bytes of the part are yet to be taken, the line so far, whether it has ended, and whether there may be more.
-#[derive(Clone, Copy)]
+// The part that was read last, which of its bytes are yet to be taken, the line so far, and whether there may be more.
+#[derive(Drop)]
 pub struct Input {
-    pub at: usize,
-    pub end: usize,
-    pub held: Partial,
-    pub ended: bool,
+    part: [u8; CHUNK],
+    at: usize,
+    end: usize,
+    line: [u8; super::LINE],
+    held: Partial,
     pub more: bool,
+    ghost taken: { at ≤ end },
+    ghost within: { end ≤ chunk_room },
+    ghost fits: { held.len ≤ longest },
 }
 
-fn none_held() -> Partial
-    ensures { result.len ≡ 0 }
-{
-    Partial {
-        len: 0,
-        over: false,
-    }
-}
+const NONE_HELD: Partial = Partial {
+    len: 0,
+    over: false,
+};
 
-pub(crate) fn start() -> Input
-    ensures { Within result }
-{
-    Input {
-        at: 0,
-        end: 0,
-        held: none_held(),
-        ended: false,
-        more: true,
+impl Input {
+    pub(crate) fn new() -> Input {
+        Input {
+            part: [0; CHUNK],
+            at: 0,
+            end: 0,
+            line: [0; super::LINE],
+            held: NONE_HELD,
+            more: true,
+        }
     }
-}
 
-// After a line's end the next begins.
-pub(crate) fn next(i: Input) -> Input
-    requires { Within i }
-    ensures { Within result }
-{
-    if !i.ended {
-        return i;
+    // Reads a part. After the last one a line ends that has a byte, though no line feed came.
+    fn fill(&mut self, from: &mut Stdin) -> io::Result<bool> {
+        let n = from.read(&mut self.part)?;
+        self.at = 0;
+        self.end = n;
+        if n > 0 {
+            return Ok(false);
+        }
+        self.more = false;
+        Ok(self.held.over || self.held.len > 0)
     }
-    let mut n = i;
-    n.held = none_held();
-    n.ended = false;
-    n
-}
 
-// Reads a part. After the last one a line ends that has a byte, though no line feed came.
-fn fill(from: &mut Stdin, i: Input, chunk: &mut [u8; CHUNK]) -> io::Result<Input>
-    requires { Within i }
-    ensures { IfOk result (λ r. Within r) }
-{
-    let n = from.read(chunk)?;
-    let mut r = i;
-    r.at = 0;
-    r.end = n;
-    if n == 0 {
-        let held = i.held;
-        r.more = false;
-        r.ended = held.over | (held.len > 0);
+    // Bytes join the line, up to its end or the part's: whether the line has ended.
+    fn take(&mut self) -> bool {
+        let mut line = self.line;
+        let rest = &self.part[self.at..self.end];
+        let e = text::inner::gap(rest, b'\n');
+        let left = rest.len() - e;
+        self.held = text::inner::keep(&rest[..e], self.held, &mut line);
+        self.line = line;
+        if left == 0 {
+            self.at = self.end;
+            return false;
+        }
+        self.at += e + 1;
+        true
     }
-    Ok(r)
-}
 
-// Bytes join the line, up to its end or the part's.
-fn take(i: Input, chunk: &[u8; CHUNK], line: &mut [u8; super::LINE]) -> Input
-    requires { Within i }
-    ensures { Within result }
-{
-    let at = i.at;
-    let end = i.end;
-    let part: &[u8] = chunk;
-    let rest = &part[at..end];
-    let e = text::inner::gap(rest, b'\n');
-    let held = text::inner::keep(&rest[..e], i.held, line);
-    let mut r = i;
-    r.held = held;
-    if e == rest.len() {
-        r.at = end;
-        return r;
+    // Takes what is left of the part, up to a line's end, and where nothing is reads the next: whether a line has ended.
+    pub(crate) fn step(&mut self, from: &mut Stdin) -> io::Result<bool> {
+        if self.at == self.end {
+            return self.fill(from);
+        }
+        Ok(self.take())
     }
-    r.at = at + e + 1;
-    r.ended = true;
-    r
-}
 
-// Takes what is left of the part, up to a line's end; where nothing is, the next part is read.
-pub(crate) fn step(
-    from: &mut Stdin,
-    i: Input,
-    chunk: &mut [u8; CHUNK],
-    line: &mut [u8; super::LINE],
-) -> io::Result<Input>
-    requires { Within i }
-    ensures { IfOk result (λ r. Within r) }
-{
-    if i.at == i.end {
-        return fill(from, i, chunk);
+    // The line that has ended, unless it did not fit its buffer.
+    pub(crate) fn line(&self) -> Option<&[u8]> {
+        if self.held.over {
+            return None;
+        }
+        Some(&self.line[..self.held.len])
     }
-    Ok(take(i, chunk, line))
-}
 
-// What the line asks for, of so many nodes. One that did not fit its buffer is a bad line.
-pub(crate) fn command(nodes: usize, i: Input, line: &[u8; super::LINE]) -> Asked
-    requires { Within i }
-{
-    let held = i.held;
-    if held.over {
-        return lines::bad();
+    // After a line's end the next begins.
+    pub(crate) fn next(&mut self) {
+        self.held = NONE_HELD;
     }
-    let len = held.len;
-    let text: &[u8] = line;
-    lines::parse(nodes, &text[..len])
 }

@@ -1,222 +1,126 @@
 // What a line asks for.
-ghost use Rattle.std.specs.Prelude.{◌≤◌};
+ghost use Rattle.std.specs.Prelude.{◌<◌};
 ghost use Rattle.election.specs.Sizes.{most_nodes};
 
 use entry::Ballot;
-use text::Parsed;
-
-// The largest number of 32 bits.
-const LARGEST: u64 = 0xffff_ffff;
 
 // The configuration that all nodes are of.
 pub const CONFIGURATION: u32 = 1;
 
-// All nodes, or the one at a place.
+// Where a node stands among those that a cluster may have.
 #[derive(Clone, Copy)]
-pub enum Whom {
-    All,
-    At(usize),
+pub struct Place {
+    pub at: usize,
+    ghost is_one: { at < most_nodes },
 }
 
-// A line, with the places of the nodes that it names.
+// A line, with the places of the nodes that it names; where it may name all nodes, `None` is all.
 #[derive(Clone, Copy)]
 pub enum Command {
-    Nodes,
-    Link(usize, Whom, bool),
-    Deliver(Whom),
-    Timeout(usize, Ballot),
-    Priority(usize, u32),
-    Restart(usize),
-    BadLine,
+    Nodes {
+        count: usize,
+        priorities: [u32; super::NUMBERS],
+    },
+    Link(Place, Option<Place>, bool),
+    Deliver(Option<Place>),
+    Timeout(Place, Ballot),
+    Priority(Place, u32),
+    Restart(Place),
 }
 
-// A line's numbers; `fine` where each of its words after the first is one, and they are not too many.
-#[derive(Clone, Copy)]
-pub struct Spelled {
-    pub fine: bool,
-    pub count: usize,
-    pub held: [u64; super::NUMBERS],
-}
-
-#[derive(Clone, Copy)]
-pub struct Asked {
-    pub command: Command,
-    pub numbers: Spelled,
-}
-
-fn no_numbers() -> Spelled {
-    Spelled {
-        fine: false,
-        count: 0,
-        held: [0; super::NUMBERS],
-    }
-}
-
-pub(crate) fn bad() -> Asked {
-    Asked {
-        command: Command::BadLine,
-        numbers: no_numbers(),
-    }
-}
-
-// The numbers that some words spell, one space between each.
-fn numbers(s: &[u8]) -> Spelled {
-    let mut held = [0u64; super::NUMBERS];
+// The numbers that some words spell, one space between each: none where a word is no number, or they are too many. They
+// stand at the front of an array, with their count beside it, since memory is fixed.
+fn numbers(s: &[u8]) -> Option<([u64; super::NUMBERS], usize)> {
+    let mut held = [0; super::NUMBERS];
     let mut count = 0;
-    let mut at = 0;
-    while at <= s.len() {
-        let rest = &s[at..];
-        let e = text::inner::gap(rest, b' ');
-        let Parsed::Value(n) = text::inner::number(&rest[..e]) else {
-            return no_numbers();
-        };
-        if count == super::NUMBERS {
-            return no_numbers();
-        }
-        held[count] = n;
+    for word in s.split(|b| *b == b' ') {
+        *held.get_mut(count)? = text::inner::number(word)?;
         count += 1;
-        at = at + e + 1;
     }
-    Spelled {
-        fine: true,
-        count,
-        held,
-    }
+    Some((held, count))
 }
 
-// The place of the node with a pid, of so many; NUMBERS where there is none.
-fn place(nodes: usize, pid: u64) -> usize
-    ensures { result ≤ most_nodes }
-{
-    if pid == 0 {
-        return super::NUMBERS;
+// The place of the node with a pid, of so many.
+pub(crate) fn place_of(nodes: usize, pid: u64) -> Option<Place> {
+    let at = usize::try_from(pid.checked_sub(1)?).ok()?;
+    if at < nodes && at < super::NUMBERS {
+        return Some(Place { at });
     }
-    if (super::NUMBERS as u64) < pid {
-        return super::NUMBERS;
-    }
-    let at = (pid - 1) as usize;
-    if at < nodes {
-        return at;
-    }
-    super::NUMBERS
+    None
 }
 
-pub(crate) fn narrow(n: u64) -> u32 {
-    if n <= LARGEST {
-        return n as u32;
-    }
-    0
+fn narrow(n: u64) -> Option<u32> {
+    u32::try_from(n).ok()
 }
 
-// Whether each of the numbers has 32 bits.
-fn all_narrow(held: [u64; super::NUMBERS]) -> bool {
-    let mut ok = true;
-    let mut i = 0;
-    while i < super::NUMBERS {
-        ok = ok & (held[i] <= LARGEST);
-        i += 1;
+fn nodes(numbers: &[u64]) -> Option<Command> {
+    let mut priorities = [0; super::NUMBERS];
+    for (to, n) in priorities.iter_mut().zip(numbers) {
+        *to = narrow(*n)?;
     }
-    ok
-}
-
-fn nodes(n: Spelled) -> Command {
-    let held = n.held;
-    if all_narrow(held) {
-        return Command::Nodes;
-    }
-    Command::BadLine
+    Some(Command::Nodes {
+        count: numbers.len(),
+        priorities,
+    })
 }
 
 // A link, or all of a node's, cut or mended.
-fn link(nodes: usize, n: Spelled, cut: bool) -> Command {
-    let held = n.held;
-    let a = place(nodes, held[0]);
-    let b = place(nodes, held[1]);
-    if a == super::NUMBERS {
-        return Command::BadLine;
+fn link(nodes: usize, numbers: &[u64], cut: bool) -> Option<Command> {
+    match numbers {
+        [a] => Some(Command::Link(place_of(nodes, *a)?, None, cut)),
+        [a, b] if a != b => Some(Command::Link(
+            place_of(nodes, *a)?,
+            Some(place_of(nodes, *b)?),
+            cut,
+        )),
+        _ => None,
     }
-    if n.count == 1 {
-        return Command::Link(a, Whom::All, cut);
-    }
-    if (b == super::NUMBERS) | ((a == b) | (n.count != 2)) {
-        return Command::BadLine;
-    }
-    let whom = Whom::At(b);
-    Command::Link(a, whom, cut)
 }
 
 // A timeout, with the ballot that Sequence Paxos has promised, or with none.
-fn timeout(a: usize, n: Spelled) -> Command {
-    let held = n.held;
-    let none = Ballot::with(0, 0, 0, 0);
-    if n.count == 1 {
-        return Command::Timeout(a, none);
+fn timeout(of: Place, promised: &[u64]) -> Option<Command> {
+    match promised {
+        [] => Some(Command::Timeout(of, Ballot::with(0, 0, 0, 0))),
+        [n, priority, pid] => Some(Command::Timeout(
+            of,
+            Ballot::with(CONFIGURATION, narrow(*n)?, narrow(*priority)?, *pid),
+        )),
+        _ => None,
     }
-    if (n.count != 4) | ((LARGEST < held[1]) | (LARGEST < held[2])) {
-        return Command::BadLine;
-    }
-    let promise = Ballot::with(CONFIGURATION, narrow(held[1]), narrow(held[2]), held[3]);
-    Command::Timeout(a, promise)
 }
 
-fn priority(a: usize, n: Spelled) -> Command {
-    let held = n.held;
-    if (n.count != 2) | (LARGEST < held[1]) {
-        return Command::BadLine;
+// A line whose first number names a node; the others follow.
+fn of_node(word: &[u8], of: Place, others: &[u64]) -> Option<Command> {
+    match (word, others) {
+        (b"timeout", promised) => timeout(of, promised),
+        (b"priority", [p]) => Some(Command::Priority(of, narrow(*p)?)),
+        (b"deliver", []) => Some(Command::Deliver(Some(of))),
+        (b"restart", []) => Some(Command::Restart(of)),
+        _ => None,
     }
-    Command::Priority(a, narrow(held[1]))
 }
 
-// A line whose first number names a node.
-fn of_node(word: &[u8], a: usize, n: Spelled) -> Command {
+fn numbered(count: usize, word: &[u8], numbers: &[u64]) -> Option<Command> {
     match word {
-        b"timeout" => timeout(a, n),
-        b"priority" => priority(a, n),
-        b"deliver" if n.count == 1 => Command::Deliver(Whom::At(a)),
-        b"restart" if n.count == 1 => Command::Restart(a),
-        _ => Command::BadLine,
-    }
-}
-
-// The same, where the number may name none.
-fn of_place(word: &[u8], a: usize, n: Spelled) -> Command {
-    if a == super::NUMBERS {
-        return Command::BadLine;
-    }
-    of_node(word, a, n)
-}
-
-fn numbered(count: usize, word: &[u8], n: Spelled) -> Command {
-    match word {
-        b"nodes" => nodes(n),
-        b"cut" => link(count, n, true),
-        b"mend" => link(count, n, false),
+        b"nodes" => nodes(numbers),
+        b"cut" => link(count, numbers, true),
+        b"mend" => link(count, numbers, false),
         _ => {
-            let held = n.held;
-            of_place(word, place(count, held[0]), n)
+            let (pid, others) = numbers.split_first()?;
+            of_node(word, place_of(count, *pid)?, others)
         }
     }
 }
 
-// What a line means, of so many nodes.
-pub(crate) fn parse(count: usize, s: &[u8]) -> Asked {
+// What a line means, of so many nodes; none where it is no such line.
+pub(crate) fn parse(count: usize, s: &[u8]) -> Option<Command> {
     if s == b"deliver".as_slice() {
-        return Asked {
-            command: Command::Deliver(Whom::All),
-            numbers: no_numbers(),
-        };
+        return Some(Command::Deliver(None));
     }
     let e = text::inner::gap(s, b' ');
     if e == s.len() {
-        return bad();
+        return None;
     }
-    let n = numbers(&s[e + 1..]);
-    if !n.fine {
-        return bad();
-    }
-    let command = numbered(count, &s[..e], n);
-    Asked {
-        command,
-        numbers: n,
-    }
+    let (held, n) = numbers(&s[e + 1..])?;
+    numbered(count, &s[..e], held.get(..n)?)
 }

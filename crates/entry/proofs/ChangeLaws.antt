@@ -1,21 +1,13 @@
 -- An entry and its two words.
 use Rattle.words.proofs.Prelude.{arith, ◌≡◌, refl, sym, ap, ap₂, ◌∙◌, ℕ, suc, ◌+◌, ◌*◌, ◌≤◌, ◌<◌, Bool, true, false}
-use Rattle.words.proofs.Prelude.{true≢false, ◌||◌, eqb, ltb, ne_eqb, eqb-true, lt-ltb, le-ltb, ltb-true, if◌then◌else◌}
+use Rattle.words.proofs.Prelude.{true≢false, eqb, ne_eqb, eqb-true, lt-ltb, le-ltb, ltb-true, if◌then◌else◌}
 use Rattle.words.proofs.Prelude.{List, [], ◌∷◌, length, take, drop, get_or}
 use lib.Seq.{get_or-take, get_or-drop}
 use Rattle.words.specs.{All.all_of, Coded.Lawful, Coded.entries_at}
 use Rattle.words.proofs.CodedLaws.{entries_cons}
 use Rattle.entry.specs.{Limits.width, Limits.places, Limits.last_word, Change.Said, Change.place, Change.removed}
-use Rattle.entry.specs.{Change.Change, Change.said_formed, Change.said_of, Change.word_of, Change.word_formed}
+use Rattle.entry.specs.{Change.Change, Change.said_formed, Change.said_of, Change.word_of}
 use Rattle.entry.specs.{Change.change, Change.change_code, Change.entries_of, Inner.change_at, Inner.LentAs}
-
--- the form of what a word says
-pub said_formed_lem : (w : ℕ) → (eqb w last_word || ltb w places) ≡ word_formed w
-said_formed_lem w = go (eqb w last_word)
-  where
-    go : (t : Bool) → (t || ltb w places) ≡ said_formed (if t then removed else place w)
-    go true = refl
-    go false = refl
 
 -- every word says something, and what is said in form is known by its word
 pub word_said : (w : ℕ) → word_of (said_of w) ≡ w

@@ -6,8 +6,8 @@ use lib.Seq.{get_or-take, get_or-drop}
 use Rattle.words.specs.Coded.{Lawful}
 use Rattle.entry.specs.{Limits.reply_width, Limits.places, Limits.unknown_word, Change.Said, Change.place}
 use Rattle.entry.specs.{Change.removed, Change.said_of, Reply.known_is, Reply.reply_formed, Reply.reply_word}
-use Rattle.entry.specs.{Reply.reply_said, Reply.reply_code, Reply.reply_at, declared.Known.Known}
-use Rattle.entry.specs.declared.Known.TheVariants.{Says, Unknown}
+use Rattle.std.specs.Prelude.{Option as Optional, Some, None}
+use Rattle.entry.specs.{Reply.reply_said, Reply.reply_code, Reply.reply_at, declared.Said.Said as CodeSaid}
 use Rattle.entry.specs.declared.Said.TheVariants.{Place, Removed}
 use Rattle.entry.proofs.ChangeLaws.{word_said, said_word}
 
@@ -43,17 +43,17 @@ module _ (w : ℕ) where
   reply_said_lem n = sym (rw (ne_eqb w unknown_word n))
 
 -- a reply of the code's is known by what it says
-abbrev known_of : Option Said → Known
-known_of none = Unknown
-known_of (some (place p)) = Says (Place (record { 0 = p }))
-known_of (some removed) = Says Removed
+abbrev known_of : Option Said → Optional CodeSaid
+known_of none = None
+known_of (some (place p)) = Some (Place (record { 0 = p }))
+known_of (some removed) = Some Removed
 
-known_back : (k : Known) → known_of (known_is k) ≡ k
-known_back (Says (Place p)) = refl
-known_back (Says Removed) = refl
-known_back Unknown = refl
+known_back : (k : Optional CodeSaid) → known_of (known_is k) ≡ k
+known_back (Some (Place p)) = refl
+known_back (Some Removed) = refl
+known_back None = refl
 
-pub known_unique : (a b : Known) → known_is a ≡ known_is b → a ≡ b
+pub known_unique : (a b : Optional CodeSaid) → known_is a ≡ known_is b → a ≡ b
 known_unique a b e = sym (known_back a) ∙ ap known_of e ∙ known_back b
 
 -- a reply among words, as the code reads it

@@ -1,5 +1,5 @@
 -- "Order, first that applies": a call's refusals as a list, the first that applies, and what a call answers.
-use Rattle.std.specs.Prelude.{ℕ, Bool, List, [], ◌∷◌, if◌then◌else◌}
+use Rattle.std.specs.Prelude.{ℕ, Bool, List, [], ◌∷◌, if◌then◌else◌, Result, Ok, Err}
 use Rattle.entry.specs.declared.Refusal.{Refusal}
 use Rattle.entry.specs.Refusals.{number_of, carried_of}
 
@@ -27,6 +27,11 @@ pub data Answer (A : Type 0) : Type 0 where
 
 abbrev pub refused_by : {A : Type 0} → Refusal → Answer A
 refused_by r = refused (number_of r) (carried_of r)
+
+-- what a reply of the code's says, by what it says where it stands
+abbrev pub said_by : {A B : Type 0} → (A → B) → Result A Refusal → Answer B
+said_by f (Ok y) = replied (f y)
+said_by f (Err r) = refused_by r
 
 abbrev pub settle : {A : Type 0} → Verdict → A → Answer A
 settle passes a = replied a

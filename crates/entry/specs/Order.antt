@@ -1,21 +1,13 @@
 -- Ballots: "order compares n, priority, pid; equality also compares config_id".
-use Rattle.std.specs.Prelude.{ℕ, Bool, ◌&&◌, ltb, eqb, if◌then◌else◌}
+use Rattle.std.specs.Prelude.{Bool, ◌&&◌, eqb}
+use Rattle.std.specs.declared.cmp.Ordering.{Ordering}
+use Rattle.std.specs.Ordering.{nat_cmp, ordering_then}
 use Rattle.entry.specs.declared.Ballot.{Ballot}
-use Rattle.entry.specs.declared.Ordering.{Ordering}
-use Rattle.entry.specs.declared.Ordering.TheVariants.{Less, Equal, Greater}
 
-unfoldable pub compare_of : ℕ → ℕ → Ordering
-compare_of a b = if ltb a b then Less else if ltb b a then Greater else Equal
-
--- the first order, or the second where the first is equal
-abbrev pub then_by : Ordering → Ordering → Ordering
-then_by Less o = Less
-then_by Equal o = o
-then_by Greater o = Greater
-
+-- the first of the three that differs decides
 abbrev pub ballot_order : Ballot → Ballot → Ordering
 ballot_order a b =
-    then_by (compare_of a.n b.n) (then_by (compare_of a.priority b.priority) (compare_of a.pid b.pid))
+    ordering_then (ordering_then (nat_cmp a.n b.n) (nat_cmp a.priority b.priority)) (nat_cmp a.pid b.pid)
 
 abbrev pub same_ballot : Ballot → Ballot → Bool
 same_ballot a b =

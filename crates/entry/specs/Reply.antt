@@ -1,17 +1,17 @@
 -- A reply on a key, and the words that it is: what is said of the key, or nothing, which is unknown. Nothing but this
 -- crate says how many words there are, and what each of them means.
 use Rattle.std.specs.Prelude.{ℕ, ◌*◌, ◌/◌, Bool, true, List, [], ◌∷◌, leb, eqb, length, get_or, take, drop, if◌then◌else◌}
+use Rattle.std.specs.Prelude.{Option as Optional, Some, None}
 use Rattle.std.proofs.Math.Option.{Option, none, some}
 use Rattle.words.specs.Coded.{Code}
 use Rattle.entry.specs.Limits.{reply_width, unknown_word}
+use Rattle.entry.specs.declared.Said.{Said as CodeSaid}
 use Rattle.entry.specs.Change.{Said, said_is, said_formed, said_of, word_of}
-use Rattle.entry.specs.declared.Known.{Known}
-use Rattle.entry.specs.declared.Known.TheVariants.{Says, Unknown}
 
--- what the code's `Known` says, none where it is nothing
-abbrev pub known_is : Known → Option Said
-known_is (Says s) = some (said_is s)
-known_is Unknown = none
+-- what is known of a key: what an entry says of it, or nothing
+abbrev pub known_is : Optional CodeSaid → Option Said
+known_is (Some s) = some (said_is s)
+known_is None = none
 
 abbrev pub reply_formed : Option Said → Bool
 reply_formed none = true

@@ -7,7 +7,7 @@ ghost use Rattle.entry.specs.Inner.{change_at, LentAs};
 ghost use Rattle.entry.specs.Limits.{width, places};
 ghost use Rattle.entry.specs.Sign.{no_sign, sign_if, sign_blank};
 
-use super::{BlockPlace, Known, Said, StopSign};
+use super::{BlockPlace, Said, StopSign};
 
 // What an entry's second word says.
 pub fn said_of(word: u64) -> Said
@@ -16,8 +16,7 @@ pub fn said_of(word: u64) -> Said
     if word == super::REMOVED {
         return Said::Removed;
     }
-    let place = BlockPlace(word);
-    Said::Place(place)
+    Said::Place(BlockPlace(word))
 }
 
 // What the entry at i says of its key.
@@ -30,15 +29,13 @@ pub fn said_at(s: &[u64], i: usize) -> Said
 }
 
 // The words of a reply.
-pub fn reply(known: Known) -> [u64; super::REPLY_WIDTH]
+pub fn reply(known: Option<Said>) -> [u64; super::REPLY_WIDTH]
     ensures { result ≡ reply_code.enc (known_is known) }
 {
-    let Known::Says(said) = known else {
-        return [super::UNKNOWN];
-    };
-    match said {
-        Said::Place(place) => [place.0],
-        Said::Removed => [super::REMOVED],
+    match known {
+        None => [super::UNKNOWN],
+        Some(Said::Place(place)) => [place.0],
+        Some(Said::Removed) => [super::REMOVED],
     }
 }
 
@@ -71,11 +68,8 @@ fn joined(s: &[u64], n: usize) -> u64
     ensures { result < places → entries_formed (entries_of n s.now) ≡ true }
 {
     let mut all: u64 = 0;
-    let mut i = 0;
-    while i < n {
-        let at = i * super::WIDTH + 1;
-        all = all | next_word(s[at]);
-        i += 1;
+    for i in 0..n {
+        all |= next_word(s[i * super::WIDTH + 1]);
     }
     all
 }
@@ -85,11 +79,8 @@ fn one_by_one(s: &[u64], n: usize) -> bool
     ensures { result ≡ entries_formed (entries_of n s.now) }
 {
     let mut ok = true;
-    let mut i = 0;
-    while i < n {
-        let at = i * super::WIDTH + 1;
-        ok = ok & super::place_formed(s[at]);
-        i += 1;
+    for i in 0..n {
+        ok &= super::place_formed(s[i * super::WIDTH + 1]);
     }
     ok
 }
@@ -121,16 +112,15 @@ pub fn laid_out(s: &[u64], words: usize, n: usize) -> bool
     fine & tail
 }
 
-// Whether every byte from `from` on is zero.
+// Whether every byte from `from` on is zero. One function for words and bytes would want a trait with the laws of `|`
+// and of zero, which is no plainer than the two.
 pub fn zero_bytes_from(s: &[u8], from: usize) -> bool
     ensures { result ≡ all_zero (drop from s.now) }
 {
-    let mut all: u8 = 0;
-    let mut i = from;
-    while i < s.len() {
-        all = all | s[i];
-        i += 1;
-    }
+    let Some(rest) = s.get(from..) else {
+        return true;
+    };
+    let all = rest.iter().fold(0, |all, b| all | *b);
     all == 0
 }
 
@@ -138,13 +128,7 @@ pub fn zero_bytes_from(s: &[u8], from: usize) -> bool
 pub fn sign_blank(s: StopSign) -> bool
     ensures { result ≡ sign_blank s }
 {
-    let nodes = s.nodes;
-    let bytes = s.metadata;
-    let no_nodes = words::zero_from(&nodes, 0);
-    let no_bytes = zero_bytes_from(&bytes, 0);
-    (s.config_id == 0)
-        & ((s.node_count == 0)
-            & ((s.metadata_len == 0) & (!s.metadata_held & (no_nodes & no_bytes))))
+    s == no_sign()
 }
 
 // A stop-sign that stands for none.

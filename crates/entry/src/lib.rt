@@ -5,8 +5,10 @@ ghost use Rattle.std.specs.Prelude.{◌≡◌};
 ghost use Rattle.entry.specs.Change.{word_formed, slice_formed};
 ghost use Rattle.entry.specs.Reply.{known_is, reply_at};
 ghost use Rattle.entry.specs.Sign.{sign_formed};
-ghost use Rattle.entry.specs.Order.{compare_of, then_by, ballot_order, same_ballot};
+ghost use Rattle.entry.specs.Order.{ballot_order};
 ghost use Rattle.entry.specs.Refusals.{number_of, carried_of};
+
+use std::cmp::Ordering;
 
 pub mod inner;
 
@@ -45,80 +47,38 @@ pub const UNKNOWN: u64 = 0xffff_ffff_ffff_fffe;
 
 // The number of a change in the log.
 #[repr(C)]
-#[derive(Clone, Copy)]
+#[derive(Clone, Copy, Debug, PartialEq, Eq, PartialOrd, Ord)]
 pub struct LogIndex(pub u64);
 
 // The number of a block on disk.
 #[repr(C)]
-#[derive(Clone, Copy)]
+#[derive(Clone, Copy, Debug, PartialEq, Eq)]
 pub struct BlockPlace(pub u64);
 
-// What an entry says of its key: a block place, or that it is removed.
-#[derive(Clone, Copy)]
+// What an entry says of its key: a block place, or that it is removed. It is no `Option`: `None` is a key of which no
+// entry says anything.
+#[derive(Clone, Copy, Debug, PartialEq, Eq)]
 pub enum Said {
     Place(BlockPlace),
     Removed,
 }
 
-// What is known of a key: what an entry says of it, or nothing.
-#[derive(Clone, Copy)]
-pub enum Known {
-    Says(Said),
-    Unknown,
-}
-
 // What a compaction does with the entries that leave the log: a trim drops them, and the held snapshot, which then
 // lacks them; a snapshot folds them onto it.
-#[derive(Clone, Copy)]
+#[derive(Clone, Copy, Debug, PartialEq, Eq)]
 pub enum Compaction {
     Trim,
     Snapshot,
 }
 
-// How far a compaction goes, the Rust's `Option`: over all that is log-decided, or up to an index.
-#[derive(Clone, Copy)]
-pub enum Upto {
-    All,
-    Index(LogIndex),
-}
-
+// Two ballots may be equal in order and differ in their configuration, so the order is a method and no `Ord`.
 #[repr(C)]
-#[derive(Clone, Copy)]
+#[derive(Clone, Copy, Debug, PartialEq, Eq)]
 pub struct Ballot {
     pub config_id: u32,
     pub n: u32,
     pub priority: u32,
     pub pid: u64,
-}
-
-#[derive(Clone, Copy)]
-pub enum Ordering {
-    Less,
-    Equal,
-    Greater,
-}
-
-fn compare(a: u64, b: u64) -> Ordering
-    ensures { result ≡ compare_of a b }
-{
-    if a < b {
-        return Ordering::Less;
-    }
-    if b < a {
-        return Ordering::Greater;
-    }
-    Ordering::Equal
-}
-
-// The first order, or the second where the first is equal.
-fn then_by(a: Ordering, b: Ordering) -> Ordering
-    ensures { result ≡ then_by a b }
-{
-    match a {
-        Ordering::Less => Ordering::Less,
-        Ordering::Equal => b,
-        Ordering::Greater => Ordering::Greater,
-    }
 }
 
 impl Ballot {
@@ -137,24 +97,16 @@ impl Ballot {
     pub fn cmp(self, other: Ballot) -> Ordering
         ensures { result ≡ ballot_order self other }
     {
-        let by_n = compare(self.n as u64, other.n as u64);
-        let by_priority = compare(self.priority as u64, other.priority as u64);
-        let by_pid = compare(self.pid, other.pid);
-        then_by(by_n, then_by(by_priority, by_pid))
-    }
-
-    // All four: two ballots may be equal in order and differ in their configuration.
-    pub fn eq(self, other: Ballot) -> bool
-        ensures { result ≡ same_ballot self other }
-    {
-        (self.config_id == other.config_id)
-            & ((self.n == other.n) & ((self.priority == other.priority) & (self.pid == other.pid)))
+        self.n
+            .cmp(&other.n)
+            .then(self.priority.cmp(&other.priority))
+            .then(self.pid.cmp(&other.pid))
     }
 }
 
 // The next configuration: up to seven nodes and up to 32 bytes of metadata, or none. Unused elements are zero.
 #[repr(C)]
-#[derive(Clone, Copy)]
+#[derive(Clone, Copy, Debug, PartialEq, Eq)]
 pub struct StopSign {
     pub config_id: u32,
     pub node_count: usize,
@@ -165,7 +117,7 @@ pub struct StopSign {
 }
 
 // The refusals of document 01, in its order, and of document 02; each holds the number that it carries.
-#[derive(Clone, Copy)]
+#[derive(Clone, Copy, Debug, PartialEq, Eq)]
 pub enum Refusal {
     NoRoom,
     AboveDecided(LogIndex),
@@ -220,25 +172,15 @@ pub fn carried(r: Refusal) -> u64
     ensures { result ≡ carried_of r }
 {
     match r {
-        Refusal::NoRoom => 0,
-        Refusal::AboveDecided(i) => i.0,
-        Refusal::BelowCompacted(i) => i.0,
-        Refusal::Stopped(i) => i.0,
-        Refusal::BelowDecided(i) => i.0,
-        Refusal::AboveAccepted(i) => i.0,
-        Refusal::OutsideRun(i) => i.0,
-        Refusal::TooManyKeys => 0,
-        Refusal::PastLastIndex(i) => i.0,
-        Refusal::BatchHeld(n) => n as u64,
-        Refusal::Malformed => 0,
-        Refusal::IllFormed => 0,
-        Refusal::OutputShort => 0,
-        Refusal::UnknownFormat => 0,
-        Refusal::Damaged(at) => at as u64,
-        Refusal::Hole => 0,
-        Refusal::OutgoingShort => 0,
-        Refusal::AtLargest => 0,
-        Refusal::RepliesFull => 0,
+        Refusal::AboveDecided(i)
+        | Refusal::BelowCompacted(i)
+        | Refusal::Stopped(i)
+        | Refusal::BelowDecided(i)
+        | Refusal::AboveAccepted(i)
+        | Refusal::OutsideRun(i)
+        | Refusal::PastLastIndex(i) => i.0,
+        Refusal::BatchHeld(n) | Refusal::Damaged(n) => n as u64,
+        _ => 0,
     }
 }
 
@@ -260,18 +202,17 @@ pub fn entries_formed(s: &[u64]) -> bool
 }
 
 // The i-th of the replies that some words are; unknown where there are not so many.
-pub fn reply_at(replies: &[u64], i: usize) -> Known
+pub fn reply_at(replies: &[u64], i: usize) -> Option<Said>
     ensures { known_is result ≡ reply_at replies.now i }
 {
     if replies.len() / REPLY_WIDTH <= i {
-        return Known::Unknown;
+        return None;
     }
     let word = replies[i * REPLY_WIDTH];
     if word == UNKNOWN {
-        return Known::Unknown;
+        return None;
     }
-    let said = inner::said_of(word);
-    Known::Says(said)
+    Some(inner::said_of(word))
 }
 
 // Whether a stop-sign is in form: at least one node, and a length only where metadata is held.

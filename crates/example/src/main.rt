@@ -2,167 +2,129 @@
 // a log takes an entry, which is decided and looked up, alone and with another key in one call.
 #![tactic(auto)]
 
-use entry::{BlockPlace, Known, LogIndex, Said};
-use reading::Bound;
-use snapshot::{Folded, Found};
-use state_cache::{IndexRecord, Settled};
+use entry::{BlockPlace, LogIndex, Refusal, Said};
+use state_cache::IndexRecord;
 use std::io;
+use std::ops::Bound;
 
 type LogWords = [u64; entry::LOG_WORDS];
 
 type SnapshotWords = [u64; entry::SNAPSHOT_WORDS];
 
-// How many keys a fold or a merge wrote; none where it was refused.
-fn keys(folded: Folded) -> usize {
-    match folded {
-        Folded::Keys(n) => n,
-        Folded::Refused(_) => 0,
+// Why the program stops: a call is refused, or a line cannot be written.
+#[derive(Drop)]
+enum Fault {
+    Refused(Refusal),
+    Unwritten(io::Error),
+}
+
+impl From<Refusal> for Fault {
+    fn from(refusal: Refusal) -> Fault {
+        Fault::Refused(refusal)
     }
 }
 
-fn print_folded(rt: &impl Print, folded: Folded) -> io::Result<()> {
-    match folded {
-        Folded::Keys(n) => println!(rt; "keys {n}"),
-        Folded::Refused(refusal) => println!(rt; "refused {}", entry::number(refusal)),
+impl From<io::Error> for Fault {
+    fn from(error: io::Error) -> Fault {
+        Fault::Unwritten(error)
     }
 }
 
-fn print_found(rt: &impl Print, found: Found) -> io::Result<()> {
-    match found {
-        Found::Place(place) => println!(rt; "place {}", place.0),
-        Found::Removed => println!(rt; "removed"),
-        Found::Unknown => println!(rt; "unknown"),
-        Found::Refused(refusal) => println!(rt; "refused {}", entry::number(refusal)),
-    }
+fn place(p: u64) -> Said {
+    Said::Place(BlockPlace(p))
 }
 
-// A fresh log, whatever its words held.
-fn started(log: &mut LogWords, held: &mut SnapshotWords) -> IndexRecord {
-    let started = state_cache::fresh(0, log, held);
-    started.index
-}
-
-// The log with one entry more.
-fn appended(
-    index: IndexRecord,
+// A fresh log, whatever its words held, with these changes. At batch size 0 none of them waits.
+fn started(
     log: &mut LogWords,
-    held: &SnapshotWords,
-    key: u64,
-    said: Said,
-) -> IndexRecord {
-    let added = internal_storage::append_entry_with_batching(index, log, held, key, said);
-    added.index
+    held: &mut SnapshotWords,
+    changes: &[(u64, Said)],
+) -> Result<IndexRecord, Refusal> {
+    let mut index = state_cache::fresh(0, log, held)?;
+    for &(key, said) in changes {
+        let (next, _) = internal_storage::append_entry_with_batching(index, log, held, key, said)?;
+        index = next;
+    }
+    Ok(index)
 }
 
-// The entries of a log, as a read shows them, folded to a snapshot.
+// The entries of a log, as a read shows them, folded to a snapshot. Says how many keys it has.
 fn folded(
     index: IndexRecord,
     log: &LogWords,
     held: &SnapshotWords,
     out: &mut SnapshotWords,
-) -> Folded {
-    let reply = reading::read_reply(index, log, held, Bound::Unbounded, Bound::Unbounded);
-    let entries = reading::entries_shown(log, reply);
+) -> Result<usize, Refusal> {
+    let run = reading::read_reply(index, log, held, Bound::Unbounded, Bound::Unbounded)?;
+    let entries = reading::entries_shown(log, Ok(run));
     snapshot::fold(entries, out)
 }
 
-// The two folds in one.
-fn merged(
-    a: &SnapshotWords,
-    first: Folded,
-    b: &SnapshotWords,
-    second: Folded,
-    out: &mut SnapshotWords,
-) -> Folded {
-    snapshot::merge(a, keys(first), b, keys(second), out)
-}
-
-fn decided(
-    index: IndexRecord,
-    log: &LogWords,
-    held: &SnapshotWords,
-    upto: LogIndex,
-) -> IndexRecord {
-    let moved = internal_storage::set_decided_idx(index, log, held, upto);
-    moved.index
-}
-
-fn print_find(rt: &impl Print, words: &SnapshotWords, count: usize, key: u64) -> io::Result<()> {
-    print_found(rt, snapshot::find(words, count, key))
-}
-
-fn print_lookup(
-    rt: &impl Print,
-    index: IndexRecord,
-    log: &LogWords,
-    held: &SnapshotWords,
-    key: u64,
-) -> io::Result<()> {
-    print_found(rt, reading::lookup(index, log, held, key))
-}
-
-fn print_known(rt: &impl Print, known: Known) -> io::Result<()> {
-    let Known::Says(said) = known else {
-        return print_found(rt, Found::Unknown);
-    };
-    match said {
-        Said::Place(place) => print_found(rt, Found::Place(place)),
-        Said::Removed => print_found(rt, Found::Removed),
+fn print_known(rt: &impl Print, known: Option<Said>) -> io::Result<()> {
+    match known {
+        Some(Said::Place(place)) => println!(rt; "place {}", place.0),
+        Some(Said::Removed) => println!(rt; "removed"),
+        None => println!(rt; "unknown"),
     }
 }
 
-// Two keys in one call.
-fn print_both(
-    rt: &impl Print,
-    index: IndexRecord,
-    log: &LogWords,
-    held: &SnapshotWords,
-    a: u64,
-    b: u64,
-) -> io::Result<()> {
-    let keys = [a, b];
-    let mut replies = [0u64; 2 * entry::REPLY_WIDTH];
-    let asked = reading::lookup_many(index, log, held, &keys, &mut replies);
-    match asked {
-        Settled::Done => {
-            print_known(rt, entry::reply_at(&replies, 0))?;
-            print_known(rt, entry::reply_at(&replies, 1))
-        }
-        Settled::Refused(refusal) => print_found(rt, Found::Refused(refusal)),
-    }
+fn print_refused(rt: &impl Print, refusal: Refusal) -> io::Result<()> {
+    println!(rt; "refused {}", entry::number(refusal))
 }
 
-fn main(rt: HostRuntime) -> io::Result<()> {
-    let mut log = [0u64; entry::LOG_WORDS];
-    let mut held = [0u64; entry::SNAPSHOT_WORDS];
+// Two logs, one after the other: of each the fold, and then the two folds in one.
+fn folds(rt: &impl Print, log: &mut LogWords, held: &mut SnapshotWords) -> Result<(), Fault> {
     let mut a = [0u64; entry::SNAPSHOT_WORDS];
     let mut b = [0u64; entry::SNAPSHOT_WORDS];
     let mut both = [0u64; entry::SNAPSHOT_WORDS];
-    // Key 9 at place 100, 4 at 200, then 9 removed.
-    let mut index = started(&mut log, &mut held);
-    index = appended(index, &mut log, &held, 9, Said::Place(BlockPlace(100)));
-    index = appended(index, &mut log, &held, 4, Said::Place(BlockPlace(200)));
-    index = appended(index, &mut log, &held, 9, Said::Removed);
-    let first_fold = folded(index, &log, &held, &mut a);
-    // In a second log, 4 at 300 and 7 at 700.
-    index = started(&mut log, &mut held);
-    index = appended(index, &mut log, &held, 4, Said::Place(BlockPlace(300)));
-    index = appended(index, &mut log, &held, 7, Said::Place(BlockPlace(700)));
-    let second_fold = folded(index, &log, &held, &mut b);
-    let both_fold = merged(&a, first_fold, &b, second_fold, &mut both);
-    print_folded(&rt, first_fold)?;
-    print_folded(&rt, second_fold)?;
-    print_folded(&rt, both_fold)?;
-    let n = keys(both_fold);
-    print_find(&rt, &both, n, 4)?;
-    print_find(&rt, &both, n, 7)?;
-    print_find(&rt, &both, n, 9)?;
-    print_find(&rt, &both, entry::KEYS + 1, 4)?;
-    // An entry is found once it is decided.
-    index = started(&mut log, &mut held);
-    index = appended(index, &mut log, &held, 9, Said::Place(BlockPlace(100)));
-    print_lookup(&rt, index, &log, &held, 9)?;
-    index = decided(index, &log, &held, LogIndex(1));
-    print_lookup(&rt, index, &log, &held, 9)?;
-    print_both(&rt, index, &log, &held, 4, 9)
+    let index = started(
+        log,
+        held,
+        &[(9, place(100)), (4, place(200)), (9, Said::Removed)],
+    )?;
+    let first = folded(index, log, held, &mut a)?;
+    println!(rt; "keys {first}")?;
+    let index = started(log, held, &[(4, place(300)), (7, place(700))])?;
+    let second = folded(index, log, held, &mut b)?;
+    println!(rt; "keys {second}")?;
+    let merged = snapshot::merge(&a, first, &b, second, &mut both)?;
+    println!(rt; "keys {merged}")?;
+    for key in [4, 7, 9] {
+        print_known(rt, snapshot::find(&both, merged, key)?)?;
+    }
+    // A refusal is a value: no snapshot has more keys than it has room for.
+    if let Err(refusal) = snapshot::find(&both, entry::KEYS + 1, 4) {
+        print_refused(rt, refusal)?;
+    }
+    Ok(())
+}
+
+// An entry is found once it is decided.
+fn lookups(rt: &impl Print, log: &mut LogWords, held: &mut SnapshotWords) -> Result<(), Fault> {
+    let index = started(log, held, &[(9, place(100))])?;
+    print_known(rt, reading::lookup(index, log, held, 9)?)?;
+    let index = internal_storage::set_decided_idx(index, log, held, LogIndex(1))?;
+    print_known(rt, reading::lookup(index, log, held, 9)?)?;
+    // Two keys in one call.
+    let mut replies = [0u64; 2 * entry::REPLY_WIDTH];
+    reading::lookup_many(index, log, held, &[4, 9], &mut replies)?;
+    for i in 0..2 {
+        print_known(rt, entry::reply_at(&replies, i))?;
+    }
+    Ok(())
+}
+
+fn run(rt: &impl Print) -> Result<(), Fault> {
+    let mut log = [0u64; entry::LOG_WORDS];
+    let mut held = [0u64; entry::SNAPSHOT_WORDS];
+    folds(rt, &mut log, &mut held)?;
+    lookups(rt, &mut log, &mut held)
+}
+
+fn main(rt: HostRuntime) -> io::Result<()> {
+    match run(&rt) {
+        Ok(()) => Ok(()),
+        Err(Fault::Refused(refusal)) => print_refused(&rt, refusal),
+        Err(Fault::Unwritten(error)) => Err(error),
+    }
 }

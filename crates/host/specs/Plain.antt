@@ -1,8 +1,8 @@
 -- Answers as the host reads them: numbers, and nothing that Rust or C would have to know of an enum.
-use Rattle.std.specs.Prelude.{ℕ, Bool, List, length}
+use Rattle.std.specs.Prelude.{ℕ, Bool, List, length, Result, Ok, Err}
 use Rattle.std.proofs.Math.Option.{Option, none, some}
 use Rattle.entry.specs.Change.{Said as Word, place, removed}
-use Rattle.entry.specs.Guards.{Answer, refused, replied}
+use Rattle.entry.specs.Guards.{Answer, refused, replied, refused_by}
 use Rattle.snapshot.specs.Calls.{Outcome as Fold}
 use Rattle.model.specs.Append.{Flushed}
 use Rattle.model.specs.Read.{Span}
@@ -10,7 +10,13 @@ use Rattle.model.specs.Diff.{plain as given, complete, delta}
 use Rattle.model.specs.Calls.{Diff}
 use Rattle.state_cache.specs.State.{Raw, one_if}
 use Rattle.state_cache.specs.Run.{Outcome}
+use Rattle.reading.specs.declared.Span.{Span as CodeSpan}
+use Rattle.diff.specs.declared.Diff.{Diff as CodeDiff}
+use Rattle.diff.specs.declared.Diff.TheVariants.{Nothing, Complete, Delta}
+use Rattle.state_cache.specs.declared.IndexRecord.{IndexRecord}
+use Rattle.entry.specs.declared.Refusal.{Refusal}
 use Rattle.host.specs.declared.Said.{Said}
+use Rattle.host.specs.declared.Reply.{Reply}
 
 -- a call that stands: what kind of thing it tells (0 for nothing), and up to two numbers
 abbrev pub tells : ℕ → ℕ → ℕ → Said
@@ -56,6 +62,29 @@ a_diff d =
       | complete s ↦ tells 2 (length s) d.upto
       | delta s ↦ tells 3 (length s) d.upto
     ]
+
+-- the same two as the code has them
+abbrev pub a_part : CodeSpan → Said
+a_part s = tells 1 s.first s.count
+
+abbrev pub diff_told : CodeDiff → Said
+diff_told (Nothing i) = tells 1 0 i.0
+diff_told (Complete n i) = tells 2 n i.0
+diff_told (Delta n i) = tells 3 n i.0
+
+-- what a reply of the code's says, by what it tells where it stands; and with the record after it, which is the one that
+-- was lent where the call is refused
+abbrev pub said_of : {A : Type 0} → (A → Said) → Result A Refusal → Said
+said_of f (Ok y) = f y
+said_of f (Err r) = plain nothing (refused_by r)
+
+abbrev pub reply_of : {A : Type 0} → (A → Said) → IndexRecord → Result (IndexRecord × A) Refusal → Reply
+reply_of f lent (Ok (next, y)) = record { said = f y; index = next }
+reply_of f lent (Err r) = record { said = plain nothing (refused_by r); index = lent }
+
+abbrev pub reply_by : IndexRecord → Result IndexRecord Refusal → Reply
+reply_by lent (Ok next) = record { said = tells 0 0 0; index = next }
+reply_by lent (Err r) = record { said = plain nothing (refused_by r); index = lent }
 
 -- what a call leaves: what it said, and the state after it
 pub record Left : Type 0 where

@@ -1,13 +1,15 @@
 -- Requests as the host writes them. A kind is its place in the library's enum, from 0; one that there is not makes a
 -- request malformed.
 use Rattle.std.specs.Prelude.{ℕ, Bool, ◌&&◌, ◌||◌, List, [], ◌∷◌, map, leb, ltb, eqb, take, if◌then◌else◌}
+use Rattle.std.specs.Bool.{then_some}
+use Rattle.std.specs.Prelude.{Option as Optional, Some, None}
+use Rattle.std.specs.declared.cmp.Ordering.{Ordering}
+use Rattle.std.specs.declared.cmp.Ordering.TheVariants.{Less, Equal, Greater}
 use Rattle.std.proofs.Math.Option.{Option, none, some}
 use Rattle.entry.specs.Limits.{last_word}
 use Rattle.entry.specs.Change.{Said, place, removed}
 use Rattle.entry.specs.declared.Compaction.{Compaction}
 use Rattle.entry.specs.declared.Compaction.TheVariants as compaction
-use Rattle.entry.specs.declared.Ordering.{Ordering}
-use Rattle.entry.specs.declared.Ordering.TheVariants.{Less, Equal, Greater}
 use Rattle.model.specs.Read.{Bound, included, excluded, unbounded}
 use Rattle.model.specs.Backend.{Op as ModelOp}
 use Rattle.backend.specs.Ops.{op_of}
@@ -19,7 +21,7 @@ use Rattle.backend.specs.declared.OpKind.TheVariants.{SetAcceptedRound, SetCompa
 use Rattle.backend.specs.declared.OpKind.TheVariants.{SetSnapshot}
 use Rattle.sync.specs.declared.LogSync.{LogSync}
 use Rattle.sync.specs.declared.SnapshotType.{SnapshotType}
-use Rattle.sync.specs.declared.SnapshotType.TheVariants.{Plain, Complete, Delta}
+use Rattle.sync.specs.declared.SnapshotType.TheVariants.{Complete, Delta}
 use Rattle.host.specs.declared.PlainBound.{PlainBound}
 use Rattle.host.specs.declared.PlainOp.{PlainOp}
 use Rattle.host.specs.declared.PlainOps.{PlainOps}
@@ -100,8 +102,8 @@ abbrev pub slice_at : PlainOps → List ModelOp
 slice_at l = map op_of (take (count_at l) (nine_at l))
 
 -- a sync's log part: an unknown kind counts as a snapshot of more keys than there can be, which is malformed
-unfoldable pub type_at : ℕ → SnapshotType
-type_at k = if eqb k 0 then Plain else if eqb k 2 then Delta else Complete
+unfoldable pub type_at : ℕ → Optional SnapshotType
+type_at k = if eqb k 0 then None else if eqb k 2 then Some Delta else Some Complete
 
 abbrev pub keys_at : ℕ → ℕ → ℕ
 keys_at k n = if ltb k 3 then n else last_word
@@ -111,6 +113,5 @@ sync_at s = record {
   sync_idx = s.sync_idx;
   decided_snapshot = type_at s.kind;
   keys = keys_at s.kind s.keys;
-  stop_held = s.stop_held;
-  stopsign = s.stopsign;
+  stopsign = then_some s.stop_held s.stopsign;
 }

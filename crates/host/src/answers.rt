@@ -1,27 +1,23 @@
-// What each answer of the library says in numbers, and what stands beside it: one function for each type of answer.
-ghost use Rattle.std.specs.Prelude.{◌≡◌, List, ℕ};
+// What the replies of the library say in numbers, and what stands beside them.
+ghost use Rattle.std.specs.Prelude.{◌≡◌};
 ghost use Rattle.entry.specs.Reply.{known_is};
 ghost use Rattle.entry.specs.Guards.{refused_by};
-ghost use Rattle.snapshot.specs.Calls.{found, folded};
 ghost use Rattle.state_cache.specs.State.{Raw};
-ghost use Rattle.state_cache.specs.Run.{settled, index_said, flag};
-ghost use Rattle.internal_storage.specs.Replies.{append_said, maybe_index_said};
-ghost use Rattle.image.specs.Calls.{written};
-ghost use Rattle.diff.specs.Replies.{diff_said};
-ghost use Rattle.reading.specs.Replies.{span_says, marker_said, shown_said, read_said};
-ghost use Rattle.host.specs.Plain.{tells, plain};
-ghost use Rattle.host.specs.Plain.{nothing, a_number, a_flag, maybe_number, a_word, maybe_flushed, a_span, a_diff};
+ghost use Rattle.internal_storage.specs.Replies.{flushed_is, maybe_at};
+ghost use Rattle.reading.specs.Replies.{marker_said, shown_said, read_said};
+ghost use Rattle.host.specs.declared.Said.{Said};
+ghost use Rattle.host.specs.Plain.{tells, plain, nothing, a_number, a_flag, maybe_number, a_word, maybe_flushed, a_part};
+ghost use Rattle.host.specs.Plain.{diff_told, said_of, reply_of, reply_by};
 ghost use Rattle.host.specs.Reads.{marked, none_shown, marked_as, shown_as};
 ghost use Rattle.host.specs.Requests.{order_as};
 
 use super::{Reply, Said, ShownSaid};
 use diff::Diff;
-use entry::{Known, Ordering, Refusal};
-use image::Written;
-use internal_storage::{Appended, AppendedAt, MaybeIndex, MaybeIndexAt};
-use reading::{Marker, ReadReply, ShownRun, Span};
-use snapshot::{Folded, Found};
-use state_cache::{Flag, IndexAnswer, IndexAnswerAt, Settled, SettledAt};
+use entry::{LogIndex, Refusal};
+use internal_storage::Flushed;
+use reading::{Marker, ShownRun, Span};
+use state_cache::IndexRecord;
+use std::cmp::Ordering;
 
 pub(crate) fn tell(told: u64, first: u64, second: u64) -> Said
     ensures { result ≡ tells told first second }
@@ -47,156 +43,142 @@ pub(crate) fn refuse(r: Refusal) -> Said
     }
 }
 
-pub(crate) fn settled_said(answer: Settled) -> Said
-    ensures { result ≡ plain nothing (settled answer) }
-{
-    match answer {
-        Settled::Done => tell(0, 0, 0),
-        Settled::Refused(r) => refuse(r),
+// A reply of the library, which tells something in numbers where the call stands.
+pub(crate) trait Tells {
+    ghost told: { Self → Said };
+
+    fn tell(self) -> Said
+        ensures { result ≡ told self };
+}
+
+impl Tells for () {
+    ghost told = { nothing };
+
+    fn tell(self) -> Said {
+        tell(0, 0, 0)
     }
 }
 
-pub(crate) fn settled_reply(r: SettledAt) -> Reply
-    ensures { (result.said ≡ plain nothing (settled r.answer)) × (result.index ≡ r.index) }
-{
-    let answer = r.answer;
-    let next = r.index;
-    Reply {
-        said: settled_said(answer),
-        index: next,
+impl Tells for LogIndex {
+    ghost told = { λ i. a_number i.0 };
+
+    fn tell(self) -> Said {
+        tell(1, self.0, 0)
     }
 }
 
-pub(crate) fn accepted_said(answer: IndexAnswer) -> Said
-    ensures { result ≡ plain a_number (index_said answer) }
-{
-    match answer {
-        IndexAnswer::At(i) => tell(1, i.0, 0),
-        IndexAnswer::Refused(r) => refuse(r),
+// How many keys, or bytes.
+impl Tells for usize {
+    ghost told = { a_number };
+
+    fn tell(self) -> Said {
+        tell(1, self as u64, 0)
     }
 }
 
-pub(crate) fn accepted_reply(r: IndexAnswerAt) -> Reply
-    ensures { (result.said ≡ plain a_number (index_said r.answer)) × (result.index ≡ r.index) }
-{
-    let answer = r.answer;
-    let next = r.index;
-    Reply {
-        said: accepted_said(answer),
-        index: next,
+impl Tells for bool {
+    ghost told = { a_flag };
+
+    fn tell(self) -> Said {
+        tell(1, u64::from(self), 0)
     }
 }
 
-pub(crate) fn flag_said(answer: Flag) -> Said
-    ensures { result ≡ plain a_flag (flag answer) }
-{
-    match answer {
-        Flag::Is(b) => tell(1, state_cache::inner::one_if(b), 0),
-        Flag::Refused(r) => refuse(r),
+impl Tells for Option<LogIndex> {
+    ghost told = { λ o. maybe_number (maybe_at o) };
+
+    fn tell(self) -> Said {
+        match self {
+            None => tell(0, 0, 0),
+            Some(i) => tell(1, i.0, 0),
+        }
     }
 }
 
-fn appended_said(answer: Appended) -> Said
-    ensures { result ≡ plain maybe_flushed (append_said answer) }
-{
-    match answer {
-        Appended::Nothing => tell(0, 0, 0),
-        Appended::Flushed { accepted, entries } => tell(1, accepted.0, entries as u64),
-        Appended::Refused(r) => refuse(r),
-    }
-}
+impl Tells for Option<Flushed> {
+    ghost told = { λ o. maybe_flushed (flushed_is o) };
 
-pub(crate) fn appended_reply(r: AppendedAt) -> Reply
-    ensures { (result.said ≡ plain maybe_flushed (append_said r.answer)) × (result.index ≡ r.index) }
-{
-    let answer = r.answer;
-    let next = r.index;
-    Reply {
-        said: appended_said(answer),
-        index: next,
-    }
-}
-
-fn accepted_idx_said(answer: MaybeIndex) -> Said
-    ensures { result ≡ plain maybe_number (maybe_index_said answer) }
-{
-    match answer {
-        MaybeIndex::Nothing => tell(0, 0, 0),
-        MaybeIndex::At(i) => tell(1, i.0, 0),
-        MaybeIndex::Refused(r) => refuse(r),
-    }
-}
-
-pub(crate) fn accepted_idx_reply(r: MaybeIndexAt) -> Reply
-    ensures { (result.said ≡ plain maybe_number (maybe_index_said r.answer)) × (result.index ≡ r.index) }
-{
-    let answer = r.answer;
-    let next = r.index;
-    Reply {
-        said: accepted_idx_said(answer),
-        index: next,
+    fn tell(self) -> Said {
+        match self {
+            None => tell(0, 0, 0),
+            Some(flushed) => tell(1, flushed.accepted.0, flushed.entries as u64),
+        }
     }
 }
 
 // What is known of a key: 0, nothing; 1, its place; 2, that it is removed.
-pub(crate) fn found_said(answer: Found) -> Said
-    ensures { result ≡ plain a_word (found answer) }
-{
-    match answer {
-        Found::Place(p) => tell(1, p.0, 0),
-        Found::Removed => tell(2, 0, 0),
-        Found::Unknown => tell(0, 0, 0),
-        Found::Refused(r) => refuse(r),
-    }
-}
+impl Tells for Option<entry::Said> {
+    ghost told = { λ o. a_word (known_is o) };
 
-pub(crate) fn known_said(known: Known) -> Said
-    ensures { result ≡ a_word (known_is known) }
-{
-    let Known::Says(said) = known else {
-        return tell(0, 0, 0);
-    };
-    found_said(snapshot::inner::found_of(said))
-}
-
-pub(crate) fn folded_said(answer: Folded) -> Said
-    ensures { result ≡ plain a_number (folded answer) }
-{
-    match answer {
-        Folded::Keys(n) => tell(1, n as u64, 0),
-        Folded::Refused(r) => refuse(r),
-    }
-}
-
-// How many bytes of an image were written.
-pub(crate) fn written_said(answer: Written) -> Said
-    ensures { result ≡ plain a_number (written answer) }
-{
-    match answer {
-        Written::Bytes(n) => tell(1, n as u64, 0),
-        Written::Refused(r) => refuse(r),
+    fn tell(self) -> Said {
+        match self {
+            None => tell(0, 0, 0),
+            Some(entry::Said::Place(place)) => tell(1, place.0, 0),
+            Some(entry::Said::Removed) => tell(2, 0, 0),
+        }
     }
 }
 
 // What a diff gave: 1, none; 2, a complete snapshot; 3, a delta. Then its keys, and the index up to which it goes.
-pub(crate) fn diff_said(answer: Diff) -> Said
-    ensures { (out : List ℕ) → result ≡ plain a_diff (diff_said out answer) }
-{
-    match answer {
-        Diff::Nothing { log_decided } => tell(1, 0, log_decided.0),
-        Diff::Complete { keys, log_decided } => tell(2, keys as u64, log_decided.0),
-        Diff::Delta { keys, log_decided } => tell(3, keys as u64, log_decided.0),
-        Diff::Refused(r) => refuse(r),
+impl Tells for Diff {
+    ghost told = { diff_told };
+
+    fn tell(self) -> Said {
+        match self {
+            Diff::Nothing { log_decided } => tell(1, 0, log_decided.0),
+            Diff::Complete { keys, log_decided } => tell(2, keys as u64, log_decided.0),
+            Diff::Delta { keys, log_decided } => tell(3, keys as u64, log_decided.0),
+        }
     }
 }
 
 // A part of the lent log: its first entry, and how many.
-pub(crate) fn span_said(answer: Span) -> Said
-    ensures { (log : List ℕ) → result ≡ plain a_span (span_says log answer) }
+impl Tells for Span {
+    ghost told = { a_part };
+
+    fn tell(self) -> Said {
+        tell(1, self.first as u64, self.count as u64)
+    }
+}
+
+pub(crate) fn said<T: Tells>(answer: Result<T, Refusal>) -> Said
+    ensures { result ≡ said_of T.told answer }
 {
     match answer {
-        Span::Run { first, count } => tell(1, first as u64, count as u64),
-        Span::Refused(r) => refuse(r),
+        Ok(reply) => reply.tell(),
+        Err(refusal) => refuse(refusal),
+    }
+}
+
+// What a call says that was lent a record, and the record after it.
+pub(crate) fn reply<T: Tells>(lent: IndexRecord, answer: Result<(IndexRecord, T), Refusal>) -> Reply
+    ensures { result ≡ reply_of T.told lent answer }
+{
+    match answer {
+        Ok((index, reply)) => Reply {
+            said: reply.tell(),
+            index,
+        },
+        Err(refusal) => Reply {
+            said: refuse(refusal),
+            index: lent,
+        },
+    }
+}
+
+// The same of a call that has nothing more to say.
+pub(crate) fn settled(lent: IndexRecord, answer: Result<IndexRecord, Refusal>) -> Reply
+    ensures { result ≡ reply_by lent answer }
+{
+    match answer {
+        Ok(index) => Reply {
+            said: tell(0, 0, 0),
+            index,
+        },
+        Err(refusal) => Reply {
+            said: refuse(refusal),
+            index: lent,
+        },
     }
 }
 
@@ -251,20 +233,21 @@ fn show_none(number: u64, carried: u64) -> ShownSaid
 fn run_said(r: ShownRun) -> ShownSaid
     ensures { (x : Raw) → result ≡ marked_as (marker_said x.snapshot r.marker) (shown_said x r) }
 {
-    let m = r.marker;
-    match m {
-        Marker::None => show(0, 0, 0, r),
+    let Some(marker) = r.marker else {
+        return show(0, 0, 0, r);
+    };
+    match marker {
         Marker::Trimmed(i) => show(1, i.0, 0, r),
         Marker::Snapshot { index, keys } => show(2, index.0, keys, r),
     }
 }
 
-pub(crate) fn read_said(a: ReadReply) -> ShownSaid
+pub(crate) fn read_said(a: Result<Option<ShownRun>, Refusal>) -> ShownSaid
     ensures { (x : Raw) → result ≡ shown_as (read_said x a) }
 {
     match a {
-        ReadReply::Nothing => show_none(0, 0),
-        ReadReply::Run(r) => run_said(r),
-        ReadReply::Refused(x) => show_none(entry::number(x), entry::carried(x)),
+        Ok(None) => show_none(0, 0),
+        Ok(Some(run)) => run_said(run),
+        Err(refusal) => show_none(entry::number(refusal), entry::carried(refusal)),
     }
 }

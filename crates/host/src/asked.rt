@@ -2,16 +2,15 @@
 ghost use Rattle.std.specs.Prelude.{◌≡◌, ◌≤◌, ltb, if◌then◌else◌};
 ghost use Rattle.entry.specs.Limits.{last_word};
 ghost use Rattle.entry.specs.Change.{said_is};
-ghost use Rattle.entry.specs.Upto.{upto_of};
 ghost use Rattle.model.specs.Read.{included, excluded};
 ghost use Rattle.reading.specs.Replies.{bound_of};
-ghost use Rattle.host.specs.Requests.{of_flag, lent_said, what_of, end_at, kind_at, op_at, known_at, known_all, list_at};
+ghost use Rattle.host.specs.Requests.{lent_said, what_of, end_at, kind_at, op_at, known_at, known_all, list_at};
 ghost use Rattle.host.specs.Requests.{count_at, nine_at, type_at, keys_at, sync_at};
 
 use super::{PlainBound, PlainOp, PlainOps, PlainSync};
 use backend::{Op, OpKind, OpList};
-use entry::{BlockPlace, Compaction, LogIndex, Said as EntrySaid, Upto};
-use reading::Bound;
+use entry::{BlockPlace, Compaction, LogIndex, Said as EntrySaid};
+use std::ops::Bound;
 use sync::{LogSync, SnapshotType};
 
 pub(crate) fn entry_said(removed: bool, place: BlockPlace) -> EntrySaid
@@ -21,15 +20,6 @@ pub(crate) fn entry_said(removed: bool, place: BlockPlace) -> EntrySaid
         return EntrySaid::Removed;
     }
     EntrySaid::Place(place)
-}
-
-pub(crate) fn upto(given: bool, idx: LogIndex) -> Upto
-    ensures { upto_of result ≡ of_flag given idx.0 }
-{
-    if given {
-        return Upto::Index(idx);
-    }
-    Upto::All
 }
 
 pub(crate) fn what(folds: bool) -> Compaction
@@ -42,34 +32,27 @@ pub(crate) fn what(folds: bool) -> Compaction
 }
 
 // One end of a range; `past` for a kind that there is not.
-fn end_of(b: PlainBound, past: Bound) -> Bound
+fn end_of(b: PlainBound, past: Bound<LogIndex>) -> Bound<LogIndex>
     ensures { bound_of result ≡ end_at (bound_of past) b }
 {
-    let idx = b.index;
-    if b.kind == 0 {
-        return Bound::Included(idx);
+    match b.kind {
+        0 => Bound::Included(b.index),
+        1 => Bound::Excluded(b.index),
+        2 => Bound::Unbounded,
+        _ => past,
     }
-    if b.kind == 1 {
-        return Bound::Excluded(idx);
-    }
-    if b.kind == 2 {
-        return Bound::Unbounded;
-    }
-    past
 }
 
-pub(crate) fn start_of(b: PlainBound) -> Bound
+pub(crate) fn start_of(b: PlainBound) -> Bound<LogIndex>
     ensures { bound_of result ≡ end_at (excluded last_word) b }
 {
-    let last = LogIndex(u64::MAX);
-    end_of(b, Bound::Excluded(last))
+    end_of(b, Bound::Excluded(LogIndex(u64::MAX)))
 }
 
-pub(crate) fn stop_of(b: PlainBound) -> Bound
+pub(crate) fn stop_of(b: PlainBound) -> Bound<LogIndex>
     ensures { bound_of result ≡ end_at (included last_word) b }
 {
-    let last = LogIndex(u64::MAX);
-    end_of(b, Bound::Included(last))
+    end_of(b, Bound::Included(LogIndex(u64::MAX)))
 }
 
 // ---- operations
@@ -93,12 +76,10 @@ fn kind_of(n: u64) -> OpKind
 pub(crate) fn op_of(o: PlainOp) -> Op
     ensures { result ≡ op_at o }
 {
-    let index = o.index;
-    let ballot = o.ballot;
     Op {
         kind: kind_of(o.kind),
-        index,
-        ballot,
+        index: o.index,
+        ballot: o.ballot,
         given: o.given,
     }
 }
@@ -132,26 +113,16 @@ fn counted(all: bool, n: usize) -> usize
 pub(crate) fn list_of(l: PlainOps) -> OpList
     ensures { result ≡ list_at l }
 {
-    let a = op_of(l.a);
-    let b = op_of(l.b);
-    let c = op_of(l.c);
-    let d = op_of(l.d);
-    let e = op_of(l.e);
-    let f = op_of(l.f);
-    let g = op_of(l.g);
-    let h = op_of(l.h);
-    let ops = [a, b, c, d, e, f, g, h];
-    let all = known_all(l);
     OpList {
-        count: counted(all, l.count),
-        ops,
+        count: counted(known_all(l), l.count),
+        ops: [l.a, l.b, l.c, l.d, l.e, l.f, l.g, l.h].map(op_of),
     }
 }
 
 fn at_most_nine(n: usize) -> usize
     ensures { (result ≡ (if ltb n 9 then n else 9)) × (result ≤ 9) }
 {
-    if n < 9 { n } else { 9 }
+    n.min(9)
 }
 
 // How many operations a slice has of them: nine stand for more, which are as malformed.
@@ -165,30 +136,30 @@ pub(crate) fn counted_in(l: PlainOps) -> usize
 pub(crate) fn nine_of(l: PlainOps) -> [Op; 9]
     ensures { result ≡ nine_at l }
 {
-    let a = op_of(l.a);
-    let b = op_of(l.b);
-    let c = op_of(l.c);
-    let d = op_of(l.d);
-    let e = op_of(l.e);
-    let f = op_of(l.f);
-    let g = op_of(l.g);
-    let h = op_of(l.h);
-    let i = op_of(l.h);
-    [a, b, c, d, e, f, g, h, i]
+    [
+        op_of(l.a),
+        op_of(l.b),
+        op_of(l.c),
+        op_of(l.d),
+        op_of(l.e),
+        op_of(l.f),
+        op_of(l.g),
+        op_of(l.h),
+        op_of(l.h),
+    ]
 }
 
 // ---- a sync's log part
 
-fn type_of(kind: u64) -> SnapshotType
+#[tactic(auto, unfolding(crate::specs::Requests::type_at))]
+fn type_of(kind: u64) -> Option<SnapshotType>
     ensures { result ≡ type_at kind }
 {
-    if kind == 0 {
-        return SnapshotType::Plain;
+    match kind {
+        0 => None,
+        2 => Some(SnapshotType::Delta),
+        _ => Some(SnapshotType::Complete),
     }
-    if kind == 2 {
-        return SnapshotType::Delta;
-    }
-    SnapshotType::Complete
 }
 
 // An unknown kind counts as a snapshot of more keys than there can be: the log part is malformed.
@@ -201,13 +172,10 @@ fn keys_of(kind: u64, keys: usize) -> usize
 pub(crate) fn sync_of(s: PlainSync) -> LogSync
     ensures { result ≡ sync_at s }
 {
-    let sync_idx = s.sync_idx;
-    let stopsign = s.stopsign;
     LogSync {
-        sync_idx,
+        sync_idx: s.sync_idx,
         decided_snapshot: type_of(s.kind),
         keys: keys_of(s.kind, s.keys),
-        stop_held: s.stop_held,
-        stopsign,
+        stopsign: s.stop_held.then_some(s.stopsign),
     }
 }

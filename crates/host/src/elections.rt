@@ -3,68 +3,43 @@ ghost use Rattle.std.specs.Prelude.{◌≡◌};
 ghost use Rattle.ballot_leader_election.specs.State.{laid_replies, laid_messages, formed};
 ghost use Rattle.ballot_leader_election.specs.Calls.{set_priority, outgoing_mut, handle, new_hb_round, hb_timeout};
 ghost use Rattle.ballot_leader_election.specs.Calls.{get_current_ballot, get_ballots};
-ghost use Rattle.ballot_leader_election.specs.Run.{outcome, run, with_call, recovered_as, answered, led, ballot_said, handed_out};
-ghost use Rattle.host.specs.Plain.{plain, nothing};
+ghost use Rattle.ballot_leader_election.specs.Run.{run, with_call, changed, told, handed_out, laid_by};
+ghost use Rattle.host.specs.Plain.{nothing};
 ghost use Rattle.host.specs.Requests.{of_flag};
 ghost use Rattle.host.specs.Elections.{a_lead, election_as, taken_as, ballots_as, ballot_as};
 
-use super::{ElectionBallot, ElectionBallots, ElectionReply, ElectionTaken, Said, answers};
-use ballot_leader_election::{
-    Answer, Answered, BLEConfig, BLEMessage, BallotAnswer, BallotLeaderElection, Led, Recovered,
-};
-use entry::Ballot;
+use super::{ElectionBallot, ElectionBallots, ElectionReply, ElectionTaken, answers};
+use ballot_leader_election::{BLEConfig, BLEMessage, BallotLeaderElection, forms};
+use entry::{Ballot, Refusal};
 
-fn recovered_of(given: bool, leader: Ballot) -> Recovered
-    ensures { recovered_as result ≡ of_flag given leader }
-{
-    if given {
-        return Recovered::Leader(leader);
-    }
-    Recovered::Nothing
-}
-
-fn answer_said(answer: Answer) -> Said
-    ensures { result ≡ plain nothing (answered answer) }
+fn ballot_said(answer: Result<Ballot, Refusal>) -> ElectionBallot
+    ensures { result ≡ ballot_as (told answer) }
 {
     match answer {
-        Answer::Done => answers::tell(0, 0, 0),
-        Answer::Refused(r) => answers::refuse(r),
-    }
-}
-
-fn led_said(answer: Led) -> Said
-    ensures { result ≡ plain a_lead (led answer) }
-{
-    match answer {
-        Led::Nothing => answers::tell(0, 0, 0),
-        Led::Leads(_) => answers::tell(1, 0, 0),
-        Led::Refused(r) => answers::refuse(r),
-    }
-}
-
-fn ballot_said(answer: BallotAnswer) -> ElectionBallot
-    ensures { result ≡ ballot_as (ballot_said answer) }
-{
-    match answer {
-        BallotAnswer::Is(ballot) => ElectionBallot {
+        Ok(ballot) => ElectionBallot {
             said: answers::tell(1, 0, 0),
             ballot,
         },
-        BallotAnswer::Refused(r) => ElectionBallot {
-            said: answers::refuse(r),
+        Err(refusal) => ElectionBallot {
+            said: answers::refuse(refusal),
             ballot: Ballot::with(0, 0, 0, 0),
         },
     }
 }
 
-fn reply(r: Answered) -> ElectionReply
-    ensures { result ≡ election_as nothing (outcome (answered r.answer) r.election) }
+// What a call says that was lent a state, and the state after it.
+fn reply(lent: BallotLeaderElection, answer: Result<BallotLeaderElection, Refusal>) -> ElectionReply
+    ensures { result ≡ election_as nothing (changed lent answer) }
 {
-    let answer = r.answer;
-    let next = r.election;
-    ElectionReply {
-        said: answer_said(answer),
-        election: next,
+    match answer {
+        Ok(election) => ElectionReply {
+            said: answers::tell(0, 0, 0),
+            election,
+        },
+        Err(refusal) => ElectionReply {
+            said: answers::refuse(refusal),
+            election: lent,
+        },
     }
 }
 
@@ -86,7 +61,10 @@ pub extern "C" fn kotuseraw_election_with(
 ) -> ElectionReply
     ensures { result ≡ election_as nothing (with_call config peers.now (of_flag given leader)) }
 {
-    reply(ballot_leader_election::with(config, peers, recovered_of(given, leader)))
+    reply(
+        forms::no_election(),
+        ballot_leader_election::with(config, peers, given.then_some(leader)),
+    )
 }
 
 // Sets the priority of the node's ballot.
@@ -94,7 +72,7 @@ pub extern "C" fn kotuseraw_election_with(
 pub extern "C" fn kotuseraw_election_set_priority(e: BallotLeaderElection, p: u32) -> ElectionReply
     ensures { result ≡ election_as nothing (run (set_priority p) e) }
 {
-    reply(ballot_leader_election::set_priority(e, p))
+    reply(e, ballot_leader_election::set_priority(e, p))
 }
 
 // Takes the outgoing messages.
@@ -102,14 +80,17 @@ pub extern "C" fn kotuseraw_election_set_priority(e: BallotLeaderElection, p: u3
 pub extern "C" fn kotuseraw_election_outgoing_mut(e: BallotLeaderElection) -> ElectionTaken
     ensures { result ≡ taken_as (handed_out laid_messages (run outgoing_mut e)) }
 {
-    let taken = ballot_leader_election::outgoing_mut(e);
-    let answer = taken.answer;
-    let outgoing = taken.outgoing;
-    let next = taken.election;
-    ElectionTaken {
-        said: answer_said(answer),
-        outgoing,
-        election: next,
+    match ballot_leader_election::outgoing_mut(e) {
+        Ok((election, outgoing)) => ElectionTaken {
+            said: answers::tell(0, 0, 0),
+            outgoing,
+            election,
+        },
+        Err(refusal) => ElectionTaken {
+            said: answers::refuse(refusal),
+            outgoing: forms::no_messages(),
+            election: e,
+        },
     }
 }
 
@@ -118,7 +99,7 @@ pub extern "C" fn kotuseraw_election_outgoing_mut(e: BallotLeaderElection) -> El
 pub extern "C" fn kotuseraw_election_handle(e: BallotLeaderElection, m: BLEMessage) -> ElectionReply
     ensures { result ≡ election_as nothing (run (handle m) e) }
 {
-    reply(ballot_leader_election::handle(e, m))
+    reply(e, ballot_leader_election::handle(e, m))
 }
 
 // Begins a round.
@@ -126,7 +107,7 @@ pub extern "C" fn kotuseraw_election_handle(e: BallotLeaderElection, m: BLEMessa
 pub extern "C" fn kotuseraw_election_new_hb_round(e: BallotLeaderElection) -> ElectionReply
     ensures { result ≡ election_as nothing (run new_hb_round e) }
 {
-    reply(ballot_leader_election::new_hb_round(e))
+    reply(e, ballot_leader_election::new_hb_round(e))
 }
 
 // The end of a round. Tells 1 where the node leads, by the ballot that the state then has.
@@ -137,12 +118,15 @@ pub extern "C" fn kotuseraw_election_hb_timeout(
 ) -> ElectionReply
     ensures { result ≡ election_as a_lead (run (hb_timeout promise) e) }
 {
-    let timed = ballot_leader_election::hb_timeout(e, promise);
-    let answer = timed.answer;
-    let next = timed.election;
-    ElectionReply {
-        said: led_said(answer),
-        election: next,
+    match ballot_leader_election::hb_timeout(e, promise) {
+        Ok((election, leads)) => ElectionReply {
+            said: answers::tell(u64::from(leads.is_some()), 0, 0),
+            election,
+        },
+        Err(refusal) => ElectionReply {
+            said: answers::refuse(refusal),
+            election: e,
+        },
     }
 }
 
@@ -157,13 +141,16 @@ pub extern "C" fn kotuseraw_election_get_current_ballot(e: BallotLeaderElection)
 // The replies of the round before.
 #[unsafe(no_mangle)]
 pub extern "C" fn kotuseraw_election_get_ballots(e: BallotLeaderElection) -> ElectionBallots
-    ensures { result ≡ ballots_as (handed_out laid_replies (run get_ballots e)) }
+    ensures { result ≡ ballots_as (laid_by laid_replies (run get_ballots e).answer) }
 {
-    let ballots = ballot_leader_election::get_ballots(e);
-    let answer = ballots.answer;
-    let replies = ballots.replies;
-    ElectionBallots {
-        said: answer_said(answer),
-        replies,
+    match ballot_leader_election::get_ballots(e) {
+        Ok(replies) => ElectionBallots {
+            said: answers::tell(0, 0, 0),
+            replies,
+        },
+        Err(refusal) => ElectionBallots {
+            said: answers::refuse(refusal),
+            replies: forms::no_replies(),
+        },
     }
 }

@@ -21,7 +21,7 @@ pub extern "C" fn kotuseraw_ballot_cmp(a: Ballot, b: Ballot) -> u64
 pub extern "C" fn kotuseraw_ballot_eq(a: Ballot, b: Ballot) -> bool
     ensures { result ≡ same_ballot a b }
 {
-    a.eq(b)
+    a == b
 }
 
 // Whether a word may be what an entry says of its key: a place below 2^48, or removed.

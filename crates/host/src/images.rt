@@ -18,7 +18,7 @@ pub extern "C" fn kotuseraw_write_image(
     ensures { wrote result out.new
         ≡ wrote_as (write_call (raw index log.now snapshot.now) out.old) }
 {
-    answers::written_said(image::write(index, log, snapshot, out))
+    answers::said(image::write(index, log, snapshot, out))
 }
 
 // Reads an image into a log of this batch size, over whatever its words held. Tells the accepted index.
@@ -33,5 +33,8 @@ pub extern "C" fn kotuseraw_read_image(
         ≡ plainly a_number
         (read_call batch_size bytes.now log.old snapshot.old) }
 {
-    answers::accepted_reply(image::read(batch_size, bytes, log, snapshot))
+    answers::reply(
+        state_cache::inner::fresh_index(0),
+        image::read(batch_size, bytes, log, snapshot),
+    )
 }

@@ -14,15 +14,16 @@ ghost use Rattle.state_cache.specs.State.{raw};
 ghost use Rattle.state_cache.specs.Inner.{Ready};
 ghost use Rattle.state_cache.specs.Run.{run, of_numbers};
 ghost use Rattle.reading.specs.Many.{room_for, filled_out};
-ghost use Rattle.internal_storage.specs.Replies.{asked as askedSign, with_index_only};
+ghost use Rattle.internal_storage.specs.Replies.{with_index_only};
 ghost use Rattle.host.specs.Plain.{plain, left, plainly, nothing, a_number, a_flag, maybe_number, maybe_flushed};
 ghost use Rattle.host.specs.Plain.{a_word, a_span, wrote, filled_as};
 ghost use Rattle.host.specs.Requests.{end_at, of_flag, lent_said, what_of};
 ghost use Rattle.host.specs.Reads.{shown_as};
 
+use super::answers::Tells;
 use super::{PlainBound, Reply, Said, ShownSaid, answers, asked};
 use entry::{Ballot, BlockPlace, LogIndex, StopSign};
-use state_cache::{Flag, IndexAnswer, IndexRecord};
+use state_cache::IndexRecord;
 
 // A key's newest word among the retained entries below log-decided, else the snapshot's. Told 0: unknown; 1: its place,
 // first; 2: removed.
@@ -38,7 +39,7 @@ pub extern "C" fn kotuseraw_inner_lookup(
         ≡ plain a_word
         (run (query (lookupCall key)) true (raw index log.now snapshot.now)).answer }
 {
-    answers::found_said(reading::inner::look(index, log, snapshot, key))
+    reading::inner::look(index, log, snapshot, key).tell()
 }
 
 // What is known of each of some keys, as the call for one says it, to the front of `replies`.
@@ -57,7 +58,7 @@ pub extern "C" fn kotuseraw_inner_lookup_many(
         (run (query (lookup_many keys.now)) (room_for keys.now replies.old)
         (raw index log.now snapshot.now)).answer replies.old) }
 {
-    answers::settled_said(reading::inner::look_many(index, log, snapshot, keys, replies))
+    answers::said(reading::inner::look_many(index, log, snapshot, keys, replies))
 }
 
 // Reads a range of the log.
@@ -92,7 +93,7 @@ pub extern "C" fn kotuseraw_inner_read_decided_suffix(
         ≡ shown_as (run (query (read_decided from.0)) true
         (raw index log.now snapshot.now)).answer }
 {
-    answers::read_said(reading::inner::read_decided_suffix_reply(index, log, snapshot, from))
+    answers::read_said(Ok(reading::inner::read_decided_suffix_reply(index, log, snapshot, from)))
 }
 
 // The entries from one index up to another, an empty part where they are not all held.
@@ -109,7 +110,7 @@ pub extern "C" fn kotuseraw_inner_get_entries(
         ≡ plain a_span (run (query (get_entries from.0 to.0)) true
         (raw index log.now snapshot.now)).answer }
 {
-    answers::span_said(reading::inner::get_entries_reply(index, log, snapshot, from, to))
+    reading::inner::get_entries_reply(index, log, snapshot, from, to).tell()
 }
 
 // The same from an index to the end.
@@ -125,7 +126,7 @@ pub extern "C" fn kotuseraw_inner_get_suffix(
         ≡ plain a_span (run (query (get_suffix from.0)) true
         (raw index log.now snapshot.now)).answer }
 {
-    answers::span_said(reading::inner::get_suffix_reply(index, log, snapshot, from))
+    reading::inner::get_suffix_reply(index, log, snapshot, from).tell()
 }
 
 // The accepted index: the end, plus 1 if a stop-sign is held.
@@ -138,8 +139,7 @@ pub extern "C" fn kotuseraw_inner_get_accepted_idx(
     requires { Ready (raw index log.now snapshot.now) }
     ensures { result ≡ plain a_number (of_numbers accepted_of (raw index log.now snapshot.now)) }
 {
-    let last = state_cache::inner::accepted(index);
-    answers::accepted_said(IndexAnswer::At(LogIndex(last)))
+    LogIndex(state_cache::inner::accepted(index)).tell()
 }
 
 // Log-decided: the decided index, a decided stop-sign not counted.
@@ -152,8 +152,7 @@ pub extern "C" fn kotuseraw_inner_get_decided_idx_without_stopsign(
     requires { Ready (raw index log.now snapshot.now) }
     ensures { result ≡ plain a_number (of_numbers log_decided (raw index log.now snapshot.now)) }
 {
-    let decided = state_cache::inner::log_decided(index);
-    answers::accepted_said(IndexAnswer::At(LogIndex(decided)))
+    LogIndex(state_cache::inner::log_decided(index)).tell()
 }
 
 // Whether a stop-sign is held and decided.
@@ -166,8 +165,7 @@ pub extern "C" fn kotuseraw_inner_stopsign_is_decided(
     requires { Ready (raw index log.now snapshot.now) }
     ensures { result ≡ plain a_flag (of_numbers stop_decided (raw index log.now snapshot.now)) }
 {
-    let decided = state_cache::inner::stop_decided(index);
-    answers::flag_said(Flag::Is(decided))
+    state_cache::inner::stop_decided(index).tell()
 }
 
 // Adds an entry to the batch, as the call for several does. Where `removed` is set the place is not looked at.
@@ -187,9 +185,12 @@ pub extern "C" fn kotuseraw_inner_append_entry_with_batching(
         (raw index log.old snapshot.now)) }
 {
     let entry = asked::entry_said(removed, place);
-    answers::appended_reply(internal_storage::inner::append::append_entry_with_batching(
-        index, log, snapshot, key, entry,
-    ))
+    answers::reply(
+        index,
+        internal_storage::inner::append::append_entry_with_batching(
+            index, log, snapshot, key, entry,
+        ),
+    )
 }
 
 // Adds entries to the batch; once it has as many as the batch size, or more, all of it flushes.
@@ -205,7 +206,8 @@ pub extern "C" fn kotuseraw_inner_append_entries_with_batching(
         ≡ plainly maybe_flushed (run (append (entries_in entries.now)) (whole_in entries.now)
         (raw index log.old snapshot.now)) }
 {
-    answers::appended_reply(
+    answers::reply(
+        index,
         internal_storage::inner::append::append_entries_with_batching(
             index, log, snapshot, entries,
         ),
@@ -226,7 +228,8 @@ pub extern "C" fn kotuseraw_inner_append_entries_and_get_accepted_idx(
         (with_index_only (run (append (entries_in entries.now)) (whole_in entries.now)
         (raw index log.old snapshot.now))) }
 {
-    answers::accepted_idx_reply(
+    answers::reply(
+        index,
         internal_storage::inner::append::append_entries_and_get_accepted_idx(
             index, log, snapshot, entries,
         ),
@@ -247,7 +250,8 @@ pub extern "C" fn kotuseraw_inner_append_entries_without_batching(
         (run (append_now (entries_in entries.now)) (whole_in entries.now)
         (raw index log.old snapshot.now)) }
 {
-    answers::accepted_reply(
+    answers::reply(
+        index,
         internal_storage::inner::append::append_entries_without_batching(
             index, log, snapshot, entries,
         ),
@@ -265,7 +269,10 @@ pub extern "C" fn kotuseraw_inner_flush_batch(
     ensures { left result.said (raw result.index log.now snapshot.now)
         ≡ plainly a_number (run flush true (raw index log.now snapshot.now)) }
 {
-    answers::accepted_reply(internal_storage::inner::flush::flush_batch(index, log, snapshot))
+    answers::reply(
+        index,
+        internal_storage::inner::flush::flush_batch(index, log, snapshot),
+    )
 }
 
 // Flushes the batch, and tells the accepted index and how many entries it had, or nothing where it was empty.
@@ -279,9 +286,10 @@ pub extern "C" fn kotuseraw_inner_flush_batch_and_get_entries(
     ensures { left result.said (raw result.index log.now snapshot.now)
         ≡ plainly maybe_flushed (run flush_entries true (raw index log.now snapshot.now)) }
 {
-    answers::appended_reply(internal_storage::inner::flush::flush_batch_and_get_entries(
-        index, log, snapshot,
-    ))
+    answers::reply(
+        index,
+        internal_storage::inner::flush::flush_batch_and_get_entries(index, log, snapshot),
+    )
 }
 
 // Flushes the batch and appends a stop-sign. Tells what was flushed, the stop-sign not counted.
@@ -296,9 +304,10 @@ pub extern "C" fn kotuseraw_inner_append_stopsign(
     ensures { left result.said (raw result.index log.now snapshot.now)
         ≡ plainly maybe_flushed (run (append_stop ss) true (raw index log.now snapshot.now)) }
 {
-    answers::appended_reply(internal_storage::inner::stop::append_stopsign(
-        index, log, snapshot, ss,
-    ))
+    answers::reply(
+        index,
+        internal_storage::inner::stop::append_stopsign(index, log, snapshot, ss),
+    )
 }
 
 // Sets the stop-sign. Where `held` is not set it is taken away, and `ss` is not looked at.
@@ -313,11 +322,12 @@ pub extern "C" fn kotuseraw_inner_set_stopsign(
     requires { Ready (raw index log.now snapshot.now) }
     ensures { left result.said (raw result.index log.now snapshot.now)
         ≡ plainly a_number
-        (run (set_stop (askedSign held ss)) true (raw index log.now snapshot.now)) }
+        (run (set_stop (of_flag held ss)) true (raw index log.now snapshot.now)) }
 {
-    answers::accepted_reply(internal_storage::inner::stop::set_stopsign(
-        index, log, snapshot, held, ss,
-    ))
+    answers::reply(
+        index,
+        internal_storage::inner::stop::set_stopsign(index, log, snapshot, held.then_some(ss)),
+    )
 }
 
 // Sets the promised ballot.
@@ -332,9 +342,10 @@ pub extern "C" fn kotuseraw_inner_set_promise(
     ensures { left result.said (raw result.index log.now snapshot.now)
         ≡ plainly nothing (run (set_promise n_prom) true (raw index log.now snapshot.now)) }
 {
-    answers::settled_reply(internal_storage::inner::decide::set_promise(
-        index, log, snapshot, n_prom,
-    ))
+    answers::settled(
+        index,
+        internal_storage::inner::decide::set_promise(index, log, snapshot, n_prom),
+    )
 }
 
 // Moves the decided index.
@@ -349,9 +360,10 @@ pub extern "C" fn kotuseraw_inner_set_decided_idx(
     ensures { left result.said (raw result.index log.now snapshot.now)
         ≡ plainly nothing (run (decide idx.0) true (raw index log.now snapshot.now)) }
 {
-    answers::settled_reply(internal_storage::inner::decide::set_decided_idx(
-        index, log, snapshot, idx,
-    ))
+    answers::settled(
+        index,
+        internal_storage::inner::decide::set_decided_idx(index, log, snapshot, idx),
+    )
 }
 
 // Compacts the entries below an index, or all that is log-decided.
@@ -371,6 +383,8 @@ pub extern "C" fn kotuseraw_inner_compact(
         (raw index log.old snapshot.old)) }
 {
     let what = asked::what(folds);
-    let upto = asked::upto(given, idx);
-    answers::settled_reply(compaction::inner::compact_at(index, log, snapshot, what, upto))
+    answers::settled(
+        index,
+        compaction::inner::compact_at(index, log, snapshot, what, given.then_some(idx)),
+    )
 }

@@ -29,7 +29,10 @@ pub extern "C" fn kotuseraw_write_list(
         (raw index log.old snapshot.old)) }
 {
     let list = asked::list_of(ops);
-    answers::settled_reply(backend::write_list(index, log, snapshot, entries, incoming, lent, list))
+    answers::settled(
+        index,
+        backend::write_list(index, log, snapshot, entries, incoming, lent, list),
+    )
 }
 
 // `backend::write_atomically`, of the same list as a slice.
@@ -51,7 +54,8 @@ pub extern "C" fn kotuseraw_write_atomically(
 {
     let n = asked::counted_in(ops);
     let nine = asked::nine_of(ops);
-    answers::settled_reply(walked::inner::write_atomically(
-        index, log, snapshot, entries, incoming, lent, nine, n,
-    ))
+    answers::settled(
+        index,
+        walked::inner::write_atomically(index, log, snapshot, entries, incoming, lent, nine, n),
+    )
 }

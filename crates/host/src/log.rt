@@ -1,11 +1,12 @@
 // The calls that change a log: appends, flushes, the stop-sign, marks, compaction and sync. Names are the library's.
 ghost use Rattle.std.specs.Prelude.{◌≡◌, true, [], ◌∷◌};
+ghost use Rattle.std.specs.Bool.{then_some};
 ghost use Rattle.entry.specs.Change.{entries_in, whole_in};
 ghost use Rattle.model.specs.Calls.{append, append_now, flush, flush_entries, append_stop, set_stop, set_promise, decide};
 ghost use Rattle.model.specs.Calls.{compact, sync as syncCall};
 ghost use Rattle.state_cache.specs.State.{raw};
 ghost use Rattle.state_cache.specs.Run.{run};
-ghost use Rattle.internal_storage.specs.Replies.{asked as askedSign, with_index_only};
+ghost use Rattle.internal_storage.specs.Replies.{with_index_only};
 ghost use Rattle.sync.specs.Requests.{part_of, lent_whole};
 ghost use Rattle.host.specs.Plain.{nothing, a_number, maybe_number, maybe_flushed, left, plainly};
 ghost use Rattle.host.specs.Requests.{of_flag, lent_said, what_of, sync_at};
@@ -30,9 +31,10 @@ pub extern "C" fn kotuseraw_append_entry_with_batching(
         (raw index log.old snapshot.now)) }
 {
     let entry = asked::entry_said(removed, place);
-    answers::appended_reply(internal_storage::append_entry_with_batching(
-        index, log, snapshot, key, entry,
-    ))
+    answers::reply(
+        index,
+        internal_storage::append_entry_with_batching(index, log, snapshot, key, entry),
+    )
 }
 
 // Adds entries to the batch; once it has as many as the batch size, or more, all of it flushes.
@@ -47,9 +49,10 @@ pub extern "C" fn kotuseraw_append_entries_with_batching(
         ≡ plainly maybe_flushed (run (append (entries_in entries.now)) (whole_in entries.now)
         (raw index log.old snapshot.now)) }
 {
-    answers::appended_reply(internal_storage::append_entries_with_batching(
-        index, log, snapshot, entries,
-    ))
+    answers::reply(
+        index,
+        internal_storage::append_entries_with_batching(index, log, snapshot, entries),
+    )
 }
 
 // The same, and of a flush it tells the accepted index alone.
@@ -65,9 +68,10 @@ pub extern "C" fn kotuseraw_append_entries_and_get_accepted_idx(
         (with_index_only (run (append (entries_in entries.now)) (whole_in entries.now)
         (raw index log.old snapshot.now))) }
 {
-    answers::accepted_idx_reply(internal_storage::append_entries_and_get_accepted_idx(
-        index, log, snapshot, entries,
-    ))
+    answers::reply(
+        index,
+        internal_storage::append_entries_and_get_accepted_idx(index, log, snapshot, entries),
+    )
 }
 
 // Adds entries at the end of the log, before the batch, and tells the accepted index.
@@ -83,9 +87,10 @@ pub extern "C" fn kotuseraw_append_entries_without_batching(
         (run (append_now (entries_in entries.now)) (whole_in entries.now)
         (raw index log.old snapshot.now)) }
 {
-    answers::accepted_reply(internal_storage::append_entries_without_batching(
-        index, log, snapshot, entries,
-    ))
+    answers::reply(
+        index,
+        internal_storage::append_entries_without_batching(index, log, snapshot, entries),
+    )
 }
 
 // Flushes the batch, and tells the accepted index.
@@ -94,7 +99,7 @@ pub extern "C" fn kotuseraw_flush_batch(index: IndexRecord, log: &[u64], snapsho
     ensures { left result.said (raw result.index log.now snapshot.now)
         ≡ plainly a_number (run flush true (raw index log.now snapshot.now)) }
 {
-    answers::accepted_reply(internal_storage::flush_batch(index, log, snapshot))
+    answers::reply(index, internal_storage::flush_batch(index, log, snapshot))
 }
 
 // Flushes the batch, and tells the accepted index and how many entries it had, or nothing where it was empty.
@@ -107,7 +112,10 @@ pub extern "C" fn kotuseraw_flush_batch_and_get_entries(
     ensures { left result.said (raw result.index log.now snapshot.now)
         ≡ plainly maybe_flushed (run flush_entries true (raw index log.now snapshot.now)) }
 {
-    answers::appended_reply(internal_storage::flush_batch_and_get_entries(index, log, snapshot))
+    answers::reply(
+        index,
+        internal_storage::flush_batch_and_get_entries(index, log, snapshot),
+    )
 }
 
 // Flushes the batch and appends a stop-sign. Tells what was flushed, the stop-sign not counted.
@@ -121,7 +129,10 @@ pub extern "C" fn kotuseraw_append_stopsign(
     ensures { left result.said (raw result.index log.now snapshot.now)
         ≡ plainly maybe_flushed (run (append_stop ss) true (raw index log.now snapshot.now)) }
 {
-    answers::appended_reply(internal_storage::append_stopsign(index, log, snapshot, ss))
+    answers::reply(
+        index,
+        internal_storage::append_stopsign(index, log, snapshot, ss),
+    )
 }
 
 // Sets the stop-sign. Where `held` is not set it is taken away, and `ss` is not looked at.
@@ -135,9 +146,12 @@ pub extern "C" fn kotuseraw_set_stopsign(
 ) -> Reply
     ensures { left result.said (raw result.index log.now snapshot.now)
         ≡ plainly a_number
-        (run (set_stop (askedSign held ss)) true (raw index log.now snapshot.now)) }
+        (run (set_stop (of_flag held ss)) true (raw index log.now snapshot.now)) }
 {
-    answers::accepted_reply(internal_storage::set_stopsign(index, log, snapshot, held, ss))
+    answers::reply(
+        index,
+        internal_storage::set_stopsign(index, log, snapshot, held.then_some(ss)),
+    )
 }
 
 // Sets the promised ballot.
@@ -151,7 +165,10 @@ pub extern "C" fn kotuseraw_set_promise(
     ensures { left result.said (raw result.index log.now snapshot.now)
         ≡ plainly nothing (run (set_promise n_prom) true (raw index log.now snapshot.now)) }
 {
-    answers::settled_reply(internal_storage::set_promise(index, log, snapshot, n_prom))
+    answers::settled(
+        index,
+        internal_storage::set_promise(index, log, snapshot, n_prom),
+    )
 }
 
 // Moves the decided index.
@@ -165,7 +182,10 @@ pub extern "C" fn kotuseraw_set_decided_idx(
     ensures { left result.said (raw result.index log.now snapshot.now)
         ≡ plainly nothing (run (decide idx.0) true (raw index log.now snapshot.now)) }
 {
-    answers::settled_reply(internal_storage::set_decided_idx(index, log, snapshot, idx))
+    answers::settled(
+        index,
+        internal_storage::set_decided_idx(index, log, snapshot, idx),
+    )
 }
 
 // Compacts the entries below an index: a snapshot where `folds` is set, which folds them onto the held one; else a
@@ -186,8 +206,10 @@ pub extern "C" fn kotuseraw_compact(
         (raw index log.old snapshot.old)) }
 {
     let what = asked::what(folds);
-    let upto = asked::upto(given, idx);
-    answers::settled_reply(compaction::compact(index, log, snapshot, what, upto))
+    answers::settled(
+        index,
+        compaction::compact(index, log, snapshot, what, given.then_some(idx)),
+    )
 }
 
 // Takes over a leader's round and decided index, and its log part. Where `held` is not set there is no log part, and of
@@ -208,20 +230,22 @@ pub extern "C" fn kotuseraw_sync_log(
         ≡ plainly a_number
         (run
         (syncCall accepted_round decided_idx.0
-        (part_of held (sync_at log_sync) incoming.now suffix.now))
-        (lent_whole held (sync_at log_sync) incoming.now suffix.now)
+        (part_of (then_some held (sync_at log_sync)) incoming.now suffix.now))
+        (lent_whole (then_some held (sync_at log_sync)) incoming.now suffix.now)
         (raw index log.old snapshot.old)) }
 {
     let part = asked::sync_of(log_sync);
-    answers::accepted_reply(sync::sync_log(
+    answers::reply(
         index,
-        log,
-        snapshot,
-        accepted_round,
-        decided_idx,
-        held,
-        part,
-        incoming,
-        suffix,
-    ))
+        sync::sync_log(
+            index,
+            log,
+            snapshot,
+            accepted_round,
+            decided_idx,
+            held.then_some(part),
+            incoming,
+            suffix,
+        ),
+    )
 }

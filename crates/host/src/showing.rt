@@ -14,9 +14,10 @@ ghost use Rattle.host.specs.Plain.{plain, a_word, a_span, wrote, filled_as};
 ghost use Rattle.host.specs.Requests.{end_at};
 ghost use Rattle.host.specs.Reads.{shown_as, shown_by, copied, copied_out};
 
+use super::answers::Tells;
 use super::{PlainBound, Said, ShownSaid, answers, asked};
-use entry::LogIndex;
-use reading::{Marker, ReadReply, ShownRun};
+use entry::{LogIndex, Refusal};
+use reading::ShownRun;
 use state_cache::IndexRecord;
 
 // A key's newest word among the retained entries below log-decided, else the snapshot's. Told 0: unknown; 1: its place,
@@ -32,7 +33,7 @@ pub extern "C" fn kotuseraw_lookup(
         ≡ plain a_word
         (run (query (lookupCall key)) true (raw index log.now snapshot.now)).answer }
 {
-    answers::found_said(reading::lookup(index, log, snapshot, key))
+    answers::said(reading::lookup(index, log, snapshot, key))
 }
 
 // What is known of each of some keys, as the call for one says it, to the front of `replies`. `kotuseraw_reply_at`
@@ -51,7 +52,7 @@ pub extern "C" fn kotuseraw_lookup_many(
         (run (query (lookup_many keys.now)) (room_for keys.now replies.old)
         (raw index log.now snapshot.now)).answer replies.old) }
 {
-    answers::settled_said(reading::lookup_many(index, log, snapshot, keys, replies))
+    answers::said(reading::lookup_many(index, log, snapshot, keys, replies))
 }
 
 // The i-th of the replies that some words are, unknown where there are not so many. Told 0: unknown; 1: a place, first;
@@ -60,7 +61,7 @@ pub extern "C" fn kotuseraw_lookup_many(
 pub extern "C" fn kotuseraw_reply_at(replies: &[u64], i: usize) -> Said
     ensures { result ≡ a_word (reply_at replies.now i) }
 {
-    answers::known_said(entry::reply_at(replies, i))
+    entry::reply_at(replies, i).tell()
 }
 
 // Reads a range of the log.
@@ -109,7 +110,7 @@ pub extern "C" fn kotuseraw_get_entries(
         ≡ plain a_span (run (query (get_entries from.0 to.0)) true
         (raw index log.now snapshot.now)).answer }
 {
-    answers::span_said(reading::get_entries_reply(index, log, snapshot, from, to))
+    answers::said(reading::get_entries_reply(index, log, snapshot, from, to))
 }
 
 // The same from an index to the end.
@@ -124,7 +125,7 @@ pub extern "C" fn kotuseraw_get_suffix(
         ≡ plain a_span (run (query (get_suffix from.0)) true
         (raw index log.now snapshot.now)).answer }
 {
-    answers::span_said(reading::get_suffix_reply(index, log, snapshot, from))
+    answers::said(reading::get_suffix_reply(index, log, snapshot, from))
 }
 
 // Copies a part to the front of out, where it fits, and says how many words it has.
@@ -151,21 +152,21 @@ pub extern "C" fn kotuseraw_entries_of(
 }
 
 // The reply that a read's answer stands for, as far as it shows entries.
-fn reply_of(shown: ShownSaid) -> ReadReply
+fn reply_of(shown: ShownSaid) -> Result<Option<ShownRun>, Refusal>
     ensures { (x : Raw) (log : List ℕ) → part_shown (read_said x result) log ≡ shown_by shown log }
 {
     if shown.told == 1 {
         let run = ShownRun {
-            marker: Marker::None,
+            marker: None,
             first: shown.first,
             count: shown.count,
             decided: shown.decided,
             stop: shown.stop,
             stop_decided: shown.stop_decided,
         };
-        return ReadReply::Run(run);
+        return Ok(Some(run));
     }
-    ReadReply::Nothing
+    Ok(None)
 }
 
 // The entries that a read's answer shows.

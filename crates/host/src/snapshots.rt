@@ -17,7 +17,7 @@ use state_cache::IndexRecord;
 pub extern "C" fn kotuseraw_fold(entries: &[u64], out: &mut [u64]) -> Said
     ensures { wrote result out.new ≡ wrote_as (fold_call entries.now out.old) }
 {
-    answers::folded_said(snapshot::fold(entries, out))
+    answers::said(snapshot::fold(entries, out))
 }
 
 // Merges two snapshots: the second's word wins. Tells the number of keys.
@@ -26,7 +26,7 @@ pub extern "C" fn kotuseraw_merge(a: &[u64], n: usize, b: &[u64], m: usize, out:
     ensures { wrote result out.new
         ≡ wrote_as (merge_call a.now n b.now m out.old) }
 {
-    answers::folded_said(snapshot::merge(a, n, b, m, out))
+    answers::said(snapshot::merge(a, n, b, m, out))
 }
 
 // A key in a snapshot. Told 0: unknown; 1: its place, first; 2: removed.
@@ -34,7 +34,7 @@ pub extern "C" fn kotuseraw_merge(a: &[u64], n: usize, b: &[u64], m: usize, out:
 pub extern "C" fn kotuseraw_find(s: &[u64], keys: usize, key: u64) -> Said
     ensures { result ≡ plain a_word (find_call s.now keys key) }
 {
-    answers::found_said(snapshot::find(s, keys, key))
+    answers::said(snapshot::find(s, keys, key))
 }
 
 // Writes out the fold of all changes below an index, and tells how many keys it has.
@@ -52,7 +52,7 @@ pub extern "C" fn kotuseraw_create_snapshot(
         (run (query (create idx.0)) (eqb (length out.old) snapshot_words)
         (raw index log.now snapshot.now)).answer out.old) }
 {
-    answers::folded_said(compaction::create_snapshot(index, log, snapshot, idx, out))
+    answers::said(compaction::create_snapshot(index, log, snapshot, idx, out))
 }
 
 // Told 1: nothing; 2: a complete snapshot; 3: a delta. First its keys, second log-decided.
@@ -73,5 +73,5 @@ pub extern "C" fn kotuseraw_create_diff_snapshot(
         (run (query (diffCall from.0)) (eqb (length out.old) snapshot_words)
         (raw index log.now snapshot.now)).answer out.old }
 {
-    answers::diff_said(diff::create_diff_snapshot(index, log, snapshot, from, out))
+    answers::said(diff::create_diff_snapshot(index, log, snapshot, from, out))
 }

@@ -7,7 +7,7 @@ ghost use Rattle.state_cache.specs.Run.{run};
 ghost use Rattle.host.specs.Plain.{nothing, left, plainly};
 ghost use Rattle.host.specs.Requests.{of_flag};
 
-use super::{Said, answers, asked};
+use super::{Said, answers};
 use entry::LogIndex;
 use state_cache::IndexRecord;
 
@@ -23,8 +23,7 @@ pub extern "C" fn kotuseraw_in_place_set_decided_idx(
         ≡ plainly nothing
         (run (decide idx.0) true (raw held.old log.now snapshot.now)) }
 {
-    let answer = in_place::set_decided_idx(held, log, snapshot, idx);
-    answers::settled_said(answer)
+    answers::said(in_place::set_decided_idx(held, log, snapshot, idx))
 }
 
 // Drops the entries below an index, or all that is log-decided where none is given, and the held snapshot.
@@ -41,7 +40,5 @@ pub extern "C" fn kotuseraw_in_place_trim(
         (run (compact Trim (of_flag given idx.0)) true
         (raw held.old log.old snapshot.old)) }
 {
-    let upto = asked::upto(given, idx);
-    let answer = in_place::trim(held, log, snapshot, upto);
-    answers::settled_said(answer)
+    answers::said(in_place::trim(held, log, snapshot, given.then_some(idx)))
 }

@@ -23,7 +23,10 @@ pub extern "C" fn kotuseraw_fresh(batch_size: u64, log: &mut [u64], snapshot: &m
     ensures { left result.said (raw result.index log.new snapshot.new)
         ≡ plainly nothing (fresh_call batch_size log.old snapshot.old) }
 {
-    answers::settled_reply(state_cache::fresh(batch_size, log, snapshot))
+    answers::settled(
+        state_cache::inner::fresh_index(0),
+        state_cache::fresh(batch_size, log, snapshot),
+    )
 }
 
 // Reload: the batch is dropped and its words become zero, the rest stays. Tells the accepted index.
@@ -36,7 +39,7 @@ pub extern "C" fn kotuseraw_load_cache(
     ensures { left result.said (raw result.index log.new snapshot.now)
         ≡ plainly a_number (run reload true (raw index log.old snapshot.now)) }
 {
-    answers::accepted_reply(state_cache::load_cache(index, log, snapshot))
+    answers::reply(index, state_cache::load_cache(index, log, snapshot))
 }
 
 // The accepted index: the end, plus 1 if a stop-sign is held.
@@ -48,7 +51,7 @@ pub extern "C" fn kotuseraw_get_accepted_idx(
 ) -> Said
     ensures { result ≡ plain a_number (of_numbers accepted_of (raw index log.now snapshot.now)) }
 {
-    answers::accepted_said(state_cache::get_accepted_idx(index, log, snapshot))
+    answers::said(state_cache::get_accepted_idx(index, log, snapshot))
 }
 
 // Log-decided: the decided index, a decided stop-sign not counted.
@@ -60,7 +63,7 @@ pub extern "C" fn kotuseraw_get_decided_idx_without_stopsign(
 ) -> Said
     ensures { result ≡ plain a_number (of_numbers log_decided (raw index log.now snapshot.now)) }
 {
-    answers::accepted_said(state_cache::get_decided_idx_without_stopsign(index, log, snapshot))
+    answers::said(state_cache::get_decided_idx_without_stopsign(index, log, snapshot))
 }
 
 // Whether a stop-sign is held and decided.
@@ -72,5 +75,5 @@ pub extern "C" fn kotuseraw_stopsign_is_decided(
 ) -> Said
     ensures { result ≡ plain a_flag (of_numbers stop_decided (raw index log.now snapshot.now)) }
 {
-    answers::flag_said(state_cache::stopsign_is_decided(index, log, snapshot))
+    answers::said(state_cache::stopsign_is_decided(index, log, snapshot))
 }

@@ -1,8 +1,11 @@
 -- What the code for a key's or an entry's record does.
-use Rattle.words.proofs.Prelude.{arith, ◌≡◌, refl, sym, ap, ap₂, ◌∙◌, ℕ, suc, ◌+◌, ◌≤◌, Bool, true, false, and-true}
-use Rattle.words.proofs.Prelude.{◌&&◌, ◌||◌, eqb, ltb, leb, le-leb, leb-true, if◌then◌else◌, List, length-drop, length}
+use Rattle.words.proofs.Prelude.{arith, ◌≡◌, refl, sym, ap, ap₂, ◌∙◌, ℕ, ◌+◌, ◌≤◌, Bool, true, false, and-true}
+use Rattle.words.proofs.Prelude.{◌&&◌, eqb, leb, leb-true, List, length-drop, length}
 use Rattle.words.proofs.Prelude.{take, drop, replicate, get_or}
 use lib.Seq.{drop-drop}
+use Rattle.std.specs.Prelude.{Option, Some, None}
+use Rattle.std.specs.Bool.{then_some}
+use Rattle.std.proofs.lemmas.Option.{none-some, same_Some}
 use Rattle.words.specs.All.{all_of}
 use Rattle.words.specs.Coded.{entries_at}
 use Rattle.words.proofs.Tests.{and_left}
@@ -10,11 +13,20 @@ use Rattle.records.specs.Big.{value}
 use Rattle.records.specs.Sealed.{total, numbers, unpacked, sum_holds, is_sealed}
 use Rattle.entry.specs.Limits.{width}
 use Rattle.entry.specs.Change.{Change, change_formed, entries_formed, entries_of}
-use Rattle.image.specs.Layout.{key_mark, entry_mark, change_widths, change_size}
-use Rattle.image.specs.Reading.{change_from, sound_at}
-use Rattle.image.specs.Inner.{floor_of, size_at, Steps, change_sound}
-use Rattle.image.specs.declared.Want.TheVariants.{Key, Entry}
+use Rattle.image.specs.Layout.{key_mark, entry_mark, change_widths, change_size, rec_bytes}
+use Rattle.image.specs.Reading.{change_from, rec_at, sound_at}
+use Rattle.image.specs.Inner.{floor_of, above_after, size_at, step_at, change_sound, key_at}
+use Rattle.image.specs.declared.Want.{Want}
+use Rattle.image.specs.declared.Want.TheVariants.{Key, Entry, Stop}
 use Rattle.image.proofs.Puts.{change_long}
+
+unsaid : {A : Type 0} (t : Bool) (x : A) → None ≡ then_some t x → t ≡ false
+unsaid true x e = absurd (none-some x e)
+unsaid false x e = refl
+
+said : {A : Type 0} (t : Bool) (x k : A) → Some k ≡ then_some t x → (t ≡ true) × (k ≡ x)
+said true x k e = (refl, same_Some k x e)
+said false x k e = absurd (none-some k (sym e))
 
 module _ (s : List ℕ) (at : ℕ) where
   abbrev bs : List ℕ
@@ -31,42 +43,50 @@ module _ (s : List ℕ) (at : ℕ) where
   unfolding is_sealed total
   sealed_room h e = omega (arith, h, length-drop at s, leb-true change_size (length bs) (and_left _ _ e))
 
-  pub change_absent : (mark : ℕ) → is_sealed change_widths bs ≡ false → false ≡ change_sound mark bs
-  change_absent mark e = sym (ap (λ (t : Bool). t && (eqb (value (take 2 bs)) mark && change_formed here)) e)
+  pub change_absent : (mark : ℕ) → is_sealed change_widths bs ≡ false → None ≡ key_at mark bs
+  unfolding key_at
+  change_absent mark e =
+      sym (ap (λ (t : Bool). then_some (t && (eqb (value (take 2 bs)) mark && change_formed here)) here.key) e)
 
   module _ (ws : List ℕ) (got : ws ≡ numbers (unpacked (replicate width 8) (drop (at + 2) s))) where
     again : ws ≡ numbers (unpacked (replicate width 8) (drop 2 bs))
     again = got ∙ ap (λ (l : List ℕ). numbers (unpacked (replicate width 8) l)) (sym (drop-drop 2 at s))
 
-    pub change_key : get_or ws 0 0 ≡ here.key
+    change_key : get_or ws 0 0 ≡ here.key
     unfolding unpacked
     change_key = ap (λ (l : List ℕ). get_or l 0 0) again
 
     pub change_present : (mark m : ℕ) (fine : Bool) → is_sealed change_widths bs ≡ true → m ≡ value (take 2 bs)
-        → fine ≡ entries_formed (entries_of 1 ws) → (eqb m mark && fine) ≡ change_sound mark bs
-    unfolding unpacked entries_at all_of
+        → fine ≡ entries_formed (entries_of 1 ws) → then_some (eqb m mark && fine) (get_or ws 0 0) ≡ key_at mark bs
+    unfolding key_at unpacked entries_at all_of
     change_present mark m fine e p q =
-        ap₂ (λ (x : ℕ) (t : Bool). eqb x mark && t) p
+        ap (λ (k : ℕ). then_some (eqb m mark && fine) k) change_key
+        ∙ ap₂ (λ (x : ℕ) (t : Bool). then_some (eqb x mark && t) here.key) p
         (q ∙ ap (λ (l : List ℕ). entries_formed (entries_of 1 l)) again ∙ and-true (change_formed here))
-        ∙ sym (ap (λ (t : Bool). t && (eqb (value (take 2 bs)) mark && change_formed here)) e)
+        ∙ sym (ap (λ (t : Bool). then_some (t && (eqb (value (take 2 bs)) mark && change_formed here)) here.key) e)
 
-  -- ---- a record's step
+  -- ---- a record's step: none where there is none, or where the key is not above the one before
 
-  size_of : (f : ℕ) (t : Bool) → sound_at f Entry bs ≡ t → (if t then change_size else 0) ≡ size_at f Entry bs
-  unfolding size_at
-  size_of f t e = ap₂ (λ (u : Bool) (n : ℕ). if u then n else 0) (sym e) (sym (change_long entry_mark here))
+  step : (above : Option ℕ) (w : Want) (t : Bool) → t ≡ sound_at (floor_of above) w bs
+      → length (rec_bytes (rec_at w bs)) ≡ change_size
+      → then_some t (record { size = change_size; above = above_after above (rec_at w bs) }) ≡ step_at above w bs
+  unfolding step_at
+  step above w t e l =
+      ap₂ (λ (u : Bool) (n : ℕ). then_some u (record { size = n; above = above_after above (rec_at w bs) })) e (sym l)
 
-  pub entry_steps : (any : Bool) (before : ℕ) (sound : Bool) → sound ≡ change_sound entry_mark bs
-      → Steps (floor_of any before) Entry bs (if sound then change_size else 0) (floor_of any before)
+  entry_step : (above : Option ℕ) (t : Bool) → t ≡ change_sound entry_mark bs
+      → then_some t (record { size = change_size; above = above }) ≡ step_at above Entry bs
   unfolding sound_at
-  entry_steps any before sound e = record {
-    long = size_of (floor_of any before) sound (sym e);
-    floor = λ q. refl;
-  }
+  entry_step above t e = step above Entry t e (change_long entry_mark here)
 
-  above : (any : Bool) (before key : ℕ) → (any || ltb before key) ≡ leb (floor_of any before) key
-  above true before key = sym (le-leb 0 key (omega arith))
-  above false before key = refl
+  pub entry_absent : (above : Option ℕ) → None ≡ key_at entry_mark bs → None ≡ step_at above Entry bs
+  unfolding key_at
+  entry_absent above e = entry_step above false (sym (unsaid _ _ e))
+
+  pub entry_present : (above : Option ℕ) (k : ℕ) → Some k ≡ key_at entry_mark bs
+      → Some (record { size = change_size; above = above }) ≡ step_at above Entry bs
+  unfolding key_at
+  entry_present above k e = entry_step above true (sym (said _ _ k e).0)
 
   in_order : (a b c d : Bool) → ((a && (b && d)) && c) ≡ (a && (b && (c && d)))
   in_order true true true true = refl
@@ -76,30 +96,39 @@ module _ (s : List ℕ) (at : ℕ) where
   in_order true false c d = refl
   in_order false b c d = refl
 
-  key_test : (any : Bool) (before k : ℕ) (sound : Bool) → sound ≡ change_sound key_mark bs
-      → (sound ≡ true → k ≡ here.key)
-      → (sound && (any || ltb before k)) ≡ sound_at (floor_of any before) Key bs
+  key_step : (above : Option ℕ) (t : Bool) → t ≡ (change_sound key_mark bs && leb (floor_of above) here.key)
+      → then_some t (record { size = change_size; above = Some here.key }) ≡ step_at above Key bs
   unfolding sound_at
-  key_test any before k sound e q =
-      go sound refl
-      ∙ ap (λ (t : Bool). t && leb (floor_of any before) here.key) e
-      ∙ in_order (is_sealed change_widths bs) (eqb (value (take 2 bs)) key_mark) (leb (floor_of any before) here.key)
-      (change_formed here)
-    where
-      go : (t : Bool) → sound ≡ t → (sound && (any || ltb before k)) ≡ (sound && leb (floor_of any before) here.key)
-      go true p =
-          ap (λ (n : ℕ). sound && (any || ltb before n)) (q p)
-          ∙ ap (λ (t : Bool). sound && t) (above any before here.key)
-      go false p = rw p
+  key_step above t e =
+      step above Key t
+      (e ∙ in_order (is_sealed change_widths bs) (eqb (value (take 2 bs)) key_mark) (leb (floor_of above) here.key)
+      (change_formed here)) (change_long key_mark here)
 
-  size_key : (f : ℕ) (t : Bool) → t ≡ sound_at f Key bs → (if t then change_size else 0) ≡ size_at f Key bs
-  unfolding size_at
-  size_key f t e = ap₂ (λ (u : Bool) (n : ℕ). if u then n else 0) e (sym (change_long key_mark here))
+  pub key_absent : (above : Option ℕ) → None ≡ key_at key_mark bs → None ≡ step_at above Key bs
+  unfolding key_at
+  key_absent above e =
+      key_step above false (sym (ap (λ (t : Bool). t && leb (floor_of above) here.key) (unsaid _ _ e)))
 
-  pub key_steps : (any : Bool) (before k : ℕ) (sound : Bool) → sound ≡ change_sound key_mark bs
-      → (sound ≡ true → k ≡ here.key)
-      → Steps (floor_of any before) Key bs (if sound && (any || ltb before k) then change_size else 0) (floor_of false k)
-  key_steps any before k sound e q = record {
-    long = size_key (floor_of any before) (sound && (any || ltb before k)) (key_test any before k sound e q);
-    floor = λ p. ap suc (q (and_left sound _ (key_test any before k sound e q ∙ p)));
-  }
+  pub key_present : (above : Option ℕ) (k : ℕ) (t : Bool) → Some k ≡ key_at key_mark bs → t ≡ leb (floor_of above) k
+      → then_some t (record { size = change_size; above = Some k }) ≡ step_at above Key bs
+  unfolding key_at
+  key_present above k t e q =
+      let p = said _ _ k e in
+      ap (λ (j : ℕ). then_some t (record { size = change_size; above = Some j })) p.1
+      ∙ key_step above t
+      (q ∙ ap (leb (floor_of above)) p.1 ∙ sym (ap (λ (u : Bool). u && leb (floor_of above) here.key) p.0))
+
+  pub stop_absent : (above : Option ℕ) (m : Bool) → None ≡ size_at 0 (Stop m) bs → None ≡ step_at above (Stop m) bs
+  unfolding size_at step_at sound_at
+  stop_absent above m e =
+      sym (ap (λ (t : Bool). then_some t (record { size = length (rec_bytes (rec_at (Stop m) bs)); above = above }))
+      (unsaid _ _ e))
+
+  pub stop_present : (above : Option ℕ) (m : Bool) (n : ℕ) → Some n ≡ size_at 0 (Stop m) bs
+      → Some (record { size = n; above = above }) ≡ step_at above (Stop m) bs
+  unfolding size_at step_at sound_at
+  stop_present above m n e =
+      let p = said _ _ n e in
+      ap (λ (k : ℕ). Some (record { size = k; above = above })) p.1
+      ∙ sym (ap (λ (t : Bool). then_some t (record { size = length (rec_bytes (rec_at (Stop m) bs)); above = above }))
+      p.0)

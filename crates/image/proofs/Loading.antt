@@ -1,13 +1,13 @@
 -- A sound image loaded: its records are those of the state that it gives, each where it is looked for.
-use Rattle.words.proofs.Prelude.{arith, ◌≡◌, refl, sym, ap, ap₂, ◌∙◌, ℕ, ◌+◌, ◌*◌, ◌≤◌, Bool, true, false, eqb, ltb}
-use Rattle.words.proofs.Prelude.{leb, eqb-true, le-ltb, leb-true, if◌then◌else◌, Option, none, some, List, [], ◌∷◌}
+use Rattle.words.proofs.Prelude.{arith, ◌≡◌, refl, sym, ap, ap₂, ◌∙◌, ℕ, ◌+◌, ◌*◌, ◌≤◌, Bool, true, false, ltb}
+use Rattle.words.proofs.Prelude.{le-ltb, if◌then◌else◌, Option, none, some, List, [], ◌∷◌}
 use Rattle.words.proofs.Prelude.{append-nil, append_assoc, ◌++◌, map, length-append, length, drop}
 use lib.Seq.{drop_at, drop-drop}
 use Rattle.words.specs.All.{all_of}
 use Rattle.words.proofs.Alls.{all_head, all_tail}
 use Rattle.records.specs.Big.{are_bytes}
 use Rattle.records.specs.Sealed.{unpacked, sealed}
-use Rattle.entry.specs.Limits.{width, largest_batch, log_words, snapshot_words}
+use Rattle.entry.specs.Limits.{width, largest_batch, log_words}
 use Rattle.entry.specs.Sign.{no_sign, sign_formed}
 use Rattle.entry.specs.Change.{Change, change_formed, entries_formed, stored}
 use Rattle.entry.specs.Guards.{first, replied, passes, Verdict, refuses, refused}
@@ -27,7 +27,7 @@ use Rattle.image.specs.Inner.{index_from, changes_at, changes_bytes, Loadable}
 use Rattle.image.specs.Typed.{change_typed, sign_typed}
 use Rattle.image.specs.declared.Head.{Head}
 use Rattle.image.specs.declared.Want.TheVariants.{Stop}
-use Rattle.words.proofs.Tests.{and_left, and_right, both_true}
+use Rattle.words.proofs.Tests.{both_true}
 use Rattle.image.proofs.RecLaws.{change_fits, change_back, rec_back, rec_sound, iff_self, false_true}
 use Rattle.image.proofs.HeadLaws.{head_length}
 use Rattle.image.proofs.Theorems.{Told, written_read, key_room_lem}
@@ -55,16 +55,6 @@ module _ (size : ℕ) (bs log snapshot : List ℕ) where
     pub read_loaded : passes ≡ first (image_guards bs)
         → loaded passes (state_in size bs) log snapshot ≡ read_call size bs log snapshot
     read_loaded e = read_on passes e
-
-    pub read_loadable : passes ≡ first (image_guards bs) → Loadable size bs log snapshot
-    read_loadable e =
-        let w₁ = and_right (leb size largest_batch) _ w in
-        record {
-          sized = leb-true size largest_batch (and_left _ _ w);
-          log_long = eqb-true (length log) log_words (and_left _ _ w₁);
-          snapshot_long = eqb-true (length snapshot) snapshot_words (and_right (eqb (length log) log_words) _ w₁);
-          sound = sym e;
-        }
 
 -- what was put is said again
 pub changes_back : (mark : ℕ) → ltb mark 65536 ≡ true → (cs : List Change) (rest : List ℕ) → all_of change_typed cs ≡ true

@@ -26,7 +26,10 @@ to_load n bs = words_of change_code (changes_at n bs)
 load_long : (n : ℕ) (bs : List ℕ) → length (to_load n bs) ≡ n * width
 load_long n bs = words_length change_code change_ok (changes_at n bs) ∙ ap (λ (k : ℕ). k * width) (changes_count n bs)
 
-module _ (s : List ℕ) (n i here : ℕ) (words : List ℕ) where
+module _ (s : List ℕ) (n i at : ℕ) (words : List ℕ) where
+  abbrev here : ℕ
+  here = at + i * change_size
+
   abbrev pub left : List ℕ
   left = spliced (i * width) ((n - i) * width) (to_load (n - i) (drop here s)) words
 
@@ -45,7 +48,7 @@ module _ (s : List ℕ) (n i here : ℕ) (words : List ℕ) where
       ∙ splice-length words (i * width) width ys (ap length q) (omega arith)
 
   pub load_turn : (ys : List ℕ) (k : ℕ) → i < n → n * width ≤ length words → k ≡ width → ys ≡ got
-      → spliced ((i + 1) * width) ((n - (i + 1)) * width) (to_load (n - (i + 1)) (drop (here + change_size) s))
+      → spliced ((i + 1) * width) ((n - (i + 1)) * width) (to_load (n - (i + 1)) (drop (at + (i + 1) * change_size) s))
       (take (i * width) words ++ (ys ++ drop k (drop (i * width) words)))
       ≡ left
   unfolding words_of changes_at unpacked
@@ -55,9 +58,12 @@ module _ (s : List ℕ) (n i here : ℕ) (words : List ℕ) where
       let a : (i + 1) * width ≡ i * width + width = omega arith in
       let b : width + m * width ≡ (n - i) * width = omega arith in
       let c : suc m ≡ n - i = omega arith in
+      let d : at + (i + 1) * change_size ≡ here + change_size = omega arith in
       let w : words_there (drop here s) ++ rest ≡ to_load (suc m) (drop here s) =
       ap₂ (λ (x y : List ℕ). x ++ to_load m y) (sym (words_again (drop here s))) (sym (drop-drop change_size here s)) in
-      ap₂ (λ (j : ℕ) (l : List ℕ). spliced j (m * width) rest l) a
+      ap (λ (j : ℕ). spliced ((i + 1) * width) (m * width) (to_load m (drop j s))
+      (take (i * width) words ++ (ys ++ drop k (drop (i * width) words)))) d
+      ∙ ap₂ (λ (j : ℕ) (l : List ℕ). spliced j (m * width) rest l) a
       (splice_part words ys (i * width) k width e
       ∙ ap (λ (l : List ℕ). spliced (i * width) width l words) (q ∙ got_is))
       ∙ splice_next words (i * width) width (words_there (drop here s)) refl (omega arith) (m * width) rest

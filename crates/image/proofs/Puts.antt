@@ -64,7 +64,10 @@ changes_long mark (c ∷ cs) =
     )
 
 -- the loop over entries: what is left to put gives what is asked
-module _ (mark : ℕ) (ws : List ℕ) (n i : ℕ) (out : List ℕ) (here : ℕ) where
+module _ (mark : ℕ) (ws : List ℕ) (n i : ℕ) (out : List ℕ) (at : ℕ) where
+  abbrev here : ℕ
+  here = at + i * change_size
+
   abbrev pub left : List ℕ
   left = spliced here ((n - i) * change_size) (changes_bytes mark (drop i (entries_of n ws))) out
 
@@ -88,7 +91,7 @@ module _ (mark : ℕ) (ws : List ℕ) (n i : ℕ) (out : List ℕ) (here : ℕ) 
 
   pub changes_turn : (next : List ℕ) → i < n → here + (n - i) * change_size ≤ length out
       → next ≡ spliced here change_size one out
-      → spliced (here + change_size) ((n - (i + 1)) * change_size)
+      → spliced (at + (i + 1) * change_size) ((n - (i + 1)) * change_size)
       (changes_bytes mark (drop (i + 1) (entries_of n ws))) next
       ≡ left
   unfolding changes_bytes
@@ -96,7 +99,8 @@ module _ (mark : ℕ) (ws : List ℕ) (n i : ℕ) (out : List ℕ) (here : ℕ) 
       let m : ℕ = (n - (i + 1)) * change_size in
       let k : change_size + m ≡ (n - i) * change_size = omega arith in
       let q : suc i ≡ i + 1 = omega arith in
-      ap (spliced (here + change_size) m (changes_bytes mark (drop (i + 1) (entries_of n ws)))) e
+      let w : at + (i + 1) * change_size ≡ here + change_size = omega arith in
+      ap₂ (λ (j : ℕ) (l : List ℕ). spliced j m (changes_bytes mark (drop (i + 1) (entries_of n ws))) l) w e
       ∙ splice_next out here change_size one (change_long mark (change_code.dec (take width (drop (i * width) ws))))
       (omega arith) m
       (changes_bytes mark (drop (i + 1) (entries_of n ws)))

@@ -53,15 +53,15 @@ same_count n a b h k = length-take-le n a h ∙ sym (length-take-le n b k)
 
 -- ---- put
 
-pub nodes_put : (s next nodes : List ℕ) (at n : ℕ) → n ≤ most_nodes → length nodes ≡ most_nodes
-    → next ≡ spliced at (total (take n (replicate most_nodes 8)))
-    (packed (zipped (take n (replicate most_nodes 8)) (take n nodes))) s
-    → next ≡ spliced at (n * 8) (packed (map (field 8) (take n nodes))) s
-nodes_put s next nodes at n h l e =
+pub nodes_put : (s next nodes : List ℕ) (at : ℕ) → length nodes ≤ most_nodes
+    → next ≡ spliced at (total (take (length nodes) (replicate most_nodes 8)))
+    (packed (zipped (take (length nodes) (replicate most_nodes 8)) nodes)) s
+    → next ≡ spliced at (length nodes * 8) (packed (map (field 8) nodes)) s
+nodes_put s next nodes at h e =
     e
-    ∙ ap (λ (ws : List ℕ). spliced at (total ws) (packed (zipped ws (take n nodes))) s) (take_run 8 n most_nodes h)
-    ∙ ap₂ (λ (k : ℕ) (fs : List Field). spliced at k (packed fs) s) (total_run 8 n)
-    (zipped_run 8 (take n nodes) n (length-take-le n nodes (omega arith)))
+    ∙ ap (λ (ws : List ℕ). spliced at (total ws) (packed (zipped ws nodes)) s) (take_run 8 (length nodes) most_nodes h)
+    ∙ ap₂ (λ (k : ℕ) (fs : List Field). spliced at k (packed fs) s) (total_run 8 (length nodes))
+    (zipped_run 8 nodes (length nodes) refl)
 
 module _ (g : StopSign) (c : Counts g.node_count g.metadata_len) (long : length g.nodes ≡ most_nodes)
     (wide : length g.metadata ≡ most_metadata) where

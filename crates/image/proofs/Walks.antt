@@ -1,16 +1,22 @@
 -- The walk over the records behind a header: which is wanted next, and how far the sound ones reach.
-use Rattle.words.proofs.Prelude.{arith, ◌≡◌, refl, sym, ap, ap₂, ◌∙◌, ℕ, zero, suc, ◌+◌, ◌-◌, ◌≤◌, ◌<◌, Bool, true}
-use Rattle.words.proofs.Prelude.{false, ◌&&◌, eqb, eq-eqb, ne_eqb, if◌then◌else◌, List, [], ◌∷◌, ◌++◌, length-drop}
+use Rattle.words.proofs.Prelude.{arith, ◌≡◌, refl, sym, ap, ◌∙◌, ℕ, zero, suc, ◌+◌, ◌-◌, ◌≤◌, ◌<◌, Bool, true}
+use Rattle.words.proofs.Prelude.{false, eqb, eq-eqb, ne_eqb, if◌then◌else◌, List, [], ◌∷◌, ◌++◌, length-drop}
 use Rattle.words.proofs.Prelude.{length-append, drop_of_length-le, length, drop, replicate}
 use lib.ListN.{length-replicate}
 use lib.Seq.{drop-drop}
+use mir.Val.{bool_byte}
+use Rattle.std.specs.Prelude.{Option, Ok, Err}
+use Rattle.std.proofs.Common.{subst}
+use Rattle.std.specs.Option.{ok_or}
+use Rattle.std.specs.Bool.{then_some}
 use Rattle.words.proofs.Alls.{all_drop}
 use Rattle.records.specs.Big.{are_bytes}
 use Rattle.records.proofs.BigLaws.{byte}
-use Rattle.records.proofs.SealedLaws.{sealed_length}
-use Rattle.image.specs.Layout.{head_size, Rec, fields_of, rec_bytes, run_bytes}
-use Rattle.image.specs.Reading.{stop_wants, wants, rec_at, sound_at, sound_run, run_of, run_end, whole}
-use Rattle.image.specs.Inner.{size_at, Steps}
+use Rattle.image.specs.Layout.{head_size, Rec, key_rec, entry_rec, stop_rec, rec_bytes, run_bytes}
+use Rattle.image.specs.Reading.{stop_wants, wants, rec_at, floor_after, sound_at, sound_run, run_of}
+use Rattle.image.specs.Reading.{run_end, whole}
+use Rattle.image.specs.Inner.{floor_of, above_after, step_at, walked}
+use Rattle.image.specs.declared.walk.Step.{Step}
 use Rattle.image.specs.declared.Head.{Head}
 use Rattle.image.specs.declared.Want.{Want}
 use Rattle.image.specs.declared.Want.TheVariants.{Key, Entry, Stop}
@@ -34,6 +40,10 @@ module _ (x : Want) (l : List Want) where
 
   long : (n : ℕ) → length (replicate n x ++ l) ≡ n + length l
   long n = length-append (replicate n x) l ∙ ap (λ (k : ℕ). k + length l) (length-replicate n x)
+
+pub flag_long : (t : Bool) → bool_byte t ≡ (if t then 1 else 0)
+flag_long true = refl
+flag_long false = refl
 
 module _ (h : Head) where
   abbrev last : List Want
@@ -96,6 +106,19 @@ module _ (h : Head) where
 
 -- ---- where the walk stands: after i sound records, which end at `here`, with a floor for the next key
 
+found : (t : Bool) (x : Step) (k : ℕ) (st : Step) → ok_or (then_some t x) k ≡ Ok st → (t ≡ true) × (st ≡ x)
+found true x k st e = (refl, cc)
+found false x k st e = absurd (cc)
+
+missed : (t : Bool) (x : Step) (k j : ℕ) → ok_or (then_some t x) k ≡ Err j → (t ≡ false) × (j ≡ k)
+missed true x k j e = absurd (cc)
+missed false x k j e = (refl, cc)
+
+after : (above : Option ℕ) (r : Rec) → floor_after (floor_of above) r ≡ floor_of (above_after above r)
+after above (key_rec c) = refl
+after above (entry_rec c) = refl
+after above (stop_rec g) = refl
+
 module _ (h : Head) (s : List ℕ) where
   pub record At (i here f : ℕ) : Type 0 where
     pub end : run_end h s ≡ here + length (run_bytes (sound_run f (drop i (wants h)) (drop here s)))
@@ -105,97 +128,104 @@ module _ (h : Head) (s : List ℕ) where
   unfolding run_end
   at_start = record { end = refl; count = omega arith }
 
-  module _ (i here f : ℕ) (a : At i here f) where
+  module _ (i here : ℕ) (above : Option ℕ) (a : At i here (floor_of above)) where
+    abbrev f : ℕ
+    f = floor_of above
+
+    abbrev bs : List ℕ
+    bs = drop here s
+
     module _ (w : Want) (next : drop i (wants h) ≡ w ∷ drop (i + 1) (wants h)) where
       abbrev r : Rec
-      r = rec_at w (drop here s)
+      r = rec_at w bs
 
       abbrev size : ℕ
       size = length (rec_bytes r)
 
-      sized : size_at f w (drop here s) ≡ 0 → sound_at f w (drop here s) ≡ false
-      unfolding size_at
-      sized e = go (sound_at f w (drop here s)) refl
-        where
-          go : (t : Bool) → sound_at f w (drop here s) ≡ t → t ≡ false
-          go true q =
-              let z : size ≡ 0 = sym (ap (λ (u : Bool). if u then size else 0) q) ∙ e in
-              absurd (omega (arith, z, sealed_length (fields_of r)))
-          go false q = refl
+      -- a sound record is passed
+      module _ (q : sound_at f w bs ≡ true) where
+        at_room : are_bytes s ≡ true → here ≤ length s → here + size ≤ length s
+        at_room b p =
+            let x : Sounds f w bs = rec_forth f w bs q (all_drop byte here s b) in
+            omega (
+              arith,
+              ap length x.bytes,
+              length-append (rec_bytes r) (drop size bs),
+              length-drop here s,
+            )
 
-      module _ (m g : ℕ) (st : Steps f w (drop here s) m g) where
-        pub at_room : are_bytes s ≡ true → here ≤ length s → here + m ≤ length s
-        unfolding size_at
-        at_room b p = go (sound_at f w (drop here s)) refl
-          where
-            go : (t : Bool) → sound_at f w (drop here s) ≡ t → here + m ≤ length s
-            go true q =
-                let z : m ≡ size = st.long ∙ ap (λ (u : Bool). if u then size else 0) q in
-                let x : Sounds f w (drop here s) = rec_forth f w (drop here s) q (all_drop byte here s b) in
-                omega (
-                  arith,
-                  z,
-                  ap length x.bytes,
-                  length-append (rec_bytes r) (drop size (drop here s)),
-                  length-drop here s,
-                )
-            go false q =
-                let z : m ≡ 0 = st.long ∙ ap (λ (u : Bool). if u then size else 0) q in
-                omega (arith, z)
-
-        pub at_next : 0 < m → At (i + 1) (here + m) g
-        unfolding size_at run_bytes
-        at_next p = go (sound_at f w (drop here s)) refl
-          where
-            go : (t : Bool) → sound_at f w (drop here s) ≡ t → At (i + 1) (here + m) g
-            go false q =
-                let z : m ≡ 0 = st.long ∙ ap (λ (u : Bool). if u then size else 0) q in
-                absurd (omega (arith, z, p))
-            go true q =
-                let z : m ≡ size = st.long ∙ ap (λ (u : Bool). if u then size else 0) q in
-                let rs : List Rec = sound_run g (drop (i + 1) (wants h)) (drop (here + m) s) in
-                let run : sound_run f (drop i (wants h)) (drop here s) ≡ r ∷ rs =
-                ap (λ (ws : List Want). sound_run f ws (drop here s)) next
-                ∙ run_step f w (drop (i + 1) (wants h)) (drop here s) q
-                ∙ ap₂ (λ (k : ℕ) (l : List ℕ). r ∷ sound_run k (drop (i + 1) (wants h)) l) (sym (st.floor q))
-                (drop-drop size here s ∙ ap (λ (k : ℕ). drop (here + k) s) (sym z)) in
-                record {
-                  end = omega (
-                    arith,
-                    a.end,
-                    ap (λ (l : List Rec). length (run_bytes l)) run,
-                    length-append (rec_bytes r) (run_bytes rs),
-                    z,
-                  );
-                  count = omega (arith, a.count, ap length run);
-                }
-
-        none : m ≡ 0 → sound_run f (drop i (wants h)) (drop here s) ≡ []
-        none e =
-            ap (λ (ws : List Want). sound_run f ws (drop here s)) next
-            ∙ run_stop f w (drop (i + 1) (wants h)) (drop here s) (sized (sym st.long ∙ e))
-
-        pub stop_end : m ≡ 0 → here ≡ run_end h s
+        at_next : At (i + 1) (here + size) (floor_of (above_after above r))
         unfolding run_bytes
-        stop_end e = omega (arith, a.end, ap (λ (l : List Rec). length (run_bytes l)) (none e))
+        at_next =
+            let rs : List Rec = sound_run (floor_after f r) (drop (i + 1) (wants h)) (drop (here + size) s) in
+            let run : sound_run f (drop i (wants h)) bs ≡ r ∷ rs =
+            ap (λ (ws : List Want). sound_run f ws bs) next
+            ∙ run_step f w (drop (i + 1) (wants h)) bs q
+            ∙ ap (λ (l : List ℕ). r ∷ sound_run (floor_after f r) (drop (i + 1) (wants h)) l) (drop-drop size here s) in
+            let e : floor_after f r ≡ floor_of (above_after above r) = after above r in
+            subst (At (i + 1) (here + size)) e (record {
+              end = omega (
+                arith,
+                a.end,
+                ap (λ (l : List Rec). length (run_bytes l)) run,
+                length-append (rec_bytes r) (run_bytes rs),
+              );
+              count = omega (arith, a.count, ap length run);
+            })
 
-        pub stop_whole : m ≡ 0 → i < length (wants h) → false ≡ whole h s
-        unfolding whole
-        stop_whole e p =
-            sym (ap (λ (u : Bool). u && eqb (run_end h s) (length s))
-            (ne_eqb (length (run_of h s)) (length (wants h)) (λ q. omega (arith, q, p, a.count, ap length (none e)))))
+      -- and the walk ends at one that is not
+      module _ (q : sound_at f w bs ≡ false) where
+        none : sound_run f (drop i (wants h)) bs ≡ []
+        none =
+            ap (λ (ws : List Want). sound_run f ws bs) next
+            ∙ run_stop f w (drop (i + 1) (wants h)) bs q
 
-    done : length (wants h) ≤ i → sound_run f (drop i (wants h)) (drop here s) ≡ []
-    unfolding sound_run
-    done p = ap (λ (ws : List Want). sound_run f ws (drop here s)) (drop_of_length-le (wants h) {i = i} p)
+        ends : i < length (wants h) → Err here ≡ walked h s
+        unfolding walked whole run_bytes
+        ends p =
+            let e : here ≡ run_end h s = omega (arith, a.end, ap (λ (l : List Rec). length (run_bytes l)) none) in
+            let n : eqb (length (run_of h s)) (length (wants h)) ≡ false =
+            ne_eqb (length (run_of h s)) (length (wants h)) (λ k. omega (arith, k, p, a.count, ap length none)) in
+            rw n (ap (λ (k : ℕ). Err k) e)
 
-    pub done_end : length (wants h) ≤ i → here ≡ run_end h s
-    unfolding run_bytes
-    done_end p = omega (arith, a.end, ap (λ (l : List Rec). length (run_bytes l)) (done p))
+      -- what the code has of that record, and what it makes of it
+      module _ (o : Option Step) (is : o ≡ step_at above w bs) where
+        abbrev there : Step
+        there = record { size = size; above = above_after above r }
 
-    pub done_whole : length (wants h) ≡ i → eqb here (length s) ≡ whole h s
-    unfolding whole
-    done_whole p =
-        ap (λ (k : ℕ). eqb k (length s)) (done_end (omega arith))
-        ∙ sym (ap (λ (u : Bool). u && eqb (run_end h s) (length s))
-        (eq-eqb (length (run_of h s)) (length (wants h)) (omega (arith, p, a.count, ap length (done (omega arith))))))
+        pub passed : (st : Step) → ok_or o here ≡ Ok st → are_bytes s ≡ true → here ≤ length s
+            → (here + st.size ≤ length s) × At (i + 1) (here + st.size) (floor_of st.above)
+        unfolding step_at
+        passed st e b p =
+            let x = found (sound_at f w bs) there here st (ap (λ (u : Option Step). ok_or u here) (sym is) ∙ e) in
+            rw x.1 (at_room x.0 b p, at_next x.0)
+
+        pub stopped : (k : ℕ) → ok_or o here ≡ Err k → i < length (wants h) → Err k ≡ walked h s
+        unfolding step_at
+        stopped k e p =
+            let x = missed (sound_at f w bs) there here k (ap (λ (u : Option Step). ok_or u here) (sym is) ∙ e) in
+            rw x.1 (ends x.0 p)
+
+    -- all that is wanted was passed
+    module _ (p : length (wants h) ≡ i) where
+      done : sound_run f (drop i (wants h)) (drop here s) ≡ []
+      unfolding sound_run
+      done =
+          ap (λ (ws : List Want). sound_run f ws (drop here s))
+          (drop_of_length-le (wants h) {i = i} (omega (arith, p)))
+
+      done_end : here ≡ run_end h s
+      unfolding run_bytes
+      done_end = omega (arith, a.end, ap (λ (l : List Rec). length (run_bytes l)) done)
+
+      done_count : eqb (length (run_of h s)) (length (wants h)) ≡ true
+      done_count = eq-eqb (length (run_of h s)) (length (wants h)) (omega (arith, p, a.count, ap length done))
+
+      pub done_whole : here ≡ length s → Ok tt ≡ walked h s
+      unfolding walked whole
+      done_whole e = rw (done_count, eq-eqb (run_end h s) (length s) (sym done_end ∙ e)) refl
+
+      pub done_short : (here ≡ length s → ⊥) → Err here ≡ walked h s
+      unfolding walked whole
+      done_short e =
+          rw (done_count, ne_eqb (run_end h s) (length s) (λ q. e (done_end ∙ q))) (ap (λ (k : ℕ). Err k) done_end)

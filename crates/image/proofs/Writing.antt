@@ -3,6 +3,8 @@ use Rattle.words.proofs.Prelude.{arith, ◌≡◌, refl, sym, ap, ap₂, ◌∙�
 use Rattle.words.proofs.Prelude.{le-ltb, if◌then◌else◌, Option, none, some, List, [], ◌∷◌, append-nil, append_assoc}
 use Rattle.words.proofs.Prelude.{◌++◌, map, length-append, length, take, drop}
 use native.Mathlib.Nat.{zero-add}
+use Rattle.std.specs.Prelude.{Ok, IfSome}
+use Rattle.std.specs.Bool.{then_some}
 use Rattle.words.specs.Words.{spliced}
 use Rattle.words.proofs.CodedLaws.{entries_length}
 use Rattle.records.specs.Sealed.{sealed}
@@ -25,10 +27,9 @@ use Rattle.image.specs.Image.{metadata_held, head_of, stop_recs, image_of}
 use Rattle.image.specs.Calls.{write_call, read_image, ReadsBack}
 use lib.Seq.{take_at}
 use Rattle.image.specs.Typed.{Typed}
-use Rattle.image.specs.declared.Written.TheVariants.{Bytes}
 use Rattle.image.proofs.Theorems.{read_written}
 use Rattle.image.proofs.Sizes.{image_room_lem}
-use Rattle.image.specs.Inner.{head_in, changes_bytes, sign_size, sign_bytes}
+use Rattle.image.specs.Inner.{head_in, changes_bytes, SignFormed, sign_size, sign_bytes}
 use Rattle.image.specs.declared.Head.{Head}
 use Rattle.image.proofs.RecLaws.{Counts, counts, false_true}
 use Rattle.image.proofs.HeadLaws.{head_same, head_length}
@@ -50,7 +51,8 @@ run_changes mark mk h (c ∷ cs) more =
     ap₂ (λ (x y : List ℕ). x ++ y) (h c) (run_changes mark mk h cs more)
     ∙ sym (append_assoc (sealed (change_fields mark c)) (changes_bytes mark cs) (run_bytes more))
 
-pub run_stop : (held : Bool) (g : StopSign) → run_bytes (stop_recs (if held then some g else none)) ≡ sign_bytes held g
+pub run_stop : (held : Bool) (g : StopSign)
+    → run_bytes (stop_recs (if held then some g else none)) ≡ sign_bytes (then_some held g)
 unfolding run_bytes
 run_stop true g = append-nil _
 run_stop false g = refl
@@ -61,13 +63,18 @@ pub sign_formed_lem : (held : Bool) (g : StopSign) → if_given sign_formed (if 
 sign_formed_lem true g e q = e
 sign_formed_lem false g e q = false_true q
 
+pub sign_stands : (held : Bool) (g : StopSign) → (held ≡ true → sign_formed g ≡ true)
+    → IfSome (then_some held g) SignFormed
+sign_stands true g h = h refl
+sign_stands false g h = tt
+
 sign_long : (held : Bool) (g : StopSign) → (held ≡ true → sign_formed g ≡ true) → length g.nodes ≡ most_nodes
-    → length g.metadata ≡ most_metadata → length (sign_bytes held g) ≡ sign_size held g
+    → length g.metadata ≡ most_metadata → length (sign_bytes (then_some held g)) ≡ sign_size (then_some held g)
 sign_long true g h l w = stop_long g (counts g (h refl)) l w
 sign_long false g h l w = refl
 
 pub sign_most : (held : Bool) (g : StopSign) → (held ≡ true → sign_formed g ≡ true)
-    → sign_size held g ≤ stop_size most_nodes most_metadata
+    → sign_size (then_some held g) ≤ stop_size most_nodes most_metadata
 sign_most true g h = let c : Counts g.node_count g.metadata_len = counts g (h refl) in
     omega (arith, c.few, c.short)
 sign_most false g h = omega arith
@@ -115,7 +122,7 @@ module _ (r : Raw) (ok : formed r ≡ true) where
   entries = changes_bytes entry_mark (entries_of r.index.retained r.log)
 
   abbrev sign : List ℕ
-  sign = sign_bytes r.index.stop_held r.index.stop
+  sign = sign_bytes (then_some r.index.stop_held r.index.stop)
 
   pub image_is : image_of s ≡ first_part ++ (keys ++ (entries ++ sign))
   unfolding image_of log_of
@@ -132,7 +139,7 @@ module _ (r : Raw) (ok : formed r ≡ true) where
     abbrev end : ℕ
     end =
         head_size + r.index.keys * change_size + r.index.retained * change_size
-        + sign_size r.index.stop_held r.index.stop
+        + sign_size (then_some r.index.stop_held r.index.stop)
 
     keys_long : length keys ≡ r.index.keys * change_size
     keys_long =
@@ -167,12 +174,12 @@ module _ (r : Raw) (ok : formed r ≡ true) where
         → o₂ ≡ spliced head_size (r.index.keys * change_size) keys o₁
         → o₃ ≡ spliced (head_size + r.index.keys * change_size) (r.index.retained * change_size) entries o₂
         → o₄ ≡ spliced (head_size + r.index.keys * change_size + r.index.retained * change_size)
-        (sign_size r.index.stop_held r.index.stop) sign o₃
+        (sign_size (then_some r.index.stop_held r.index.stop)) sign o₃
         → o₄ ≡ spliced 0 (length (image_of s)) (image_of s) out
     parts_put out o₁ o₂ o₃ o₄ h p q t u =
         let k : ℕ = r.index.keys * change_size in
         let e : ℕ = r.index.retained * change_size in
-        let z : ℕ = sign_size r.index.stop_held r.index.stop in
+        let z : ℕ = sign_size (then_some r.index.stop_held r.index.stop) in
         let e₂ : o₂ ≡ spliced 0 (head_size + k) (first_part ++ keys) out =
         q
         ∙ ap (spliced head_size k keys) p
@@ -196,7 +203,7 @@ module _ (r : Raw) (ok : formed r ≡ true) where
       unfolding write_call first
       write_whole = rw (ok, le-ltb (length out) (length (image_of s)) (omega (arith, h, image_long)), e, ← image_long)
 
-      pub write_back : Typed s → ReadsBack (Bytes end) s o
+      pub write_back : Typed s → ReadsBack (Ok end) s o
       write_back t = (
         λ size n. ap (λ (l : List ℕ). read_image size l)
             (ap₂ take (sym image_long) e

@@ -1,9 +1,10 @@
 -- The two calls: a state written into lent bytes, and bytes read into a lent log.
 use Rattle.std.specs.Prelude.{ℕ, ◌≤◌, ◌≡◌, Bool, ◌&&◌, ◌||◌, not, List, [], ◌∷◌, ltb, leb, eqb, length, take, drop}
+use Rattle.std.specs.Prelude.{Result, Ok, Err}
 use Rattle.words.specs.Words.{spliced}
 use Rattle.records.specs.Big.{value}
 use Rattle.entry.specs.Limits.{largest_batch, log_words, snapshot_words}
-use Rattle.entry.specs.Guards.{Guard, guard, Verdict, passes, refuses, first, Answer, refused, replied, refused_by}
+use Rattle.entry.specs.Guards.{Guard, guard, Verdict, passes, refuses, first, Answer, refused, replied, said_by}
 use Rattle.entry.specs.Guards.{settle}
 use Rattle.snapshot.specs.Calls.{Outcome as Output, outcome as output}
 use Rattle.model.specs.Numbers.{accepted_of}
@@ -13,11 +14,8 @@ use Rattle.state_cache.specs.Run.{Outcome, outcome}
 use Rattle.image.specs.Layout.{head_mark, image_room}
 use Rattle.image.specs.Image.{image_of}
 use Rattle.image.specs.Reading.{head_at, head_sound, run_of, run_end, whole, state_from}
-use Rattle.image.specs.declared.Written.{Written}
-use Rattle.image.specs.declared.Written.TheVariants.{Bytes, Refused}
-use Rattle.image.specs.declared.Judged.{Judged}
-use Rattle.image.specs.declared.Judged.TheVariants.{Sound, Refused as JudgedRefused}
 use Rattle.entry.specs.Refusals.{number_of, carried_of}
+use Rattle.entry.specs.declared.Refusal.{Refusal}
 
 -- ---- writing: "Refusals, after 12 and 11 …: 13 output room short". Its reply is how many bytes it wrote; those after
 -- them stay
@@ -33,9 +31,8 @@ put_by (refuses n k) bytes out = output (refused n k) out
 unfoldable pub write_call : Raw → List ℕ → Output
 write_call r out = put_by (first (write_guards r out)) (image_of (log_of r)) out
 
-abbrev pub written : Written → Answer ℕ
-written (Bytes n) = replied n
-written (Refused r) = refused_by r
+abbrev pub written : Result ℕ Refusal → Answer ℕ
+written r = said_by (λ (n : ℕ). n) r
 
 -- ---- reading: "no 12, and 11 for a log slice of wrong length"; "15 at offset 0 for fewer than four bytes or a wrong
 -- first mark, then 14 unknown format, then 15 damaged, ill-formed or bytes left over, with the offset of the first bad
@@ -49,9 +46,9 @@ image_guards bs =
     ∷ guard 15 (run_end (head_at bs) bs) (not (whole (head_at bs) bs))
     ∷ []
 
-abbrev pub judged : Judged → Verdict
-judged Sound = passes
-judged (JudgedRefused r) = refuses (number_of r) (carried_of r)
+abbrev pub judged : Result (Unit {0}) Refusal → Verdict
+judged (Ok u) = passes
+judged (Err r) = refuses (number_of r) (carried_of r)
 
 abbrev pub state_in : ℕ → List ℕ → Log
 state_in size bs = state_from size (head_at bs) (run_of (head_at bs) bs)
@@ -69,10 +66,10 @@ unbatched size s = record {
   marks = s.marks;
 }
 
-abbrev pub ReadsBack : Written → Log → List ℕ → Type 0
-ReadsBack (Bytes n) s out =
+abbrev pub ReadsBack : Result ℕ Refusal → Log → List ℕ → Type 0
+ReadsBack (Ok n) s out =
     ((size : ℕ) → size ≤ largest_batch → read_image size (take n out) ≡ replied (unbatched size s)) × (n ≤ image_room)
-ReadsBack (Refused r) s out = Unit {0}
+ReadsBack (Err r) s out = Unit {0}
 
 -- into a lent log: as of a reload, its reply is the accepted index; the words are overwritten whatever they held, and
 -- beside a refusal stands the record of a fresh log of batch size 0

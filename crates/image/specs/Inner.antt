@@ -1,9 +1,12 @@
 -- What the inner functions say and require.
 use Rattle.std.specs.Prelude.{ℕ, zero, suc, ◌+◌, ◌≤◌, ◌≡◌, Bool, true, ◌&&◌, List, [], ◌∷◌, ◌++◌, eqb, length, take, drop, if◌then◌else◌}
+use Rattle.std.specs.Prelude.{Option, Some, None, Result, Ok, Err}
+use Rattle.std.specs.Bool.{then_some}
 use Rattle.records.specs.Big.{value}
 use Rattle.records.specs.Sealed.{unpacked, sealed, is_sealed}
 use Rattle.entry.specs.Limits.{largest_batch, log_words, snapshot_words}
 use Rattle.entry.specs.Change.{Change, change_formed}
+use Rattle.entry.specs.Sign.{sign_formed}
 use Rattle.entry.specs.Guards.{passes, first}
 use Rattle.entry.specs.declared.Ballot.{Ballot}
 use Rattle.entry.specs.declared.StopSign.{StopSign}
@@ -11,10 +14,12 @@ use Rattle.model.specs.Numbers.{accepted_of}
 use Rattle.state_cache.specs.State.{numbers_in}
 use Rattle.state_cache.specs.declared.IndexRecord.{IndexRecord}
 use Rattle.image.specs.Layout.{change_fields, change_widths, change_size, stop_fields, stop_size, rec_bytes}
-use Rattle.image.specs.Reading.{change_from, rec_at, floor_after, sound_at}
+use Rattle.image.specs.Layout.{Rec, key_rec, entry_rec, stop_rec}
+use Rattle.image.specs.Reading.{change_from, rec_at, sound_at, run_end, whole}
 use Rattle.image.specs.Calls.{image_guards}
 use Rattle.image.specs.declared.Head.{Head}
 use Rattle.image.specs.declared.Want.{Want}
+use Rattle.image.specs.declared.walk.Step.{Step}
 
 -- ---- the header of an index record; a ballot at an offset; and the record that a header and a stop-sign stand for
 
@@ -58,22 +63,38 @@ index_from size h g = record {
 -- ---- one record
 
 -- a key may be any, or must be above one: what is at least the floor
-abbrev pub floor_of : Bool → ℕ → ℕ
-floor_of any before = if any then 0 else suc before
+abbrev pub floor_of : Option ℕ → ℕ
+floor_of None = 0
+floor_of (Some before) = suc before
 
--- how long the sound record at the front of some bytes is, 0 where it is not sound; and the floor after it
-unfoldable pub size_at : ℕ → Want → List ℕ → ℕ
-size_at f w bs = if sound_at f w bs then length (rec_bytes (rec_at w bs)) else 0
+-- the key that the next must be above, after a record
+abbrev pub above_after : Option ℕ → Rec → Option ℕ
+above_after above (key_rec c) = Some c.key
+above_after above (entry_rec c) = above
+above_after above (stop_rec g) = above
 
-pub record Steps (f : ℕ) (w : Want) (bs : List ℕ) (size next : ℕ) : Type 0 where
-  pub long : size ≡ size_at f w bs
-  pub floor : sound_at f w bs ≡ true → next ≡ floor_after f (rec_at w bs)
+-- how long the record at the front of some bytes is, if it is sound; and with it the key that the next must be above
+unfoldable pub size_at : ℕ → Want → List ℕ → Option ℕ
+size_at f w bs = then_some (sound_at f w bs) (length (rec_bytes (rec_at w bs)))
 
--- a key's or an entry's, its order left out
+unfoldable pub step_at : Option ℕ → Want → List ℕ → Option Step
+step_at above w bs =
+    then_some (sound_at (floor_of above) w bs)
+    (record { size = length (rec_bytes (rec_at w bs)); above = above_after above (rec_at w bs) })
+
+-- a key's or an entry's, its order left out; and its key
 abbrev pub change_sound : ℕ → List ℕ → Bool
 change_sound mark bs =
     is_sealed change_widths bs
     && (eqb (value (take 2 bs)) mark && change_formed (change_from (unpacked change_widths bs)))
+
+unfoldable pub key_at : ℕ → List ℕ → Option ℕ
+key_at mark bs = then_some (change_sound mark bs) (change_from (unpacked change_widths bs)).key
+
+-- ---- all of them: they are what is wanted and all there is, or they end somewhere
+
+unfoldable pub walked : Head → List ℕ → Result (Unit {0}) ℕ
+walked h bs = if whole h bs then Ok tt else Err (run_end h bs)
 
 -- ---- several of one kind: their bytes; and what n of them say, one after the other, whether or not they are sound,
 -- which is what is loaded once all are known to be
@@ -87,11 +108,16 @@ changes_at zero bs = []
 changes_at (suc n) bs = change_from (unpacked change_widths bs) ∷ changes_at n (drop change_size bs)
 
 -- a stop-sign's bytes, where one is held
-abbrev pub sign_size : Bool → StopSign → ℕ
-sign_size held g = if held then stop_size g.node_count g.metadata_len else 0
+abbrev pub SignFormed : StopSign → Type 0
+SignFormed g = sign_formed g ≡ true
 
-abbrev pub sign_bytes : Bool → StopSign → List ℕ
-sign_bytes held g = if held then sealed (stop_fields g) else []
+abbrev pub sign_size : Option StopSign → ℕ
+sign_size None = 0
+sign_size (Some g) = stop_size g.node_count g.metadata_len
+
+abbrev pub sign_bytes : Option StopSign → List ℕ
+sign_bytes None = []
+sign_bytes (Some g) = sealed (stop_fields g)
 
 -- ---- what is judged before it is loaded
 

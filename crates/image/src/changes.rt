@@ -1,13 +1,14 @@
 // The records of keys and entries: put, judged and loaded.
-ghost use Rattle.std.specs.Prelude.{◌≡◌, true, ◌+◌, ◌*◌, ◌≤◌, length, drop};
+// Bytes come whole with an offset, not from it on: a refusal carries the offset.
+// Words come whole with a count, as document 01 has a log and a snapshot lent.
+ghost use Rattle.std.specs.Prelude.{◌≡◌, ◌+◌, ◌*◌, ◌≤◌, length, drop};
 ghost use Rattle.words.specs.Words.{spliced};
 ghost use Rattle.words.specs.Coded.{words_of};
-ghost use Rattle.records.specs.Sealed.{sealed, unpacked};
+ghost use Rattle.records.specs.Sealed.{sealed};
 ghost use Rattle.entry.specs.Limits.{width};
 ghost use Rattle.entry.specs.Change.{change_code, entries_of, stored};
-ghost use Rattle.image.specs.Layout.{change_fields, change_widths, change_size};
-ghost use Rattle.image.specs.Reading.{change_from};
-ghost use Rattle.image.specs.Inner.{change_sound, changes_at, changes_bytes};
+ghost use Rattle.image.specs.Layout.{change_fields, change_size};
+ghost use Rattle.image.specs.Inner.{key_at, changes_at, changes_bytes};
 
 // Puts the record of the entry whose words are lent.
 fn put_change(s: &mut [u8], at: usize, mark: u64, words: &[u64])
@@ -29,45 +30,27 @@ pub(crate) fn put_changes(s: &mut [u8], at: usize, mark: u64, words: &[u64], n: 
     ensures { s.new
         ≡ spliced at (n * change_size) (changes_bytes mark (entries_of n words.now)) s.old }
 {
-    let mut i = 0;
-    let mut here = at;
-    while i < n {
+    for i in 0..n {
+        let here = at + i * super::CHANGE;
         let from = i * entry::WIDTH;
-        let to = from + entry::WIDTH;
-        put_change(s, here, mark, &words[from..to]);
-        here += super::CHANGE;
-        i += 1;
+        put_change(s, here, mark, &words[from..from + entry::WIDTH]);
     }
 }
 
-// Whether a sound record stands somewhere, and then its key.
-#[derive(Clone, Copy)]
-pub struct Seen {
-    pub sound: bool,
-    pub key: u64,
-}
-
-// Looks for a record with this mark, sealed, that says what an entry can say.
-pub(crate) fn change_at(s: &[u8], at: usize, mark: u64) -> Seen
+// The key of the record at `at`, if one with this mark stands there, sealed, that says what an entry can say.
+pub(crate) fn change_at(s: &[u8], at: usize, mark: u64) -> Option<u64>
     requires { at ≤ length s.now }
-    ensures sound_value { result.sound ≡ change_sound mark (drop at s.now) }
-    ensures key_value { result.sound ≡ true → result.key ≡ (change_from (unpacked change_widths (drop at s.now))).key }
+    ensures { result ≡ key_at mark (drop at s.now) }
 {
     if !records::inner::sealed_at(s, at, super::CHANGE - 2) {
-        return Seen {
-            sound: false,
-            key: 0,
-        };
+        return None;
     }
     let widths = [8usize; entry::WIDTH];
     let mut words = [0u64; entry::WIDTH];
     records::inner::get_fields(s, at + 2, &widths, &mut words);
     let marked = records::inner::get_big(s, at, 2) == mark;
     let fine = entry::inner::places_formed(&words, 1);
-    Seen {
-        sound: marked & fine,
-        key: words[0],
-    }
+    (marked & fine).then_some(words[0])
 }
 
 // Loads the words of n entries from their records, to the front of some words.
@@ -78,14 +61,11 @@ fn load_words(s: &[u8], at: usize, words: &mut [u64], n: usize)
         ≡ spliced 0 (n * width) (words_of change_code (changes_at n (drop at s.now))) words.old }
 {
     let widths = [8usize; entry::WIDTH];
-    let mut i = 0;
-    let mut here = at;
-    while i < n {
+    for i in 0..n {
+        let here = at + i * super::CHANGE;
         let from = i * entry::WIDTH;
         let to = from + entry::WIDTH;
         records::inner::get_fields(s, here + 2, &widths, &mut words[from..to]);
-        here += super::CHANGE;
-        i += 1;
     }
 }
 

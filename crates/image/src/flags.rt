@@ -35,6 +35,7 @@ pub(crate) fn flags(snapshot: bool, stop: bool, metadata: bool) -> u8
     set(one, metadata, METADATA_PRESENT)
 }
 
+// One function for each bit, though they differ in the mask alone: a mask at each call is no plainer than a name.
 pub(crate) fn snapshot_held(flags: u8) -> bool
     ensures { result ≡ bit_held 0 flags }
 {

@@ -5,12 +5,13 @@
 ghost use Rattle.std.specs.Prelude.{◌≡◌};
 ghost use Rattle.entry.specs.Guards.{first};
 ghost use Rattle.snapshot.specs.Calls.{outcome as output};
-ghost use Rattle.state_cache.specs.State.{raw, log_of};
-ghost use Rattle.state_cache.specs.Run.{outcome, index_said};
+ghost use Rattle.model.specs.Log.{fresh_log};
+ghost use Rattle.state_cache.specs.State.{raw, log_of, index_of};
+ghost use Rattle.state_cache.specs.Run.{index_at, changed_at};
 ghost use Rattle.image.specs.Calls.{written, write_call, ReadsBack, judged, image_guards, read_call};
 
-use entry::{Ballot, Refusal};
-use state_cache::{IndexAnswer, IndexAnswerAt, IndexRecord};
+use entry::{Ballot, LogIndex, Refusal};
+use state_cache::IndexRecord;
 
 mod changes;
 mod flags;
@@ -66,76 +67,58 @@ pub enum Want {
     Stop(bool),
 }
 
-// The reply of a write: how many bytes it wrote.
-#[derive(Clone, Copy)]
-pub enum Written {
-    Bytes(usize),
-    Refused(Refusal),
-}
-
-// Whether some bytes are an image.
-#[derive(Clone, Copy)]
-pub enum Judged {
-    Sound,
-    Refused(Refusal),
-}
-
-// Writes the image of a log, its batch left out, to the front of `out`.
-pub fn write(index: IndexRecord, log: &[u64], snapshot: &[u64], out: &mut [u8]) -> Written
+// Writes the image of a log, its batch left out, to the front of `out`. Says how many bytes it has.
+pub fn write(
+    index: IndexRecord,
+    log: &[u64],
+    snapshot: &[u64],
+    out: &mut [u8],
+) -> Result<usize, Refusal>
     ensures out_after { output (written result) out.new
         ≡ write_call (raw index log.now snapshot.now) out.old }
     ensures reads_back { ReadsBack result (log_of (raw index log.now snapshot.now)) out.new }
 {
     if !state_cache::well_formed(index, log, snapshot) {
-        return Written::Refused(Refusal::IllFormed);
+        return Err(Refusal::IllFormed);
     }
     inner::write(index, log, snapshot, out)
 }
 
 // Judges some bytes: the mark, the format, the header, and the records behind it one after the other.
-pub fn judge(bytes: &[u8]) -> Judged
+pub fn judge(bytes: &[u8]) -> Result<(), Refusal>
     ensures { judged result ≡ first (image_guards bytes.now) }
 {
     if bytes.len() < 4 {
-        return Judged::Refused(Refusal::Damaged(0));
+        return Err(Refusal::Damaged(0));
     }
     if records::inner::get_big(bytes, 0, 2) != HEAD_MARK {
-        return Judged::Refused(Refusal::Damaged(0));
+        return Err(Refusal::Damaged(0));
     }
     if records::inner::get_big(bytes, 2, 2) != FORMAT {
-        return Judged::Refused(Refusal::UnknownFormat);
+        return Err(Refusal::UnknownFormat);
     }
     if !header::head_sound(bytes) {
-        return Judged::Refused(Refusal::Damaged(0));
+        return Err(Refusal::Damaged(0));
     }
-    let walked = walk::walk(bytes, header::head_at(bytes));
-    if walked.whole {
-        return Judged::Sound;
-    }
-    let end = walked.end;
-    Judged::Refused(Refusal::Damaged(end))
+    walk::walk(bytes, header::head_at(bytes)).map_err(Refusal::Damaged)
 }
 
 // Reads an image into a log of this batch size, over whatever its words held: a reload from bytes, which replies the
-// accepted index. Where it is refused no word changes, and the record is that of a fresh log of size 0.
-pub fn read(batch_size: u64, bytes: &[u8], log: &mut [u64], snapshot: &mut [u64]) -> IndexAnswerAt
-    ensures { outcome (index_said result.answer) (raw result.index log.new snapshot.new)
+// accepted index. Where it is refused no word changes.
+pub fn read(
+    batch_size: u64,
+    bytes: &[u8],
+    log: &mut [u64],
+    snapshot: &mut [u64],
+) -> Result<(IndexRecord, LogIndex), Refusal>
+    ensures { changed_at index_at (index_of (fresh_log 0)) result log.new snapshot.new
         ≡ read_call batch_size bytes.now log.old snapshot.old }
 {
     let sized = batch_size <= entry::LARGEST_BATCH;
     let roomy = (log.len() == entry::LOG_WORDS) & (snapshot.len() == entry::SNAPSHOT_WORDS);
     if !(sized & roomy) {
-        return IndexAnswerAt {
-            answer: IndexAnswer::Refused(Refusal::Malformed),
-            index: state_cache::inner::fresh_index(0),
-        };
+        return Err(Refusal::Malformed);
     }
-    let judged = judge(bytes);
-    match judged {
-        Judged::Sound => inner::load(batch_size, bytes, log, snapshot),
-        Judged::Refused(refusal) => IndexAnswerAt {
-            answer: IndexAnswer::Refused(refusal),
-            index: state_cache::inner::fresh_index(0),
-        },
-    }
+    judge(bytes)?;
+    Ok(inner::load(batch_size, bytes, log, snapshot))
 }

@@ -3,8 +3,8 @@ ghost use Rattle.std.specs.Prelude.{◌≡◌, ◌∷◌, ◌+◌, ◌≤◌, �
 ghost use Rattle.entry.specs.Limits.{key_room, entry_room};
 ghost use Rattle.image.specs.declared.Want.TheVariants.{Key, Entry};
 ghost use Rattle.image.specs.Layout.{head_size};
-ghost use Rattle.image.specs.Reading.{wants, run_end, whole};
-ghost use Rattle.image.specs.Inner.{floor_of, Steps};
+ghost use Rattle.image.specs.Reading.{wants};
+ghost use Rattle.image.specs.Inner.{step_at, walked};
 
 use super::{Head, Want, changes, stop};
 
@@ -22,91 +22,67 @@ fn want_at(h: Head, i: usize) -> Want
     Want::Stop(h.metadata)
 }
 
-// How many bytes the sound record that stands somewhere has, 0 where none does; and after it, whether the next key
-// may be any, or else which it must be above.
+// A sound record: how many bytes it has, and which key the next must be above; it may be any where there is none yet.
 #[derive(Clone, Copy)]
 pub struct Step {
     pub size: usize,
-    pub any: bool,
-    pub before: u64,
+    pub above: Option<u64>,
 }
 
-fn key_at(s: &[u8], at: usize, any: bool, before: u64) -> Step
+fn key_at(s: &[u8], at: usize, above: Option<u64>) -> Option<Step>
     requires { at ≤ length s.now }
-    ensures { Steps (floor_of any before) Key (drop at s.now) result.size
-        (floor_of result.any result.before) }
+    ensures { result ≡ step_at above Key (drop at s.now) }
 {
-    let seen = changes::change_at(s, at, super::KEY_MARK);
-    Step {
-        size: stop::if_fine(seen.sound & (any | (before < seen.key)), super::CHANGE),
-        any: false,
-        before: seen.key,
-    }
+    let key = changes::change_at(s, at, super::KEY_MARK)?;
+    let step = Step {
+        size: super::CHANGE,
+        above: Some(key),
+    };
+    above.is_none_or(|before| before < key).then_some(step)
 }
 
-fn entry_at(s: &[u8], at: usize, any: bool, before: u64) -> Step
+fn entry_at(s: &[u8], at: usize, above: Option<u64>) -> Option<Step>
     requires { at ≤ length s.now }
-    ensures { Steps (floor_of any before) Entry (drop at s.now) result.size
-        (floor_of result.any result.before) }
+    ensures { result ≡ step_at above Entry (drop at s.now) }
 {
-    let seen = changes::change_at(s, at, super::ENTRY_MARK);
-    Step {
-        size: stop::if_fine(seen.sound, super::CHANGE),
-        any,
-        before,
-    }
+    changes::change_at(s, at, super::ENTRY_MARK)?;
+    Some(Step {
+        size: super::CHANGE,
+        above,
+    })
 }
 
-fn record_at(s: &[u8], at: usize, want: Want, any: bool, before: u64) -> Step
+fn record_at(s: &[u8], at: usize, want: Want, above: Option<u64>) -> Option<Step>
     requires { at ≤ length s.now }
-    ensures { Steps (floor_of any before) want (drop at s.now) result.size
-        (floor_of result.any result.before) }
+    ensures { result ≡ step_at above want (drop at s.now) }
 {
     match want {
-        Want::Key => key_at(s, at, any, before),
-        Want::Entry => entry_at(s, at, any, before),
-        Want::Stop(metadata) => Step {
-            size: stop::stop_at(s, at, metadata),
-            any,
-            before,
-        },
+        Want::Key => key_at(s, at, above),
+        Want::Entry => entry_at(s, at, above),
+        Want::Stop(metadata) => {
+            let size = stop::stop_at(s, at, metadata)?;
+            Some(Step { size, above })
+        }
     }
 }
 
-// Where the leading sound records end, and whether they are all that is wanted and all that is there.
-#[derive(Clone, Copy)]
-pub struct Walked {
-    pub end: usize,
-    pub whole: bool,
-}
-
-pub(crate) fn walk(s: &[u8], h: Head) -> Walked
+// Whether the records behind a header are all that it wants and all that is there; where not, the error says where the
+// leading sound ones end.
+pub(crate) fn walk(s: &[u8], h: Head) -> Result<(), usize>
     requires head_size_in_bounds { head_size ≤ length s.now }
     requires keys_le_key_room { (h.keys ≤ key_room) × (h.entries ≤ entry_room) }
-    ensures end_value { result.end ≡ run_end h s.now }
-    ensures whole_value { result.whole ≡ whole h s.now }
+    ensures { result ≡ walked h s.now }
 {
-    let n = h.keys + h.entries + state_cache::inner::one_if(h.stop) as usize;
-    let mut i = 0;
+    let n = h.keys + h.entries + usize::from(h.stop);
     let mut here = super::HEAD;
-    let mut any = true;
-    let mut before = 0;
-    while i < n {
-        let step = record_at(s, here, want_at(h, i), any, before);
-        let size = step.size;
-        if size == 0 {
-            return Walked {
-                end: here,
-                whole: false,
-            };
-        }
-        here += size;
-        any = step.any;
-        before = step.before;
-        i += 1;
+    let mut above = None;
+    for i in 0..n {
+        let step = record_at(s, here, want_at(h, i), above).ok_or(here)?;
+        here += step.size;
+        above = step.above;
     }
-    Walked {
-        end: here,
-        whole: here == s.len(),
+    if here != s.len() {
+        return Err(here);
     }
+    Ok(())
 }

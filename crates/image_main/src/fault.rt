@@ -79,14 +79,14 @@ fn why_stop(bytes: &[u8], at: usize) -> &'static str {
 
 // Which of n records of one kind, the first of which stands at `first`, stands at `at`.
 fn say_place(rt: &impl Print, kind: &str, at: usize, first: usize, n: usize) -> io::Result<()> {
-    let i = state_cache::inner::above(at as u64, first as u64) / image::CHANGE as u64;
+    let i = at.saturating_sub(first) / image::CHANGE;
     print!(rt; "{kind} {} of {n}, at byte {at}, ", i + 1)
 }
 
 // What is wrong at an offset behind a sound header.
 fn explain_record(rt: &impl Print, bytes: &[u8], at: usize, h: Head) -> io::Result<()> {
-    let keys = state_cache::inner::least(h.keys as u64, entry::KEYS as u64) as usize;
-    let entries = state_cache::inner::least(h.entries as u64, entry::ENTRIES as u64) as usize;
+    let keys = h.keys.min(entry::KEYS);
+    let entries = h.entries.min(entry::ENTRIES);
     let keys_end = image::HEAD + keys * image::CHANGE;
     let entries_end = keys_end + entries * image::CHANGE;
     if at < keys_end {

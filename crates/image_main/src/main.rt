@@ -2,8 +2,7 @@
 // record of a bad file is bad, where it stands, and what is wrong with it.
 #![tactic(auto)]
 
-use image::Judged;
-use keep::Loaded;
+use entry::Refusal;
 use std::io;
 use std::rt::{Env, Files};
 
@@ -21,24 +20,21 @@ const LINE: usize = 128;
 enum Task {
     Check,
     Show,
-    Unknown,
 }
 
-fn task_named(word: &[u8]) -> Task {
+fn task_named(word: &[u8]) -> Option<Task> {
     match word {
-        b"check" => Task::Check,
-        b"show" => Task::Show,
-        _ => Task::Unknown,
+        b"check" => Some(Task::Check),
+        b"show" => Some(Task::Show),
+        _ => None,
     }
 }
 
 // What the first argument asks for.
-fn asked(rt: &impl Env) -> Task {
+fn asked(rt: &impl Env) -> Option<Task> {
     let mut word = [0u8; WORD];
-    match rt.arg(1, &mut word) {
-        Ok(n) => task_named(&word[..n]),
-        Err(_) => Task::Unknown,
-    }
+    let n = rt.arg(1, &mut word).ok()?;
+    task_named(&word[..n])
 }
 
 fn usage(rt: &impl Print) -> io::Result<()> {
@@ -46,10 +42,10 @@ fn usage(rt: &impl Print) -> io::Result<()> {
     println!(rt; "image show FILE: what the log holds, or what is wrong with the file")
 }
 
-fn say_judged(rt: &impl Print, judged: Judged) -> io::Result<()> {
+fn say_judged(rt: &impl Print, judged: Result<(), Refusal>) -> io::Result<()> {
     match judged {
-        Judged::Sound => println!(rt; "sound"),
-        Judged::Refused(refusal) => {
+        Ok(()) => println!(rt; "sound"),
+        Err(refusal) => {
             let mut line = [0u8; LINE];
             let n = text::inner::put_refused(
                 &mut line,
@@ -62,22 +58,20 @@ fn say_judged(rt: &impl Print, judged: Judged) -> io::Result<()> {
     }
 }
 
-fn answer(rt: &impl Print, task: Task, bytes: &[u8]) -> io::Result<()> {
+fn answer(rt: &impl Print, task: Option<Task>, bytes: &[u8]) -> io::Result<()> {
     match task {
-        Task::Check => say_judged(rt, image::judge(bytes)),
-        Task::Show => show::show(rt, bytes),
-        Task::Unknown => usage(rt),
+        Some(Task::Check) => say_judged(rt, image::judge(bytes)),
+        Some(Task::Show) => show::show(rt, bytes),
+        None => usage(rt),
     }
 }
 
 // A byte more than the longest image is read, and no further: what comes after it changes no verdict.
-fn answer_file(rt: &(impl Files + Print), task: Task, path: &[u8]) -> io::Result<()> {
+fn answer_file(rt: &(impl Files + Print), task: Option<Task>, path: &[u8]) -> io::Result<()> {
     let mut bytes = [0u8; image::ROOM + 1];
-    let loaded = keep::load(rt, path, &mut bytes);
-    match loaded {
-        Loaded::Bytes(n) => answer(rt, task, &bytes[..n]),
-        Loaded::Missing => println!(rt; "no such file"),
-        Loaded::Unread => println!(rt; "the file cannot be read"),
+    match keep::load(rt, path, &mut bytes) {
+        Ok(n) => answer(rt, task, &bytes[..n]),
+        Err(e) => println!(rt; "{e}"),
     }
 }
 

@@ -1,7 +1,7 @@
 // What a log holds, as a person on call reads it.
 use super::fault;
-use entry::{Ballot, Refusal, StopSign};
-use state_cache::{IndexAnswer, IndexRecord};
+use entry::{Ballot, LogIndex, Refusal, StopSign};
+use state_cache::IndexRecord;
 use std::io;
 
 // The bytes that the lines of a full log may have.
@@ -34,54 +34,42 @@ fn say_changes(
     rt.write_all(&out[..used])
 }
 
-fn say_nodes(rt: &impl Print, nodes: [u64; entry::NODES], count: usize) -> io::Result<()> {
+fn say_nodes(rt: &impl Print, nodes: &[u64]) -> io::Result<()> {
     print!(rt; "nodes")?;
-    let n = state_cache::inner::least(count as u64, entry::NODES as u64) as usize;
-    for node in &nodes[..n] {
+    for node in nodes {
         print!(rt; " {node}")?;
     }
     println!(rt; "")
 }
 
-fn say_metadata(
-    rt: &impl Print,
-    held: bool,
-    bytes: [u8; entry::METADATA],
-    used: usize,
-) -> io::Result<()> {
-    if !held {
+fn say_metadata(rt: &impl Print, metadata: Option<&[u8]>) -> io::Result<()> {
+    let Some(bytes) = metadata else {
         return println!(rt; "no metadata");
-    }
+    };
     print!(rt; "metadata")?;
-    let n = state_cache::inner::least(used as u64, entry::METADATA as u64) as usize;
-    for byte in &bytes[..n] {
+    for byte in bytes {
         print!(rt; " {byte}")?;
     }
     println!(rt; "")
 }
 
-fn say_stop(rt: &impl Print, held: bool, decided: bool, stop: StopSign) -> io::Result<()> {
-    if !held {
+fn say_stop(rt: &impl Print, sign: Option<StopSign>, decided: bool) -> io::Result<()> {
+    let Some(stop) = sign else {
         return println!(rt; "no stop-sign");
-    }
-    print!(rt; "stop-sign {}", stop.config_id)?;
-    if decided {
-        println!(rt; ", decided")?;
-    } else {
-        println!(rt; ", undecided")?;
-    }
-    let nodes = stop.nodes;
-    let metadata = stop.metadata;
-    say_nodes(rt, nodes, stop.node_count)?;
-    say_metadata(rt, stop.metadata_held, metadata, stop.metadata_len)
+    };
+    let word = if decided { "decided" } else { "undecided" };
+    println!(rt; "stop-sign {}, {word}", stop.config_id)?;
+    say_nodes(rt, &stop.nodes[..stop.node_count.min(entry::NODES)])?;
+    let bytes = &stop.metadata[..stop.metadata_len.min(entry::METADATA)];
+    say_metadata(rt, stop.metadata_held.then_some(bytes))
 }
 
-// What a snapshot says is decided.
-fn say_snapshot(rt: &impl Print, held: bool, words: &[u64], keys: usize) -> io::Result<()> {
-    if held {
-        return say_changes(rt, "keys", words, keys, keys);
+// What a snapshot, of so many keys, says is decided.
+fn say_snapshot(rt: &impl Print, words: &[u64], keys: Option<usize>) -> io::Result<()> {
+    match keys {
+        Some(n) => say_changes(rt, "keys", words, n, n),
+        None => println!(rt; "no snapshot"),
     }
-    println!(rt; "no snapshot")
 }
 
 fn say_flag(rt: &impl Print, held: bool, name: &str) -> io::Result<()> {
@@ -92,18 +80,17 @@ fn say_flag(rt: &impl Print, held: bool, name: &str) -> io::Result<()> {
 }
 
 fn say_flags(rt: &impl Print, index: IndexRecord) -> io::Result<()> {
-    let stop = index.stop;
     print!(rt; "flags:")?;
     say_flag(rt, index.snapshot_held, "snapshot")?;
     say_flag(rt, index.stop_held, "stop-sign")?;
-    say_flag(rt, stop.metadata_held, "metadata")?;
+    say_flag(rt, index.stop.metadata_held, "metadata")?;
     println!(rt; "")
 }
 
 fn say_index(
     rt: &impl Print,
     index: IndexRecord,
-    accepted: u64,
+    accepted: LogIndex,
     log: &[u64],
     snapshot: &[u64],
 ) -> io::Result<()> {
@@ -112,16 +99,14 @@ fn say_index(
     say_flags(rt, index)?;
     println!(rt; "compacted {compacted}")?;
     println!(rt; "decided {decided}")?;
-    println!(rt; "accepted {accepted}")?;
-    let promise = index.promise;
-    let round = index.accepted_round;
-    say_ballot(rt, "promise", promise)?;
-    say_ballot(rt, "accepted round", round)?;
-    say_snapshot(rt, index.snapshot_held, snapshot, index.keys)?;
-    let told = state_cache::inner::above(decided, compacted);
-    say_changes(rt, "entries", log, index.retained, told as usize)?;
-    let stop = index.stop;
-    say_stop(rt, index.stop_held, decided == accepted, stop)
+    println!(rt; "accepted {}", accepted.0)?;
+    say_ballot(rt, "promise", index.promise)?;
+    say_ballot(rt, "accepted round", index.accepted_round)?;
+    say_snapshot(rt, snapshot, index.snapshot_held.then_some(index.keys))?;
+    let told = decided.saturating_sub(compacted) as usize;
+    say_changes(rt, "entries", log, index.retained, told)?;
+    let sign = index.stop_held.then_some(index.stop);
+    say_stop(rt, sign, index.decided == accepted)
 }
 
 fn say_refused(rt: &impl Print, refusal: Refusal, bytes: &[u8]) -> io::Result<()> {
@@ -134,11 +119,8 @@ fn say_refused(rt: &impl Print, refusal: Refusal, bytes: &[u8]) -> io::Result<()
 pub(crate) fn show(rt: &impl Print, bytes: &[u8]) -> io::Result<()> {
     let mut log = [0u64; entry::LOG_WORDS];
     let mut snapshot = [0u64; entry::SNAPSHOT_WORDS];
-    let read = image::read(0, bytes, &mut log, &mut snapshot);
-    let index = read.index;
-    let answer = read.answer;
-    match answer {
-        IndexAnswer::At(accepted) => say_index(rt, index, accepted.0, &log, &snapshot),
-        IndexAnswer::Refused(refusal) => say_refused(rt, refusal, bytes),
+    match image::read(0, bytes, &mut log, &mut snapshot) {
+        Ok((index, accepted)) => say_index(rt, index, accepted, &log, &snapshot),
+        Err(refusal) => say_refused(rt, refusal, bytes),
     }
 }

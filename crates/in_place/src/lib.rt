@@ -1,5 +1,5 @@
 // Module 10: the host keeps one index record, and decide and trim alter it where it stands. Each is the call by value
-// on the record that is there, and what it hands back is stored.
+// on the record that is there, and what it hands back is stored; where it is refused that record stays.
 #![tactic(auto)]
 
 ghost use Rattle.std.specs.Prelude.{◌≡◌, true};
@@ -9,8 +9,8 @@ ghost use Rattle.model.specs.Calls.{decide, compact};
 ghost use Rattle.state_cache.specs.State.{raw};
 ghost use Rattle.state_cache.specs.Run.{outcome, run, settled};
 
-use entry::{Compaction, LogIndex, Upto};
-use state_cache::{IndexRecord, Settled};
+use entry::{Compaction, LogIndex, Refusal};
+use state_cache::IndexRecord;
 
 // `internal_storage::set_decided_idx` on the record where it stands.
 pub fn set_decided_idx(
@@ -18,22 +18,25 @@ pub fn set_decided_idx(
     log: &[u64],
     snapshot: &[u64],
     idx: LogIndex,
-) -> Settled
+) -> Result<(), Refusal>
     ensures { outcome (settled result) (raw held.new log.now snapshot.now)
         ≡ run (decide idx.0) true (raw held.old log.now snapshot.now) }
 {
-    let decided = internal_storage::set_decided_idx(*held, log, snapshot, idx);
-    *held = decided.index;
-    decided.answer
+    *held = internal_storage::set_decided_idx(*held, log, snapshot, idx)?;
+    Ok(())
 }
 
 // `compaction::compact` on the record where it stands, told to trim.
-pub fn trim(held: &mut IndexRecord, log: &mut [u64], snapshot: &mut [u64], upto: Upto) -> Settled
+pub fn trim(
+    held: &mut IndexRecord,
+    log: &mut [u64],
+    snapshot: &mut [u64],
+    upto: Option<LogIndex>,
+) -> Result<(), Refusal>
     ensures { outcome (settled result) (raw held.new log.new snapshot.new)
         ≡ run (compact Trim (upto_of upto)) true
         (raw held.old log.old snapshot.old) }
 {
-    let trimmed = compaction::compact(*held, log, snapshot, Compaction::Trim, upto);
-    *held = trimmed.index;
-    trimmed.answer
+    *held = compaction::compact(*held, log, snapshot, Compaction::Trim, upto)?;
+    Ok(())
 }

@@ -24,7 +24,8 @@ pub slice-run : (c : Call) (ws : List ℕ) (r : Raw) → slice_formed ws ≡ tru
 unfolding slice_formed
 slice-run c ws r e = ap (λ (t : Bool). run c t r) (sym (and_left (whole_in ws) _ e))
 
-pub slice_appends : (ws : List ℕ) (r : Raw) → formed r ≡ true → slice_formed ws ≡ true → Appends r (length ws / width) ws
+pub slice_appends : (ws : List ℕ) (r : Raw) → formed r ≡ true → slice_formed ws ≡ true → Appends r (length ws / width)
+    ws
 slice_appends ws r ok e =
     record { ready = ready_of r ok; whole = omega (arith, slice_whole ws e); fine = slice_fine ws e }
 

@@ -1,30 +1,32 @@
 -- What each call of the model does to a lent state that stands for its log: the record and the words after it.
-use Rattle.words.proofs.Prelude.{arith, ◌≡◌, refl, sym, ap, ap₂, ◌∙◌, ℕ, ◌+◌, ◌*◌, ◌≤◌, Bool, true, false, ◌&&◌, not}
+use Rattle.words.proofs.Prelude.{arith, ◌≡◌, refl, sym, ap, ap₂, ◌∙◌, ℕ, ◌+◌, ◌*◌, ◌≤◌, Bool, true, false}
 use Rattle.words.proofs.Prelude.{eqb, leb, ltb-false, if◌then◌else◌, Option, none, some, List, [], append-nil}
 use Rattle.words.proofs.Prelude.{append_assoc, ◌++◌, length-append, length, take, take_all}
+use Rattle.std.specs.Prelude.{Option as Optional, Some, None, Result, Ok, Err, is_some, unwrap_or}
 use Rattle.words.specs.{Words.laid, Words.spliced, Coded.words_of}
 use Rattle.words.proofs.CodedLaws.{spliced_append, spliced_before, words_entries, entries_length}
 use Rattle.entry.specs.{Limits.width, Limits.entry_room, Limits.log_words, Change.Change, Change.change_code}
-use Rattle.entry.specs.{Change.entries_formed, Change.entries_of, Change.stored, Sign.sign_if, Sign.sign_formed}
+use Rattle.entry.specs.{Change.entries_formed, Change.entries_of, Change.stored, Sign.sign_formed, Sign.no_sign}
 use Rattle.entry.specs.{Guards.Guard, Guards.Verdict, Guards.passes, Guards.refuses, Guards.first, Guards.Answer}
-use Rattle.entry.specs.{Guards.refused, Guards.replied, declared.Ballot.Ballot, declared.StopSign.StopSign}
+use Rattle.entry.specs.{Guards.refused, Guards.replied, Guards.settle, declared.Ballot.Ballot}
+use Rattle.entry.specs.{declared.LogIndex.LogIndex, declared.Refusal.Refusal, declared.StopSign.StopSign}
 use Rattle.entry.proofs.{ChangeLaws.change_ok, GuardLaws.passed}
 use Rattle.model.specs.Numbers.{Numbers, accepted_of}
-use Rattle.model.specs.Log.{Log, if_given, numbers_of, waiting, with_tail}
+use Rattle.model.specs.Log.{Log, given, if_given, numbers_of, waiting, with_tail}
 use Rattle.model.specs.Append.{Flushed, append_guards, append_stop_guards, set_stop_guards, joined, batch_with, fills}
 use Rattle.model.specs.Append.{appended, appended_now, flushed, stop_appended, stop_set, append_reply, flush_reply}
 use Rattle.model.specs.Calls.{Call, Reply, append, append_now, flush, flush_entries, append_stop, set_stop, set_promise}
-use Rattle.model.specs.Calls.{decide, malformed, further, effect, reply_of}
-use Rattle.model.specs.Inner.{Sound}
-use Rattle.state_cache.specs.{State.Raw, State.raw, State.numbers_in, State.formed, State.log_of, Inner.Small}
-use Rattle.state_cache.specs.{Inner.with_entries, Inner.with_stop, Inner.with_decided, Inner.with_promise, Run.Outcome}
-use Rattle.state_cache.specs.{Run.outcome, Run.run, declared.IndexRecord.IndexRecord}
-use Rattle.state_cache.proofs.{Small.sound_small, Stands.Stands, Stands.stands_of, Stands.numbers_are}
-use Rattle.state_cache.proofs.{Stands.log_formed, Stands.given_by, Stands.sign_by, Runs.bad_call, Runs.call_refused}
-use Rattle.state_cache.proofs.{Runs.call_stands, Changes.held_length, Changes.log_spliced}
-use Rattle.internal_storage.specs.Replies.{append_said, asked, index_only, with_index_only}
-use Rattle.internal_storage.specs.Inner.{Indexed, indexed, by_numbers, flushed_at, held_at, batched_with, all_flushed}
-use Rattle.internal_storage.specs.Inner.{flush_says}
+use Rattle.model.specs.Calls.{decide, decide_guards, malformed, further, effect, reply_of}
+use Rattle.state_cache.specs.{State.Raw, State.raw, State.numbers_in, State.formed, State.log_of, State.sign_or}
+use Rattle.state_cache.specs.{Inner.with_entries, Inner.with_stop, Inner.with_decided, Inner.with_promise}
+use Rattle.state_cache.specs.{Run.Outcome, Run.outcome, Run.run, Run.changed, Run.changed_at, Run.index_at}
+use Rattle.state_cache.specs.declared.IndexRecord.{IndexRecord}
+use Rattle.state_cache.proofs.{Stands.Stands, Stands.stands_of, Stands.numbers_are}
+use Rattle.state_cache.proofs.{Stands.log_formed, Runs.call_refused, Runs.call_stands, Changes.held_length}
+use Rattle.state_cache.proofs.{Changes.log_spliced}
+use Rattle.internal_storage.specs.Replies.{flushed_is, sign_is}
+use Rattle.internal_storage.specs.Inner.{next_said, next_at, flushed_at, held_at, batched_with, all_flushed, flush_says}
+use Rattle.internal_storage.specs.declared.Flushed.{Flushed as CodeFlushed}
 
 module _ (r : Raw) (ok : formed r ≡ true) where
   abbrev s : Log
@@ -36,32 +38,36 @@ module _ (r : Raw) (ok : formed r ≡ true) where
   pub numbers : numbers_of s ≡ numbers_in r.index
   numbers = numbers_are s r st
 
-  -- a call whose refusals are a function of the numbers
+  -- the outcome of a call that moves no word, by the record after it and its reply
+  abbrev came : {B : Type 0} → Answer (IndexRecord × B) → Outcome B
+  came (replied p) = outcome (replied p.1) (raw p.0 r.log r.snapshot)
+  came (refused n k) = outcome (refused n k) r
+
+  -- one whose refusals are a function of the numbers
   module _ (c : Call) (gs : Numbers → List Guard) (same : further c s ≡ gs (numbers_of s))
       (m : malformed c ≡ false) where
     here : first (further c s) ≡ first (gs (numbers_in r.index))
     here = ap first same ∙ ap (λ (n : Numbers). first (gs n)) numbers
 
-    -- one that moves no word
     pub numbers_run : (y : Reply c) (next : IndexRecord)
         → (passes ≡ first (gs (numbers_in r.index)) → (y ≡ reply_of c s)
         × Stands (effect c s) (raw next r.log r.snapshot))
-        → (a : Answer (Reply c)) (x : IndexRecord)
-        → indexed a x ≡ by_numbers (first (gs (numbers_in r.index))) y next r.index
-        → outcome a (raw x r.log r.snapshot) ≡ run c true r
-    numbers_run y next stands a x e = go (first (gs (numbers_in r.index))) refl
+        → (a : Answer (IndexRecord × Reply c)) → a ≡ settle (first (gs (numbers_in r.index))) (next, y)
+        → came a ≡ run c true r
+    numbers_run y next stands a e = ap came e ∙ go (first (gs (numbers_in r.index))) refl
       where
-        told : (v : Verdict) → first (gs (numbers_in r.index)) ≡ v
-            → outcome a (raw x r.log r.snapshot)
-            ≡ outcome (by_numbers v y next r.index).answer
-            (raw (by_numbers v y next r.index).index r.log r.snapshot)
-        told v q = ap (λ (z : Indexed (Reply c)). outcome z.answer (raw z.index r.log r.snapshot))
-            (e ∙ ap (λ (u : Verdict). by_numbers u y next r.index) q)
+        go : (v : Verdict) → first (gs (numbers_in r.index)) ≡ v → came (settle v (next, y)) ≡ run c true r
+        go passes q = let t = stands (sym q) in call_stands c r ok m (sym (here ∙ q)) y _ t.0 t.1
+        go (refuses n k) q = call_refused c r ok m n k (sym (here ∙ q))
 
-        go : (v : Verdict) → first (gs (numbers_in r.index)) ≡ v
-            → outcome a (raw x r.log r.snapshot) ≡ run c true r
-        go passes q = let t = stands (sym q) in told passes q ∙ call_stands c r ok m (sym (here ∙ q)) y _ t.0 t.1
-        go (refuses n k) q = told (refuses n k) q ∙ call_refused c r ok m n k (sym (here ∙ q))
+    pub numbers_run_at : {A : Type 0} (f : A → Reply c) (y : Reply c) (next : IndexRecord)
+        → (passes ≡ first (gs (numbers_in r.index)) → (y ≡ reply_of c s)
+        × Stands (effect c s) (raw next r.log r.snapshot))
+        → (a : Result (IndexRecord × A) Refusal)
+        → next_at f a ≡ settle (first (gs (numbers_in r.index))) (next, y)
+        → changed_at f r.index a r.log r.snapshot ≡ run c true r
+    numbers_run_at f y next stands (Ok p) e = numbers_run y next stands _ e
+    numbers_run_at f y next stands (Err x) e = numbers_run y next stands _ e
 
   -- a call with no refusal of its own
   pub quiet_stands : (c : Call) → further c s ≡ [] → malformed c ≡ false → (y : Reply c) (x : Raw) → y ≡ reply_of c s
@@ -81,6 +87,15 @@ module _ (r : Raw) (ok : formed r ≡ true) where
     log = st.log;
     snapshot = st.snapshot;
   }
+
+  pub decide_run : (i : LogIndex) (a : Result IndexRecord Refusal)
+      → next_said a ≡ settle (first (decide_guards i.0 (numbers_in r.index))) (with_decided i r.index, tt)
+      → changed r.index a r.log r.snapshot ≡ run (decide i.0) true r
+  unfolding further malformed reply_of
+  decide_run i (Ok x) e =
+      numbers_run (decide i.0) (decide_guards i.0) refl refl tt _ (λ q. (refl, decided_stands i.0)) _ e
+  decide_run i (Err x) e =
+      numbers_run (decide i.0) (decide_guards i.0) refl refl tt _ (λ q. (refl, decided_stands i.0)) _ e
 
   pub promised_stands : (b : Ballot)
       → Stands (effect (set_promise b) s) (raw (with_promise b r.index) r.log r.snapshot)
@@ -125,17 +140,30 @@ module _ (r : Raw) (ok : formed r ≡ true) where
         snapshot = f.snapshot;
       }
 
-  pub stop_set_stands : (held : Bool) (g : StopSign)
-      → Stands (stop_set (asked held g) s) (raw (with_stop held (sign_if held g) r.index) r.log r.snapshot)
+  pub stop_set_stands : (g : Option StopSign)
+      → Stands (stop_set g s) (raw (with_stop (given g) (sign_or g) r.index) r.log r.snapshot)
   unfolding stop_set
-  stop_set_stands held g = record {
+  stop_set_stands g = record {
     run = st.run;
-    tail =
-        record { count = st.tail.count; sized = st.tail.sized; stopped = given_by held g; sign = sign_by held g };
+    tail = record { count = st.tail.count; sized = st.tail.sized; stopped = refl; sign = refl };
     marks = st.marks;
     log = st.log;
     snapshot = st.snapshot;
   }
+
+  set_run : (g : Option StopSign) → if_given sign_formed g ≡ true → (a : Result (IndexRecord × LogIndex) Refusal)
+      → next_at index_at a ≡ settle (first (set_stop_guards (given g) (numbers_in r.index)))
+      (with_stop (given g) (sign_or g) r.index, accepted_of (numbers_in (with_stop (given g) (sign_or g) r.index)))
+      → changed_at index_at r.index a r.log r.snapshot ≡ run (set_stop g) true r
+  unfolding further malformed effect reply_of
+  set_run g fine a e =
+      numbers_run_at (set_stop g) (set_stop_guards (given g)) refl (rw fine) index_at _
+      (with_stop (given g) (sign_or g) r.index)
+      (λ q. (
+        ap accepted_of (sym (numbers_are (stop_set g s) (raw (with_stop (given g) (sign_or g) r.index) r.log r.snapshot)
+            (stop_set_stands g))),
+        stop_set_stands g,
+      )) a e
 
   pub flush_says_lem : flush_says r.index ≡ reply_of flush_entries s
   unfolding reply_of flush_reply flush_says
@@ -144,12 +172,12 @@ module _ (r : Raw) (ok : formed r ≡ true) where
       (ap accepted_of
       (sym (numbers_are (flushed s) (raw (all_flushed r.index) r.log r.snapshot) flushed_stands)))
 
-  pub flush_entries_run : (a : Answer (Option Flushed)) (x : IndexRecord) → a ≡ replied (flush_says r.index)
+  pub flush_entries_run : (a : Optional CodeFlushed) (x : IndexRecord) → flushed_is a ≡ flush_says r.index
       → x ≡ all_flushed r.index
-      → outcome a (raw x r.log r.snapshot) ≡ run flush_entries true r
+      → outcome (replied (flushed_is a)) (raw x r.log r.snapshot) ≡ run flush_entries true r
   unfolding further malformed effect
   flush_entries_run a x e p =
-      ap₂ (λ (b : Answer (Option Flushed)) (z : IndexRecord). outcome b (raw z r.log r.snapshot)) e p
+      ap₂ (λ (b : Option Flushed) (z : IndexRecord). outcome (replied b) (raw z r.log r.snapshot)) e p
       ∙ quiet_stands flush_entries refl refl (flush_says r.index)
       (raw (all_flushed r.index) r.log r.snapshot) flush_says_lem flushed_stands
 
@@ -163,45 +191,24 @@ module _ (r : Raw) (ok : formed r ≡ true) where
       (sym (numbers_are (flushed s) (raw (all_flushed r.index) r.log r.snapshot) flushed_stands)))
       flushed_stands
 
-  pub append_stop_run : (g : StopSign) → sign_formed g ≡ true → (a : Answer (Option Flushed)) (x : IndexRecord)
-      → indexed a x ≡ by_numbers (first (append_stop_guards (numbers_in r.index))) (flush_says r.index)
-      (with_stop true g (all_flushed r.index)) r.index
-      → outcome a (raw x r.log r.snapshot) ≡ run (append_stop g) true r
+  pub append_stop_run : (g : StopSign) → sign_formed g ≡ true
+      → (a : Result (IndexRecord × Optional CodeFlushed) Refusal)
+      → next_at flushed_is a ≡ settle (first (append_stop_guards (numbers_in r.index)))
+      (with_stop true g (all_flushed r.index), flush_says r.index)
+      → changed_at flushed_is r.index a r.log r.snapshot ≡ run (append_stop g) true r
   unfolding further malformed effect reply_of
-  append_stop_run g fine a x e =
-      numbers_run (append_stop g) append_stop_guards refl (rw fine) (flush_says r.index)
-      (with_stop true g (all_flushed r.index)) (λ q. (flush_says_lem, stop_stands g)) a x e
+  append_stop_run g fine a e =
+      numbers_run_at (append_stop g) append_stop_guards refl (rw fine) flushed_is (flush_says r.index)
+      (with_stop true g (all_flushed r.index)) (λ q. (flush_says_lem, stop_stands g)) a e
 
-  module _ (held : Bool) (g : StopSign) where
-    set_malformed : malformed (set_stop (asked held g)) ≡ (held && not (sign_formed g))
-    unfolding malformed
-    set_malformed = go held
-      where
-        go : (t : Bool) → not (if_given sign_formed (asked t g)) ≡ (t && not (sign_formed g))
-        go true = refl
-        go false = refl
-
-    pub set_stop_bad : (held && not (sign_formed g)) ≡ true
-        → outcome (refused 11 0) r ≡ run (set_stop (asked held g)) true r
-    set_stop_bad e = bad_call (set_stop (asked held g)) r ok (set_malformed ∙ e)
-
-    pub set_stop_run : (held && not (sign_formed g)) ≡ false → (k : StopSign) → k ≡ sign_if held g
-        → (a : Answer ℕ) (x : IndexRecord)
-        → indexed a x ≡ by_numbers (first (set_stop_guards held (numbers_in r.index)))
-        (accepted_of (numbers_in (with_stop held k r.index))) (with_stop held k r.index) r.index
-        → outcome a (raw x r.log r.snapshot) ≡ run (set_stop (asked held g)) true r
-    unfolding further effect reply_of
-    set_stop_run m k is a x e =
-        let set : Stands (stop_set (asked held g) s) (raw (with_stop held k r.index) r.log r.snapshot) =
-        rw is (stop_set_stands held g) in
-        numbers_run (set_stop (asked held g)) (set_stop_guards held)
-        (ap (λ (t : Bool). set_stop_guards t (numbers_of s)) (given_by held g)) (set_malformed ∙ m)
-        (accepted_of (numbers_in (with_stop held k r.index))) (with_stop held k r.index)
-        (λ q. (
-          ap accepted_of (sym (numbers_are (stop_set (asked held g) s)
-              (raw (with_stop held k r.index) r.log r.snapshot) set)),
-          set,
-        )) a x e
+  pub set_stop_run : (ss : Optional StopSign) → if_given sign_formed (sign_is ss) ≡ true
+      → (a : Result (IndexRecord × LogIndex) Refusal)
+      → (let next = with_stop (is_some ss) (unwrap_or ss no_sign) r.index in
+      next_at index_at a ≡ settle (first (set_stop_guards (is_some ss) (numbers_in r.index)))
+      (next, accepted_of (numbers_in next)))
+      → changed_at index_at r.index a r.log r.snapshot ≡ run (set_stop (sign_is ss)) true r
+  set_stop_run None fine a e = set_run none refl a e
+  set_stop_run (Some g) fine a e = set_run (some g) fine a e
 
   -- ---- entries put into the log's words
 
@@ -210,7 +217,8 @@ module _ (r : Raw) (ok : formed r ≡ true) where
     es = entries_of n entries
 
     coded : entries ≡ words_of change_code es
-    coded = sym (words_entries change_code change_ok n entries (omega arith) ∙ take_all (n * width) entries (omega arith))
+    coded = sym (words_entries change_code change_ok n entries (omega arith)
+        ∙ take_all (n * width) entries (omega arith))
 
     many : length es ≡ n
     many = entries_length change_code n entries
@@ -259,18 +267,18 @@ module _ (r : Raw) (ok : formed r ≡ true) where
       fills_is = rw (batch_count, st.tail.sized)
 
       flush_effect : fills es s ≡ true
-          → Stands (effect (append es) s) (raw (flushed_at n r.index).index words r.snapshot)
+          → Stands (effect (append es) s) (raw (flushed_at n r.index).0 words r.snapshot)
       unfolding effect appended
       flush_effect e = rw e flushed_all
 
       hold_effect : fills es s ≡ false
-          → Stands (effect (append es) s) (raw (held_at n r.index).index words r.snapshot)
+          → Stands (effect (append es) s) (raw (held_at n r.index).0 words r.snapshot)
       unfolding effect appended
       hold_effect e = rw e held_all
 
       abbrev flush_told : Option Flushed
       flush_told = some
-          (record { accepted = accepted_of (numbers_in (flushed_at n r.index).index); count = r.index.batched + n })
+          (record { accepted = accepted_of (numbers_in (flushed_at n r.index).0); count = r.index.batched + n })
 
       flush_reply_lem : fills es s ≡ true → flush_told ≡ reply_of (append es) s
       unfolding reply_of append_reply appended
@@ -278,7 +286,7 @@ module _ (r : Raw) (ok : formed r ≡ true) where
           rw e
           (ap₂ (λ (a k : ℕ). some (record { accepted = a; count = k }))
           (ap accepted_of (sym (numbers_are (joined (batch_with es s) [] s)
-          (raw (flushed_at n r.index).index words r.snapshot) flushed_all)))
+          (raw (flushed_at n r.index).0 words r.snapshot) flushed_all)))
           (sym batch_count))
 
       hold_reply : fills es s ≡ false → none ≡ reply_of (append es) s
@@ -294,19 +302,19 @@ module _ (r : Raw) (ok : formed r ≡ true) where
         unfolding further
         stands = rw (many, numbers) pass
 
-        pub append_run : outcome (append_said (batched_with n r.index).answer)
-            (raw (batched_with n r.index).index words r.snapshot) ≡ run (append es) true r
+        pub append_run : outcome (replied (flushed_is (batched_with n r.index).1))
+            (raw (batched_with n r.index).0 words r.snapshot) ≡ run (append es) true r
         unfolding batched_with
         append_run = go (leb r.index.batch_size (r.index.batched + n)) fills_is
           where
             go : (t : Bool) → fills es s ≡ t
-                → outcome (append_said (if t then flushed_at n r.index else held_at n r.index).answer)
-                (raw (if t then flushed_at n r.index else held_at n r.index).index words r.snapshot)
+                → outcome (replied (flushed_is (if t then flushed_at n r.index else held_at n r.index).1))
+                (raw (if t then flushed_at n r.index else held_at n r.index).0 words r.snapshot)
                 ≡ run (append es) true r
             go true e = call_stands (append es) r ok bad stands flush_told
-                (raw (flushed_at n r.index).index words r.snapshot) (flush_reply_lem e) (flush_effect e)
+                (raw (flushed_at n r.index).0 words r.snapshot) (flush_reply_lem e) (flush_effect e)
             go false e = call_stands (append es) r ok bad stands none
-                (raw (held_at n r.index).index words r.snapshot) (hold_reply e) (hold_effect e)
+                (raw (held_at n r.index).0 words r.snapshot) (hold_reply e) (hold_effect e)
 
     -- before the batch
     module _ (put : words ≡ laid (length r.log) (spliced (r.index.retained * width) 0 entries
@@ -364,23 +372,12 @@ pub append_room : (k : ℕ) (n : Numbers) → passes ≡ first (append_guards k 
 unfolding append_guards
 append_room k n e = ltb-false entry_room (n.retained + n.batched + k) (passed (append_guards k n) (sym e)).1.1.0
 
--- the numbers of a flushed record are small, and what a flush says of a batch that is not empty
-pub flushed_small : (x : IndexRecord) → Sound (numbers_in x) → (y : IndexRecord) → y ≡ all_flushed x → Small (numbers_in y)
-flushed_small x s y e =
-    rw e
-    (record { few = omega (arith, s.room); waiting = omega arith; low = (sound_small (numbers_in x) s).low })
-
+-- what a flush says of a batch that is not empty
 pub flush_answered : (x y : IndexRecord) (a : ℕ) → eqb x.batched 0 ≡ false → y ≡ all_flushed x
     → a ≡ accepted_of (numbers_in y)
-    → replied (some (record { accepted = a; count = x.batched })) ≡ replied (flush_says x)
+    → some (record { accepted = a; count = x.batched }) ≡ flush_says x
 unfolding flush_says
 flush_answered x y a t e p =
     rw t
-    (ap (λ (k : ℕ). replied (some (record { accepted = k; count = x.batched })))
+    (ap (λ (k : ℕ). some (record { accepted = k; count = x.batched }))
     (p ∙ ap (λ (z : IndexRecord). accepted_of (numbers_in z)) e))
-
--- an outcome that tells of a flush the accepted index alone
-pub index_told : (a : Answer (Option ℕ)) (b : Answer (Option Flushed)) (r : Raw) (o : Outcome (Option Flushed))
-    → a ≡ index_only b → outcome b r ≡ o
-    → outcome a r ≡ with_index_only o
-index_told a b r o e q = ap (λ (x : Answer (Option ℕ)). outcome x r) e ∙ ap with_index_only q

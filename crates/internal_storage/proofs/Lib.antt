@@ -1,4 +1,4 @@
-pub mod Numbered
 pub mod Effects
 pub mod Arguments
 pub mod Unique
+pub mod Verdicts

@@ -1,46 +1,40 @@
 -- What the inner functions say: the first refusal of numbers, a call that moves no word, and what a batch comes to.
 use Rattle.std.specs.Prelude.{ℕ, ◌+◌, ◌*◌, ◌≡◌, true, List, leb, eqb, length, if◌then◌else◌}
+use Rattle.std.specs.Prelude.{Option as Optional, Some, None, Result, Ok, Err}
 use Rattle.std.proofs.Math.Option.{Option, none, some}
 use Rattle.entry.specs.Limits.{width}
 use Rattle.entry.specs.Change.{entries_formed, entries_of}
-use Rattle.entry.specs.Guards.{Verdict, passes, refuses, Answer, refused, replied}
+use Rattle.entry.specs.Guards.{Verdict, passes, refuses, Answer, said_by}
 use Rattle.entry.specs.Refusals.{number_of, carried_of}
+use Rattle.entry.specs.declared.Refusal.{Refusal}
 use Rattle.model.specs.Numbers.{accepted_of}
 use Rattle.model.specs.Append.{Flushed}
 use Rattle.state_cache.specs.State.{Raw, numbers_in}
 use Rattle.state_cache.specs.Inner.{Ready, with_entries}
 use Rattle.state_cache.specs.declared.IndexRecord.{IndexRecord}
-use Rattle.internal_storage.specs.declared.inner.Check.{Check}
-use Rattle.internal_storage.specs.declared.inner.Check.TheVariants.{Passed, Refused}
-use Rattle.internal_storage.specs.declared.Appended.TheVariants.{Nothing, Flushed as AppendFlushed}
-use Rattle.internal_storage.specs.declared.AppendedAt.{AppendedAt}
+use Rattle.internal_storage.specs.declared.Flushed.{Flushed as CodeFlushed}
 
-abbrev pub verdict_of : Check → Verdict
-verdict_of Passed = passes
-verdict_of (Refused r) = refuses (number_of r) (carried_of r)
+abbrev pub verdict_of : Result (Unit {0}) Refusal → Verdict
+verdict_of (Ok u) = passes
+verdict_of (Err r) = refuses (number_of r) (carried_of r)
 
--- what a call that moves no word comes to: its answer and the record after it, by the first refusal that applies
-pub record Indexed (A : Type 0) : Type 0 where
-  pub answer : Answer A
-  pub index : IndexRecord
+-- what a call that moves no word says: the record after it, and its reply beside it
+abbrev pub next_said : Result IndexRecord Refusal → Answer (IndexRecord × Unit {0})
+next_said r = said_by (λ (x : IndexRecord). (x, tt)) r
 
-abbrev pub indexed : {A : Type 0} → Answer A → IndexRecord → Indexed A
-indexed a x = record { answer = a; index = x }
+abbrev pub next_at : {A B : Type 0} → (A → B) → Result (IndexRecord × A) Refusal → Answer (IndexRecord × B)
+next_at {A} f r = said_by (λ (p : IndexRecord × A). (p.0, f p.1)) r
 
-abbrev pub by_numbers : {A : Type 0} → Verdict → A → IndexRecord → IndexRecord → Indexed A
-by_numbers passes y next x = indexed (replied y) next
-by_numbers (refuses n k) y next x = indexed (refused n k) x
-
--- the record and the answer once n entries have joined the batch: flushed, all of it, or held
-abbrev pub flushed_at : ℕ → IndexRecord → AppendedAt
+-- the record and the reply once n entries have joined the batch: flushed, all of it, or held
+abbrev pub flushed_at : ℕ → IndexRecord → IndexRecord × Optional CodeFlushed
 flushed_at n x =
     let next : IndexRecord = with_entries (x.retained + (x.batched + n)) 0 x in
-    record { answer = AppendFlushed (record { 0 = accepted_of (numbers_in next) }) (x.batched + n); index = next }
+    (next, Some (record { accepted = record { 0 = accepted_of (numbers_in next) }; entries = x.batched + n }))
 
-abbrev pub held_at : ℕ → IndexRecord → AppendedAt
-held_at n x = record { answer = Nothing; index = with_entries x.retained (x.batched + n) x }
+abbrev pub held_at : ℕ → IndexRecord → IndexRecord × Optional CodeFlushed
+held_at n x = (with_entries x.retained (x.batched + n) x, None)
 
-unfoldable pub batched_with : ℕ → IndexRecord → AppendedAt
+unfoldable pub batched_with : ℕ → IndexRecord → IndexRecord × Optional CodeFlushed
 batched_with n x = if leb x.batch_size (x.batched + n) then flushed_at n x else held_at n x
 
 -- a flush of the whole batch: the record after it, and what was flushed, if anything was

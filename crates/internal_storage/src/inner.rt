@@ -8,47 +8,40 @@ ghost use Rattle.model.specs.Append.{append_guards};
 ghost use Rattle.model.specs.Calls.{append, append_now};
 ghost use Rattle.model.specs.Inner.{Sound};
 ghost use Rattle.state_cache.specs.State.{raw, numbers_in};
-ghost use Rattle.state_cache.specs.Run.{outcome, run, index_said};
-ghost use Rattle.internal_storage.specs.Replies.{append_said};
+ghost use Rattle.state_cache.specs.Run.{run, index_at, changed_at};
+ghost use Rattle.internal_storage.specs.Replies.{flushed_is};
 ghost use Rattle.internal_storage.specs.Inner.{verdict_of, batched_with, Appends};
 
-use super::{Appended, AppendedAt};
+use super::Flushed;
 use entry::{LogIndex, Refusal};
-use state_cache::{IndexAnswer, IndexAnswerAt, IndexRecord};
+use state_cache::IndexRecord;
 
 pub mod append;
 pub mod decide;
 pub mod flush;
 pub mod stop;
 
-// What a call's refusals come to: the first that applies, or none.
-#[derive(Clone, Copy)]
-pub enum Check {
-    Passed,
-    Refused(Refusal),
-}
-
 // Refusals 4, 9 and 1, of n entries more.
-pub fn check_append(index: IndexRecord, n: usize) -> Check
+pub fn check_append(index: IndexRecord, n: usize) -> Result<(), Refusal>
     requires { Sound (numbers_in index) }
     ensures { verdict_of result ≡ first (append_guards n (numbers_in index)) }
 {
     let last = state_cache::inner::accepted(index);
     if index.stop_held {
-        return Check::Refused(Refusal::Stopped(LogIndex(last)));
+        return Err(Refusal::Stopped(LogIndex(last)));
     }
     if entry::LAST_INDEX - (last + index.batched as u64) < n as u64 {
-        return Check::Refused(Refusal::PastLastIndex(LogIndex(last)));
+        return Err(Refusal::PastLastIndex(LogIndex(last)));
     }
     if entry::ENTRIES - (index.retained + index.batched) < n {
-        return Check::Refused(Refusal::NoRoom);
+        return Err(Refusal::NoRoom);
     }
-    Check::Passed
+    Ok(())
 }
 
 // The record once n entries have joined the batch: a batch at or above the batch size is flushed, all of it. No word
 // moves for that.
-pub fn batch_with(index: IndexRecord, n: usize) -> AppendedAt
+pub fn batch_with(index: IndexRecord, n: usize) -> (IndexRecord, Option<Flushed>)
     requires { Sound (numbers_in index) × (index.retained + index.batched + n ≤ entry_room) }
     ensures { result ≡ batched_with n index }
 {
@@ -57,20 +50,14 @@ pub fn batch_with(index: IndexRecord, n: usize) -> AppendedAt
     if index.batch_size <= waiting as u64 {
         next.retained = index.retained + waiting;
         next.batched = 0;
-        let last = state_cache::inner::accepted(next);
-        return AppendedAt {
-            answer: Appended::Flushed {
-                accepted: LogIndex(last),
-                entries: waiting,
-            },
-            index: next,
+        let flushed = Flushed {
+            accepted: LogIndex(state_cache::inner::accepted(next)),
+            entries: waiting,
         };
+        return (next, Some(flushed));
     }
     next.batched = waiting;
-    AppendedAt {
-        answer: Appended::Nothing,
-        index: next,
-    }
+    (next, None)
 }
 
 // Appends n entries in form to a well-formed log, with batching, where no refusal applies.
@@ -80,22 +67,16 @@ pub fn append_at(
     snapshot: &[u64],
     entries: &[u64],
     n: usize,
-) -> AppendedAt
+) -> Result<(IndexRecord, Option<Flushed>), Refusal>
     requires { Appends (raw index log.old snapshot.now) n entries.now }
-    ensures { outcome (append_said result.answer) (raw result.index log.new snapshot.now)
+    ensures { changed_at flushed_is index result log.new snapshot.now
         ≡ run (append (entries_of n entries.now)) true
         (raw index log.old snapshot.now) }
 {
-    let check = check_append(index, n);
-    if let Check::Refused(refusal) = check {
-        return AppendedAt {
-            answer: Appended::Refused(refusal),
-            index,
-        };
-    }
+    check_append(index, n)?;
     let used = (index.retained + index.batched) * entry::WIDTH;
     words::splice(log, used, used, 0, entries);
-    batch_with(index, n)
+    Ok(batch_with(index, n))
 }
 
 // The same without batching: the entries go before the batch.
@@ -105,26 +86,16 @@ pub fn append_now_at(
     snapshot: &[u64],
     entries: &[u64],
     n: usize,
-) -> IndexAnswerAt
+) -> Result<(IndexRecord, LogIndex), Refusal>
     requires { Appends (raw index log.old snapshot.now) n entries.now }
-    ensures { outcome (index_said result.answer) (raw result.index log.new snapshot.now)
+    ensures { changed_at index_at index result log.new snapshot.now
         ≡ run (append_now (entries_of n entries.now)) true
         (raw index log.old snapshot.now) }
 {
-    let check = check_append(index, n);
-    if let Check::Refused(refusal) = check {
-        return IndexAnswerAt {
-            answer: IndexAnswer::Refused(refusal),
-            index,
-        };
-    }
+    check_append(index, n)?;
     let used = (index.retained + index.batched) * entry::WIDTH;
     words::splice(log, used, index.retained * entry::WIDTH, 0, entries);
     let mut next = index;
     next.retained = index.retained + n;
-    let last = state_cache::inner::accepted(next);
-    IndexAnswerAt {
-        answer: IndexAnswer::At(LogIndex(last)),
-        index: next,
-    }
+    Ok((next, LogIndex(state_cache::inner::accepted(next))))
 }

@@ -3,8 +3,7 @@
 // are the Rust's.
 #![tactic(auto)]
 
-use entry::{LogIndex, Refusal};
-use state_cache::IndexRecord;
+use entry::LogIndex;
 
 mod append;
 mod decide;
@@ -20,31 +19,9 @@ pub use decide::{set_decided_idx, set_promise};
 pub use flush::{flush_batch, flush_batch_and_get_entries};
 pub use stop::{append_stopsign, set_stopsign};
 
-// What an append with batching says: the entries wait in the batch, or the whole batch is flushed. The flushed
-// entries are the last so many of those retained.
-#[derive(Clone, Copy)]
-pub enum Appended {
-    Nothing,
-    Flushed { accepted: LogIndex, entries: usize },
-    Refused(Refusal),
-}
-
-#[derive(Clone, Copy)]
-pub struct AppendedAt {
-    pub answer: Appended,
-    pub index: IndexRecord,
-}
-
-// The same with the accepted index alone, where the batch is flushed.
-#[derive(Clone, Copy)]
-pub enum MaybeIndex {
-    Nothing,
-    At(LogIndex),
-    Refused(Refusal),
-}
-
-#[derive(Clone, Copy)]
-pub struct MaybeIndexAt {
-    pub answer: MaybeIndex,
-    pub index: IndexRecord,
+// What was flushed: the accepted index after it, and how many entries; they are the last so many of those retained.
+#[derive(Clone, Copy, Debug, PartialEq, Eq)]
+pub struct Flushed {
+    pub accepted: LogIndex,
+    pub entries: usize,
 }

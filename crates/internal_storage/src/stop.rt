@@ -2,12 +2,12 @@
 ghost use Rattle.std.specs.Prelude.{◌≡◌, true};
 ghost use Rattle.model.specs.Calls.{append_stop, set_stop};
 ghost use Rattle.state_cache.specs.State.{raw};
-ghost use Rattle.state_cache.specs.Run.{outcome, run, index_said};
-ghost use Rattle.internal_storage.specs.Replies.{append_said, asked};
+ghost use Rattle.state_cache.specs.Run.{run, index_at, changed_at};
+ghost use Rattle.internal_storage.specs.Replies.{flushed_is, sign_is};
 
-use super::{Appended, AppendedAt};
-use entry::{Refusal, StopSign};
-use state_cache::{IndexAnswer, IndexAnswerAt, IndexRecord};
+use super::Flushed;
+use entry::{LogIndex, Refusal, StopSign};
+use state_cache::IndexRecord;
 
 // Flushes the batch and holds the stop-sign after it; the reply says what was flushed, as that of an append.
 pub fn append_stopsign(
@@ -15,35 +15,28 @@ pub fn append_stopsign(
     log: &[u64],
     snapshot: &[u64],
     ss: StopSign,
-) -> AppendedAt
-    ensures { outcome (append_said result.answer) (raw result.index log.now snapshot.now)
+) -> Result<(IndexRecord, Option<Flushed>), Refusal>
+    ensures { changed_at flushed_is index result log.now snapshot.now
         ≡ run (append_stop ss) true (raw index log.now snapshot.now) }
 {
     if !state_cache::well_formed(index, log, snapshot) {
-        return AppendedAt {
-            answer: Appended::Refused(Refusal::IllFormed),
-            index,
-        };
+        return Err(Refusal::IllFormed);
     }
     super::inner::stop::append_stopsign(index, log, snapshot, ss)
 }
 
-// With `held` false the stop-sign is taken away, and `ss` is not looked at.
+// Without a stop-sign the one held is taken away.
 pub fn set_stopsign(
     index: IndexRecord,
     log: &[u64],
     snapshot: &[u64],
-    held: bool,
-    ss: StopSign,
-) -> IndexAnswerAt
-    ensures { outcome (index_said result.answer) (raw result.index log.now snapshot.now)
-        ≡ run (set_stop (asked held ss)) true (raw index log.now snapshot.now) }
+    ss: Option<StopSign>,
+) -> Result<(IndexRecord, LogIndex), Refusal>
+    ensures { changed_at index_at index result log.now snapshot.now
+        ≡ run (set_stop (sign_is ss)) true (raw index log.now snapshot.now) }
 {
     if !state_cache::well_formed(index, log, snapshot) {
-        return IndexAnswerAt {
-            answer: IndexAnswer::Refused(Refusal::IllFormed),
-            index,
-        };
+        return Err(Refusal::IllFormed);
     }
-    super::inner::stop::set_stopsign(index, log, snapshot, held, ss)
+    super::inner::stop::set_stopsign(index, log, snapshot, ss)
 }

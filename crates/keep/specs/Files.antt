@@ -1,8 +1,8 @@
 -- The names of files, and what a load answers.
-use Rattle.std.specs.Prelude.{ℕ, List, [], ◌∷◌}
+use Rattle.std.specs.Prelude.{ℕ, List, [], ◌∷◌, Result, IfOk, codes}
 use Rattle.words.specs.Words.{IsPrefixLen}
-use Rattle.keep.specs.declared.Loaded.{Loaded}
-use Rattle.keep.specs.declared.Loaded.TheVariants.{Bytes, Missing, Unread}
+use Rattle.keep.specs.declared.LoadError.{LoadError}
+use Rattle.keep.specs.declared.LoadError.TheVariants.{Missing, Unread}
 
 -- `/`
 abbrev pub slash : ℕ
@@ -16,8 +16,11 @@ tail = 46 ∷ 88 ∷ 88 ∷ 88 ∷ 88 ∷ 88 ∷ 88 ∷ []
 abbrev pub longest : ℕ
 longest = 4088
 
+-- what a person reads where a load fails
+abbrev pub load_text : LoadError → List ℕ
+load_text Missing = codes "no such file"
+load_text Unread = codes "the file cannot be read"
+
 -- how many bytes were read: no more than the buffer has
-abbrev pub Holds : Loaded → List ℕ → Type 0
-Holds (Bytes n) buf = IsPrefixLen n buf
-Holds Missing buf = Unit {0}
-Holds Unread buf = Unit {0}
+abbrev pub Holds : {E : Type 0} → Result ℕ E → List ℕ → Type 0
+Holds r buf = IfOk r (λ n. IsPrefixLen n buf)

@@ -2,16 +2,17 @@
 // says of its arguments it says for all of them.
 #![tactic(auto)]
 
-ghost use Rattle.std.specs.Prelude.{◌≡◌, ◌++◌, ℕ, ◌+◌, ◌<◌, ◌≤◌, length, take, get_or};
+ghost use Rattle.std.specs.Prelude.{◌≡◌, ◌++◌, ℕ, ◌+◌, ◌<◌, ◌≤◌, length, take, get_or, IsErrOf, Some};
 ghost use Rattle.words.specs.Words.{IsPrefixLen};
-ghost use Rattle.keep.specs.Files.{tail, longest, slash, Holds};
-ghost use Rattle.keep.specs.declared.Saved.TheVariants.{NotMade};
+ghost use Rattle.keep.specs.Files.{tail, longest, slash, load_text, Holds};
+ghost use Rattle.keep.specs.declared.SaveError.{SaveError};
 
+use std::error::Error;
 use std::fs::{OpenFile, OpenOptions, Permissions};
 use std::io::{ErrorKind, Read, Write};
 use std::os::unix::fs::{OpenOptionsExt, PermissionsExt};
 use std::rt::Files;
-use std::{fs, io, str};
+use std::{fmt, fs, io, str};
 use std_io::io::last_error;
 
 // The bytes that the name of the temporary file has after the path's.
@@ -26,11 +27,10 @@ const PATH_MAX: usize = 4096;
 // The longest path at which a file can be saved: after it come the tail and C's zero.
 pub const LONGEST: usize = PATH_MAX - 1 - TAIL;
 
-// What a save comes to. Where it is neither Done nor NotSynced the old file stands, or none where there was none.
-#[derive(Clone, Copy)]
-pub enum Saved {
-    // The new file stands, and its bytes and its name have reached the device.
-    Done,
+// Why a save fails. But for NotSynced the old file stands then, or none where there was none. A save that does not fail
+// leaves the new file, whose bytes and name have reached the device.
+#[derive(Clone, Copy, Debug, PartialEq, Eq)]
+pub enum SaveError {
     // No temporary file could be made beside it.
     NotMade,
     // The temporary file could not be written whole, or did not reach the device.
@@ -41,13 +41,25 @@ pub enum Saved {
     NotSynced,
 }
 
-// What a load comes to: how many bytes it read, no such file, or one that cannot be read.
-#[derive(Clone, Copy)]
-pub enum Loaded {
-    Bytes(usize),
+// Why a load fails: there is no such file, or it cannot be read.
+#[derive(Clone, Copy, Debug, PartialEq, Eq)]
+pub enum LoadError {
     Missing,
     Unread,
 }
+
+impl fmt::Display for LoadError {
+    ghost output = { λ e. Some (load_text e) };
+
+    fn fmt<W: fmt::Write>(&self, f: &mut fmt::Formatter<W>) -> fmt::Result {
+        match self {
+            LoadError::Missing => write!(f, "no such file"),
+            LoadError::Unread => write!(f, "the file cannot be read"),
+        }
+    }
+}
+
+impl Error for LoadError {}
 
 // How many bytes of a path name its directory, the slash at their end among them; none where it has no slash.
 fn directory(path: &[u8]) -> usize
@@ -56,26 +68,19 @@ fn directory(path: &[u8]) -> usize
     ensures last { (k : ℕ) → result ≤ k → k < length path.now
         → get_or path.now k 0 ≡ slash → ⊥ }
 {
-    let mut i = path.len();
-    while i > 0 {
-        if path[i - 1] == b'/' {
-            return i;
-        }
-        i -= 1;
+    match path.iter().rposition(|&b| b == b'/') {
+        Some(i) => i + 1,
+        None => 0,
     }
-    0
 }
 
 // Waits until the names in a directory have reached the device.
-fn sync_names(files: &impl Files, dir: &str) -> bool {
-    match fs::open(files, dir) {
-        Ok(names) => names.sync_all().is_ok(),
-        Err(_) => false,
-    }
+fn sync_names(files: &impl Files, dir: &str) -> io::Result<()> {
+    fs::open(files, dir)?.sync_all()
 }
 
 // Waits until the names in a path's directory have.
-fn sync_beside(files: &impl Files, path: &str) -> bool {
+fn sync_beside(files: &impl Files, path: &str) -> io::Result<()> {
     let n = directory(path.as_bytes());
     if n == 0 {
         return sync_names(files, ".");
@@ -93,12 +98,17 @@ fn fill<F: Write + OpenFile>(file: &mut F, bytes: &[u8]) -> io::Result<()> {
 
 // Fills a new file, and closes it either way: an error that came late is told at the close. A close tells its error to
 // nobody, but the system keeps it, as the newest that there was.
-fn fill_and_close<F: Write + OpenFile + Drop>(mut file: F, bytes: &[u8]) -> bool {
-    let filled = fill(&mut file, bytes).is_ok();
+fn fill_and_close<F: Write + OpenFile + Drop>(mut file: F, bytes: &[u8]) -> io::Result<()> {
+    let filled = fill(&mut file, bytes);
     let before = last_error().raw_os_error();
     drop(file);
-    let after = last_error().raw_os_error();
-    filled & (before == after)
+    let newest = last_error();
+    filled?;
+    if newest.raw_os_error() == before {
+        Ok(())
+    } else {
+        Err(newest)
+    }
 }
 
 // Puts a path and the tail that `number` replaces to the start of name. So the file stands beside the path's, on the
@@ -117,11 +127,8 @@ fn temporary(path: &[u8], name: &mut [u8]) -> usize
 // Puts the last digits of i to the end of a temporary file's name, in place of all of the tail but its dot.
 fn number(name: &mut [u8], i: u32) {
     let mut rest = i;
-    for k in 1..TAIL {
-        if k <= name.len() {
-            let at = name.len() - k;
-            name[at] = b'0' + (rest % 10) as u8;
-        }
+    for digit in name.iter_mut().rev().take(TAIL - 1) {
+        *digit = b'0' + (rest % 10) as u8;
         rest /= 10;
     }
 }
@@ -136,82 +143,86 @@ fn create<R: Files>(files: &R, name: &str) -> io::Result<R::File> {
         .open(files, name)
 }
 
-// Fills a new file beside the path's and gives it the path's name. A new file that is not given it is removed.
-fn replace<R: Files>(files: &R, path: &str, name: &str, file: R::File, bytes: &[u8]) -> Saved {
-    if !fill_and_close(file, bytes) {
+// Fills a new file beside the path's and gives it the path's name.
+fn fill_and_name<R: Files>(
+    files: &R,
+    path: &str,
+    name: &str,
+    file: R::File,
+    bytes: &[u8],
+) -> Result<(), SaveError> {
+    fill_and_close(file, bytes).map_err(|_| SaveError::NotWritten)?;
+    fs::rename(files, name, path).map_err(|_| SaveError::NotNamed)
+}
+
+// Puts a new file in the place of the path's. A new file that is not given the path's name is removed.
+fn replace<R: Files>(
+    files: &R,
+    path: &str,
+    name: &str,
+    file: R::File,
+    bytes: &[u8],
+) -> Result<(), SaveError> {
+    if let Err(e) = fill_and_name(files, path, name, file, bytes) {
         let _ = fs::remove_file(files, name);
-        return Saved::NotWritten;
+        return Err(e);
     }
-    if fs::rename(files, name, path).is_err() {
-        let _ = fs::remove_file(files, name);
-        return Saved::NotNamed;
-    }
-    if !sync_beside(files, path) {
-        return Saved::NotSynced;
-    }
-    Saved::Done
+    sync_beside(files, path).map_err(|_| SaveError::NotSynced)
 }
 
 // Saves bytes at path, by a temporary file of the first of its names that no file has.
-fn save_by(files: &impl Files, path: &str, name: &mut [u8], bytes: &[u8]) -> Saved {
+fn save_by(files: &impl Files, path: &str, name: &mut [u8], bytes: &[u8]) -> Result<(), SaveError> {
     for i in 0..NAMES {
         number(name, i);
-        let Ok(new) = str::from_utf8(name) else {
-            return Saved::NotMade;
-        };
+        let new = str::from_utf8(name).map_err(|_| SaveError::NotMade)?;
         match create(files, new) {
             Ok(file) => return replace(files, path, new, file, bytes),
             Err(e) if e.kind() == ErrorKind::AlreadyExists => {}
-            Err(_) => return Saved::NotMade,
+            Err(_) => return Err(SaveError::NotMade),
         }
     }
-    Saved::NotMade
+    Err(SaveError::NotMade)
 }
 
 // Saves bytes at path: whenever the program or the machine stops, the file is the old one or the new one, whole. A path
 // is text: by one that is not UTF-8 no file can be made.
-pub fn save(files: &impl Files, path: &[u8], bytes: &[u8]) -> Saved
-    ensures { longest < length path.now → result ≡ NotMade }
+pub fn save(files: &impl Files, path: &[u8], bytes: &[u8]) -> Result<(), SaveError>
+    ensures { longest < length path.now → IsErrOf result SaveError.NotMade }
 {
     if path.len() > LONGEST {
-        return Saved::NotMade;
+        return Err(SaveError::NotMade);
     }
     let mut space = [0u8; PATH_MAX];
     let n = temporary(path, &mut space);
-    match str::from_utf8(path) {
-        Ok(path) => save_by(files, path, &mut space[..n], bytes),
-        Err(_) => Saved::NotMade,
-    }
+    let path = str::from_utf8(path).map_err(|_| SaveError::NotMade)?;
+    save_by(files, path, &mut space[..n], bytes)
 }
 
 // Reads a file from where it stands until buf is full or the file ends.
-fn read_on<F: Read>(file: &mut F, buf: &mut [u8]) -> Loaded
+fn read_on<F: Read>(file: &mut F, buf: &mut [u8]) -> io::Result<usize>
     ensures { Holds result buf.new }
 {
     let mut done = 0;
     while done < buf.len() {
-        let Ok(n) = file.read(&mut buf[done..]) else {
-            return Loaded::Unread;
-        };
+        let n = file.read(&mut buf[done..])?;
         if n == 0 {
-            return Loaded::Bytes(done);
+            break;
         }
         done += n;
     }
-    Loaded::Bytes(done)
+    Ok(done)
 }
 
-// Reads the file at path to the start of buf: all of it, or as much as buf holds. A caller for whom a file may be too
-// long lends a byte more than the longest has. By a path that is not UTF-8 no file can be read.
-pub fn load(files: &impl Files, path: &[u8], buf: &mut [u8]) -> Loaded
+// Reads the file at path to the start of buf: all of it, or as much as buf holds, and returns how many bytes it read. A
+// caller for whom a file may be too long lends a byte more than the longest has. By a path that is not UTF-8 no file
+// can be read.
+pub fn load(files: &impl Files, path: &[u8], buf: &mut [u8]) -> Result<usize, LoadError>
     ensures { Holds result buf.new }
 {
-    let Ok(path) = str::from_utf8(path) else {
-        return Loaded::Unread;
-    };
+    let path = str::from_utf8(path).map_err(|_| LoadError::Unread)?;
     match fs::open(files, path) {
-        Ok(mut file) => read_on(&mut file, buf),
-        Err(e) if e.kind() == ErrorKind::NotFound => Loaded::Missing,
-        Err(_) => Loaded::Unread,
+        Ok(mut file) => read_on(&mut file, buf).map_err(|_| LoadError::Unread),
+        Err(e) if e.kind() == ErrorKind::NotFound => Err(LoadError::Missing),
+        Err(_) => Err(LoadError::Unread),
     }
 }

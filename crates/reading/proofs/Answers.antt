@@ -1,5 +1,5 @@
 -- The answer of a call that changes nothing: refusals 12 and 11, and the reply.
-use Rattle.words.proofs.Prelude.{◌≡◌, refl, sym, ap, ℕ, Bool, true, false, []}
+use Rattle.words.proofs.Prelude.{◌≡◌, refl, sym, ap, ◌∙◌, ℕ, Bool, true, false, []}
 use mathlib.Core.Path.{subst}
 use Rattle.entry.specs.Guards.{Verdict, passes, refuses, first, Answer, refused, replied}
 use Rattle.model.specs.Lookup.{lookup_reply}
@@ -7,7 +7,8 @@ use Rattle.model.specs.Calls.{Query, QueryReply, query, lookup, query_malformed,
 use Rattle.model.specs.Calls.{further, effect, reply_of}
 use Rattle.state_cache.specs.State.{Raw, formed, log_of, raw_of}
 use Rattle.state_cache.specs.Run.{Outcome, chosen, verdict_on, run}
-use Rattle.state_cache.proofs.{Stands.stands_of, Stands.raw_is, Runs.ill_formed, Runs.bad_call, Runs.call_stands}
+use Rattle.state_cache.specs.Inner.{Ready}
+use Rattle.state_cache.proofs.{Stands.stands_of, Stands.ready_of, Stands.raw_is, Runs.ill_formed, Runs.bad_call, Runs.call_stands}
 
 module _ (q : Query) (r : Raw) where
   abbrev answer_of : Outcome (QueryReply q) → Answer (QueryReply q)
@@ -25,6 +26,14 @@ module _ (q : Query) (r : Raw) where
         → y ≡ query_reply q (log_of r) → replied y ≡ (run (query q) true r).answer
     unfolding malformed further effect reply_of first
     answer_is m g y e = ap answer_of (call_stands (query q) r ok m (rw g) y r e (stands_of r ok))
+
+-- the state as the code tests it first
+pub unformed_answer : (q : Query) (r : Raw) (t : Bool) → t ≡ formed r → t ≡ false
+    → refused 12 0 ≡ (run (query q) true r).answer
+unformed_answer q r t e p = ill_formed_answer q r (sym e ∙ p)
+
+pub ready_by : (r : Raw) (t : Bool) → t ≡ formed r → t ≡ true → Ready r
+ready_by r t e p = ready_of r (sym e ∙ p)
 
 -- what a lookup in a well-formed log answers
 pub lookup_answer : (r : Raw) → formed r ≡ true → (k : ℕ)

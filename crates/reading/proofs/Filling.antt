@@ -2,6 +2,7 @@
 use Rattle.words.proofs.Prelude.{arith, ◌≡◌, refl, sym, ap, ap₂, ◌∙◌, ℕ, suc, ◌+◌, ◌*◌, ◌/◌, ◌≤◌, ◌<◌, Bool, true}
 use Rattle.words.proofs.Prelude.{false, ◌||◌, ltb, le-ltb, ltb-false, le-leb, leb-true, Option, List, [], ◌∷◌, ◌++◌}
 use Rattle.words.proofs.Prelude.{length-map, length, take, get_or, length-take-le, take_all}
+use Rattle.std.specs.Prelude.{Option as Optional}
 use mathlib.Core.List.{map-append}
 use lib.ListN.{get_or-map}
 use lib.Seq.{paste, take-suc}
@@ -10,9 +11,8 @@ use Rattle.words.proofs.{Tests.or_left, Tests.or_right, Alls.all_cons, CodedLaws
 use Rattle.words.proofs.{CodedLaws.over_at}
 use Rattle.entry.specs.{Limits.most_asked, Limits.reply_width, Change.Said, Reply.known_is, Reply.reply_formed}
 use Rattle.entry.specs.{Reply.reply_code, Reply.reply_at, Guards.Answer, Guards.refused, Guards.replied}
-use Rattle.entry.specs.declared.Known.{Known}
+use Rattle.entry.specs.declared.Said.{Said as CodeSaid}
 use Rattle.entry.proofs.ReplyLaws.{reply_ok, reply_at_lem}
-use Rattle.snapshot.specs.{Calls.found, Calls.said_in, declared.Found.Found}
 use Rattle.model.specs.{Lookup.lookup_reply, Lookup.lookup_replies, Calls.query, Calls.lookup, Calls.lookup_many}
 use Rattle.model.specs.{Calls.query_reply, Calls.query_guards}
 use Rattle.state_cache.specs.{State.Raw, State.formed, State.log_of, Inner.Ready, Run.Outcome, Run.run}
@@ -49,15 +49,16 @@ module _ (r : Raw) where
         sym (map-append (λ (k : ℕ). lookup_reply k (log_of r)) (take i keys) (get_or keys i 0 ∷ []))
         ∙ ap replies_to (sym (take-suc keys i 0 h) ∙ ap (λ (j : ℕ). take j keys) q)
 
-    pub fill_turn : i < length keys → (answer : Found)
-        → found answer ≡ (run (query (lookup (get_or keys i 0))) true r).answer
-        → (known : Known) → known_is known ≡ said_in (found answer) → (ws : List ℕ) → ws ≡ reply_code.enc (known_is known)
+    pub fill_turn : i < length keys → (known : Optional CodeSaid)
+        → replied (known_is known) ≡ (run (query (lookup (get_or keys i 0))) true r).answer
+        → (ws : List ℕ) → ws ≡ reply_code.enc (known_is known)
         → paste cur (i * reply_width) ws (length ws) ≡ over reply_code (replies_to (take (i + 1) keys)) out
-    fill_turn h answer a known b ws e =
+    fill_turn h known a ws e =
         let es : List (Option Said) = replies_to (take i keys) in
         let x : Option Said = lookup_reply (get_or keys i 0) (log_of r) in
-        let q : ws ≡ reply_code.enc x =
-        e ∙ ap reply_code.enc (b ∙ ap said_in (a ∙ lookup_answer r ok (get_or keys i 0))) in
+        let y : replied (known_is known) ≡ replied x = a ∙ lookup_answer r ok (get_or keys i 0) in
+        let z : known_is known ≡ x = cc in
+        let q : ws ≡ reply_code.enc x = e ∙ ap reply_code.enc z in
         ap₂ (λ (l m : List ℕ). paste l (i * reply_width) m (length m)) sofar q
         ∙ ap (λ (j : ℕ). paste (over reply_code es out) (j * reply_width) (reply_code.enc x) (length (reply_code.enc x)))
         (sym (count (omega arith)))

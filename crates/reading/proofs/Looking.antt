@@ -3,24 +3,22 @@ use Rattle.words.proofs.Prelude.{arith, ◌≡◌, refl, sym, ap, ap₂, ◌∙�
 use Rattle.words.proofs.Prelude.{eqb, eq-eqb, ne_eqb, if◌then◌else◌, Option, none, some, List, [], ◌∷◌, ◌++◌}
 use Rattle.words.proofs.Prelude.{drop_of_length-le, take-append-drop, length, take, drop}
 use mathlib.Core.Option.{or_else}
+use Rattle.std.specs.Prelude.{Option as Optional, Some, None}
 use Rattle.words.specs.Coded.{entries_at}
 use Rattle.words.proofs.{CodedLaws.entries_length, CodedLaws.entries_take, Alls.all_take}
 use Rattle.entry.specs.{Limits.width, Change.Said, Change.Change, Change.change_code, Change.entries_of, Guards.replied}
 use Rattle.entry.specs.{Change.change_formed, Change.entries_formed, Inner.change_at, Reply.reply_formed}
+use Rattle.entry.specs.{Reply.known_is, declared.Said.Said as CodeSaid}
 use Rattle.entry.proofs.ChangeLaws.{entry_cons}
 use Rattle.snapshot.specs.Folds.{find, last_of}
-use Rattle.snapshot.specs.Calls.{found}
-use Rattle.snapshot.specs.declared.Found.{Found}
-use Rattle.snapshot.specs.declared.Found.TheVariants.{Unknown}
-use Rattle.snapshot.proofs.{Finds.last-append, Unique.find_unique, Forming.formed_either, Forming.formed_last}
+use Rattle.snapshot.proofs.{Finds.last-append, Forming.formed_either, Forming.formed_last}
 use Rattle.snapshot.proofs.{Forming.formed_find}
 use Rattle.model.specs.{Numbers.end_of, Numbers.log_decided, Log.numbers_of, Log.or_empty, Lookup.lookup_reply, Calls.query}
 use Rattle.model.specs.{Calls.lookup, Calls.query_reply, Calls.query_guards}
 use Rattle.model.proofs.Forms.{log_min}
 use Rattle.state_cache.specs.{State.Raw, State.numbers_in, State.log_of, Inner.Ready, Run.run}
 use Rattle.state_cache.proofs.Stands.{stands_of, numbers_are}
-use Rattle.reading.specs.{Newest.NewestIs, declared.inner.Newest.Newest, declared.inner.Newest.TheVariants.At}
-use Rattle.reading.specs.{declared.inner.Newest.TheVariants.Nowhere}
+use Rattle.reading.specs.{Newest.NewestIs}
 use Rattle.reading.proofs.Answers.{answer_is}
 
 -- the last of a run is asked first
@@ -45,13 +43,13 @@ pub record Left (n : ℕ) (ws : List ℕ) (k i : ℕ) : Type 0 where
   pub newest : last_of k (entries_of n ws) ≡ last_of k (entries_of i ws)
 
 module _ (n : ℕ) (ws : List ℕ) (k i : ℕ) (l : Left n ws k i) where
-  pub newest_none : i ≡ 0 → NewestIs k n ws Nowhere
+  pub newest_none : i ≡ 0 → NewestIs k n ws None
   unfolding last_of entries_at
   newest_none e = record { says = sym (l.newest ∙ ap (λ (j : ℕ). last_of k (entries_of j ws)) e); inside = tt }
 
-  pub newest_few : (r : Newest) → NewestIs k i ws r → NewestIs k n ws r
-  newest_few (At j) p = record { says = p.says ∙ sym l.newest; inside = omega (arith, p.inside) }
-  newest_few Nowhere p = record { says = p.says ∙ sym l.newest; inside = tt }
+  pub newest_few : (r : Optional ℕ) → NewestIs k i ws r → NewestIs k n ws r
+  newest_few (Some j) p = record { says = p.says ∙ sym l.newest; inside = omega (arith, p.inside) }
+  newest_few None p = record { says = p.says ∙ sym l.newest; inside = tt }
 
   -- the one before j + 1 is looked at
   module _ (j : ℕ) (e : i ≡ j + 1) where
@@ -61,7 +59,7 @@ module _ (n : ℕ) (ws : List ℕ) (k i : ℕ) (l : Left n ws k i) where
         l.newest ∙ ap (λ (m : ℕ). last_of k (entries_of m ws)) e
         ∙ ap (last_of k) (entries_snoc j ws) ∙ last_snoc k (entries_of j ws) (change_at ws j)
 
-    pub newest_found : (change_at ws j).key ≡ k → NewestIs k n ws (At j)
+    pub newest_found : (change_at ws j).key ≡ k → NewestIs k n ws (Some j)
     unfolding or_else
     newest_found q = record { says = sym (one_back ∙ rw (eq-eqb (change_at ws j).key k q)); inside = omega arith }
 
@@ -138,17 +136,14 @@ module _ (r : Raw) (g : Ready r) (k : ℕ) where
         ∙ look_answer
 
     -- a word of the entries is told
-    pub look_told : (f : Found) → found f ≡ replied newest → (f ≡ Unknown → ⊥)
-        → found f ≡ (run (query (lookup k)) true r).answer
+    pub look_told : (f : Optional CodeSaid) → known_is f ≡ newest → (f ≡ None → ⊥)
+        → replied (known_is f) ≡ (run (query (lookup k)) true r).answer
     unfolding or_else
-    look_told f e known = go newest refl
-      where
-        go : (o : Option Said) → newest ≡ o → found f ≡ (run (query (lookup k)) true r).answer
-        go none p = absurd (known (find_unique f Unknown (e ∙ ap (λ (o : Option Said). replied o) p)))
-        go (some x) p = e ∙ ap (λ (o : Option Said). replied o) p ∙ look_with (some x) p
+    look_told (Some s) e known = look_with (known_is (Some s)) (sym e)
+    look_told None e known = absurd (known refl)
 
     -- where they have none the snapshot is asked
-    pub look_snapshot : found Unknown ≡ replied newest
-        → replied (find k held) ≡ (run (query (lookup k)) true r).answer
+    pub look_snapshot : known_is None ≡ newest → (f : Optional CodeSaid) → known_is f ≡ find k held
+        → replied (known_is f) ≡ (run (query (lookup k)) true r).answer
     unfolding or_else
-    look_snapshot e = let p : newest ≡ none = cc in look_with none p
+    look_snapshot e f p = ap replied p ∙ look_with none (sym e)

@@ -4,10 +4,12 @@ use Rattle.words.proofs.Prelude.{arith, ◌≡◌, refl, sym, ap, ap₂, ◌∙�
 use Rattle.words.proofs.Prelude.{false, ◌&&◌, ◌||◌, eqb, ltb, leb, eq-eqb, ne_eqb, lt-ltb, le-ltb, ltb-true, ltb-false}
 use Rattle.words.proofs.Prelude.{le-leb, lt-leb, leb-false, if◌then◌else◌, Option, none, some, List, length, take, drop}
 use mathlib.Core.Path.{subst}
+use Rattle.std.specs.Prelude.{Option as Optional, Some, None, Result, Ok, Err}
 use Rattle.words.specs.Coded.{entries_at}
 use Rattle.words.proofs.Tests.{or_left, or_right, either}
 use Rattle.entry.specs.{Change.entries_of, Change.entries_in, Guards.Answer, Guards.refused, Guards.replied}
-use Rattle.entry.specs.{declared.LogIndex.LogIndex, declared.StopSign.StopSign}
+use Rattle.entry.specs.{declared.LogIndex.LogIndex, declared.StopSign.StopSign, declared.Refusal.Refusal}
+use Rattle.entry.specs.{declared.Refusal.TheVariants.Malformed}
 use Rattle.model.specs.Numbers.{Numbers, end_of, accepted_of, stop_decided}
 use Rattle.model.specs.Read.{Bound, start_at, stop_at, start_past, stop_past, Marker, trimmed, snapshotted, marker_of, Span}
 use Rattle.model.specs.Read.{span, Shown, shown, full_run, read_from, read_reply, decided_suffix}
@@ -15,13 +17,11 @@ use Rattle.model.specs.Calls.{query, read, read_decided, get_entries, get_suffix
 use Rattle.state_cache.specs.{State.Raw, State.numbers_in, State.log_of, Inner.Ready, Run.run}
 use Rattle.state_cache.specs.{declared.IndexRecord.IndexRecord}
 use Rattle.state_cache.proofs.{Small.accepted_le, Small.end_le, Stands.ready_of}
-use Rattle.reading.specs.{Parts.part, Replies.lent_span, Replies.span_says, Replies.marker_said, Replies.shown_said}
-use Rattle.reading.specs.{Replies.read_said, Inner.EntryIs, Inner.span_in, Inner.marker_in, Inner.marker_at}
+use Rattle.reading.specs.{Parts.part, Replies.lent_span, Replies.span_is, Replies.marker_said, Replies.shown_said}
+use Rattle.reading.specs.{Replies.run_is, Inner.EntryIs, Inner.span_in, Inner.marker_in, Inner.marker_at}
 use Rattle.reading.specs.{Inner.run_of_none, Inner.run_of, Inner.read_in, declared.Span.Span as CodeSpan}
-use Rattle.reading.specs.{declared.Marker.Marker as CodeMarker, declared.Marker.TheVariants.None}
+use Rattle.reading.specs.{declared.ShownRun.ShownRun}
 use Rattle.reading.specs.{declared.Marker.TheVariants.Trimmed, declared.Marker.TheVariants.Snapshot}
-use Rattle.reading.specs.{declared.ShownRun.ShownRun, declared.ReadReply.ReadReply}
-use Rattle.reading.specs.{declared.ReadReply.TheVariants.Nothing, declared.ReadReply.TheVariants.Run}
 use Rattle.reading.specs.{declared.inner.IndexEntry.IndexEntry, declared.inner.IndexEntry.TheVariants.Compacted}
 use Rattle.reading.specs.{declared.inner.IndexEntry.TheVariants.Entry}
 use Rattle.reading.specs.{declared.inner.IndexEntry.TheVariants.StopSign as StopEntry}
@@ -33,22 +33,11 @@ use Rattle.reading.proofs.Showing.{entries_answer, suffix_answer as end-answer}
 
 -- the marker by the kind of the first index
 pub marker_at_lem : (x : IndexRecord) (from : ℕ) (e : IndexEntry) → EntryIs (numbers_in x) from e
-    → marker_at e x ≡ (if ltb from x.compacted.0 then marker_in x else None)
+    → marker_at e x ≡ (if ltb from x.compacted.0 then Some (marker_in x) else None)
 unfolding end_of
 marker_at_lem x from Compacted h = sym (rw (lt-ltb from x.compacted.0 h))
 marker_at_lem x from Entry h = sym (rw (le-ltb from x.compacted.0 h.0))
 marker_at_lem x from StopEntry h = sym (rw (le-ltb from x.compacted.0 (omega arith)))
-
--- a run from the numbers that the code finds one after another
-module _ (x : IndexRecord) (from to : ℕ) (m : CodeMarker) (start far end near known last count decided : ℕ)
-    (stopped : Bool) where
-  pub run_is : m ≡ (if ltb from x.compacted.0 then marker_in x else None)
-      → start ≡ from - x.compacted.0 → far ≡ to - x.compacted.0 → end ≡ min far x.retained
-      → near ≡ x.decided.0 - x.compacted.0 → known ≡ min end near
-      → last ≡ accepted_of (numbers_in x) → stopped ≡ stop_decided (numbers_in x) → count ≡ end - start
-      → decided ≡ known - start
-      → ◌≡◌ {A = ShownRun} (record { marker = m; first = start; count = count; decided = decided; stop = eqb to last && x.stop_held; stop_decided = eqb to last && stopped }) (run_of from to x)
-  run_is p₁ p₂ p₃ p₄ p₅ p₆ p₇ p₈ p₉ p₁₀ = rw (p₉, p₁₀, p₆, p₄, p₃, p₅, p₂, p₇, p₈, p₁)
 
 pub held_below : (n : Numbers) (i : ℕ) (e : IndexEntry) → EntryIs n i e → i < accepted_of n
 unfolding end_of
@@ -60,36 +49,66 @@ module _ (x : IndexRecord) (from to : ℕ) where
   abbrev n : Numbers
   n = numbers_in x
 
-  pub case_zero : to ≡ 0 → Nothing ≡ read_in from to x
+  pub case_zero : to ≡ 0 → None ≡ read_in from to x
   unfolding read_in
   case_zero h = sym (rw (eq-eqb to 0 h))
 
   module _ (z : to ≡ 0 → ⊥) where
-    pub case_marker : to - 1 < x.compacted.0 → Run (run_of_none (marker_in x)) ≡ read_in from to x
+    pub case_marker : to - 1 < x.compacted.0 → Some (run_of_none (Some (marker_in x))) ≡ read_in from to x
     unfolding read_in
     case_marker h = sym (rw (ne_eqb to 0 z, le-leb to x.compacted.0 (omega arith)))
 
-    pub case_past : accepted_of n ≤ to - 1 → Nothing ≡ read_in from to x
+    pub case_past : accepted_of n ≤ to - 1 → None ≡ read_in from to x
     unfolding read_in end_of
     case_past h = sym (rw
         (ne_eqb to 0 z, lt-leb to x.compacted.0 (omega (arith, end_le n)), lt-ltb (accepted_of n) to (omega arith)))
 
   module _ (h₁ : x.compacted.0 < to) (h₂ : to ≤ accepted_of n) where
-    pub case_nothing : accepted_of n ≤ from → Nothing ≡ read_in from to x
+    pub case_nothing : accepted_of n ≤ from → None ≡ read_in from to x
     unfolding read_in
     case_nothing h =
-        sym (rw (ne_eqb to 0 (omega arith), lt-leb to x.compacted.0 h₁, le-ltb (accepted_of n) to h₂, le-leb (accepted_of n) from h))
+        sym (rw (
+          ne_eqb to 0 (omega arith),
+          lt-leb to x.compacted.0 h₁,
+          le-ltb (accepted_of n) to h₂,
+          le-leb (accepted_of n) from h,
+        ))
 
     pub case_run : from < accepted_of n → (t : Bool) → leb to from ≡ t
-        → (if t then Run (run_of_none None) else Run (run_of from to x)) ≡ read_in from to x
+        → (if t then Some (run_of_none None) else Some (run_of from to x)) ≡ read_in from to x
     unfolding read_in
     case_run h t e =
-        sym (rw (ne_eqb to 0 (omega arith), lt-leb to x.compacted.0 h₁, le-ltb (accepted_of n) to h₂, lt-leb (accepted_of n) from h, e))
+        sym (rw (
+          ne_eqb to 0 (omega arith),
+          lt-leb to x.compacted.0 h₁,
+          le-ltb (accepted_of n) to h₂,
+          lt-leb (accepted_of n) from h,
+          e,
+        ))
+
+-- ---- the ends of a range, as the code tells them
+module _ (past : Bool) (v : ℕ) where
+  abbrev end_is : Result ℕ Refusal
+  end_is = if past then Err Malformed else Ok v
+
+  pub end_given : (i : ℕ) → Ok i ≡ end_is → (past ≡ false) × (i ≡ v)
+  end_given i e = go past refl
+    where
+      go : (t : Bool) → past ≡ t → (past ≡ false) × (i ≡ v)
+      go true p = let z : ◌≡◌ {A = Result ℕ Refusal} (Ok i) (Err Malformed) = e ∙ rw p in cc
+      go false p = let z : ◌≡◌ {A = Result ℕ Refusal} (Ok i) (Ok v) = e ∙ rw p in (p, cc)
+
+  pub end_refused : (f : Refusal) → Err f ≡ end_is → (past ≡ true) × (f ≡ Malformed)
+  end_refused f e = go past refl
+    where
+      go : (t : Bool) → past ≡ t → (past ≡ true) × (f ≡ Malformed)
+      go true p = let z : ◌≡◌ {A = Result ℕ Refusal} (Err f) (Err Malformed) = e ∙ rw p in (p, cc)
+      go false p = let z : ◌≡◌ {A = Result ℕ Refusal} (Err f) (Ok v) = e ∙ rw p in cc
 
 -- ---- what the reply says
 
 marker_by : (b : Bool) (i : LogIndex) (k : ℕ) (ws : List ℕ)
-    → marker_said ws (if b then Snapshot i k else Trimmed i)
+    → marker_said ws (Some (if b then Snapshot i k else Trimmed i))
     ≡ some (elim (if b then some (entries_of k ws) else none) [ none ↦ trimmed i.0 | some h ↦ snapshotted i.0 h ])
 marker_by true i k ws = refl
 marker_by false i k ws = refl
@@ -139,11 +158,11 @@ module _ (r : Raw) (g : Ready r) where
   abbrev low : ℕ
   low = x.compacted.0
 
-  marker_said_lem : marker_said r.snapshot (marker_in x) ≡ some (marker_of (log_of r).run)
+  marker_said_lem : marker_said r.snapshot (Some (marker_in x)) ≡ some (marker_of (log_of r).run)
   unfolding marker_of log_of
   marker_said_lem = marker_by x.snapshot_held x.compacted x.keys r.snapshot
 
-  marker_if : (t : Bool) → marker_said r.snapshot (if t then marker_in x else None)
+  marker_if : (t : Bool) → marker_said r.snapshot (if t then Some (marker_in x) else None)
       ≡ (if t then some (marker_of (log_of r).run) else none)
   marker_if true = marker_said_lem
   marker_if false = refl
@@ -167,36 +186,39 @@ module _ (r : Raw) (g : Ready r) where
       (from_low' x.decided.0 low m g.numbers.low ∙ ap (λ (k : ℕ). min k x.decided.0) last))
       (stop_by (eqb to (accepted_of (numbers_in x))) x.stop_held x.stop))
 
-  reply_said_lem : (from to : ℕ) → read_said r (read_in from to x) ≡ replied (read_from from to (log_of r))
+  run_said_lem : (from to : ℕ) → run_is r (read_in from to x) ≡ read_from from to (log_of r)
   unfolding read_in read_from log_of entries_at
-  reply_said_lem from to =
+  run_said_lem from to =
       rw (ap accepted_of (numbers r g)) (
-      both_by (read_said r) replied (eqb to 0) _ _ _ _ (λ _. refl) (λ _.
-      both_by (read_said r) replied (leb to low)
-      _ _ _ _ (λ _. ap (λ (s : Shown). replied (some s)) (shown_eq false marker_said_lem refl refl refl)) (λ e₁.
-      both_by (read_said r) replied (ltb (accepted_of (numbers_in x)) to
+      both_by (run_is r) it (eqb to 0) _ _ _ _ (λ _. refl) (λ _.
+      both_by (run_is r) it (leb to low)
+      _ _ _ _ (λ _. ap some (shown_eq false marker_said_lem refl refl refl)) (λ e₁.
+      both_by (run_is r) it (ltb (accepted_of (numbers_in x)) to
       || leb (accepted_of (numbers_in x)) from) _ _ _ _ (λ _. refl) (λ e₂.
-      both_by (read_said r) replied (leb to from) _ _ _ _ (λ _. refl) (λ e₃.
-      ap (λ (s : Shown). replied (some s))
+      both_by (run_is r) it (leb to from) _ _ _ _ (λ _. refl) (λ e₃.
+      ap some
       (full_said from to (leb-false to low e₁) (ltb-false (accepted_of (numbers_in x)) to
       (or_left _ (leb (accepted_of (numbers_in x)) from) e₂)) (leb-false to from e₃)))))))
+    where
+      it : Option Shown → Option Shown
+      it s = s
 
   pub read_answer : (a b : Bound) (from to last : ℕ) → start_past a || stop_past b ≡ false → from ≡ start_at a
       → to ≡ stop_at b last → last ≡ accepted_of (numbers_in x)
-      → read_said r (read_in from to x) ≡ (run (query (read a b)) true r).answer
+      → replied (run_is r (read_in from to x)) ≡ (run (query (read a b)) true r).answer
   unfolding query_reply query_guards read_reply
   read_answer a b from to last m p q e =
-      reply_said_lem from to
+      ap replied (run_said_lem from to)
       ∙ ap₂ (λ (i j : ℕ). replied (read_from i j (log_of r))) p (q
       ∙ ap (stop_at b) (e ∙ ap accepted_of (sym (numbers r g))))
       ∙ answer_is (read a b) r g.okay m refl (read_reply a b (log_of r)) refl
 
   module _ (from : ℕ) where
     pub suffix_answer : from < x.decided.0
-        → read_said r (read_in from x.decided.0 x) ≡ (run (query (read_decided from)) true r).answer
+        → replied (run_is r (read_in from x.decided.0 x)) ≡ (run (query (read_decided from)) true r).answer
     unfolding query_reply query_guards decided_suffix log_of
     suffix_answer h =
-        reply_said_lem from x.decided.0
+        ap replied (run_said_lem from x.decided.0)
         ∙ ap replied (sym (rw (lt-ltb from x.decided.0 h)))
         ∙ answer_is (read_decided from) r g.okay refl refl (decided_suffix from (log_of r)) refl
 
@@ -211,18 +233,18 @@ module _ (r : Raw) (g : Ready r) where
       ap (λ (k : ℕ). entries_in (part first k r.log)) (lent_count r.log first count)
       ∙ part_entries first count r.log (omega (arith, room r g))
 
-  in_span : (from to : ℕ) → SpanLent r.log (span_says r.log (span_in from to (numbers_in x)))
+  in_span : (from to : ℕ) → Lent r.log (span_is r.log (span_in from to (numbers_in x)))
   unfolding span_in end_of
   in_span from to =
-      either (λ (s : CodeSpan). SpanLent r.log (span_says r.log s))
+      either (λ (s : CodeSpan). Lent r.log (span_is r.log s))
       (leb low from && (leb from to && leb to (end_of (numbers_in x)))) _ _
       (λ e. let h = held low from to (end_of (numbers_in x)) e in
       inside (from - low) (to - from) (omega (arith, h.0, h.1.0, h.1.1))) (λ _. inside 0 0 (omega arith))
 
-  abbrev Said : ReadReply → Type 0
-  Said s = ShownLent r.log (read_said r s)
+  abbrev Said : Optional ShownRun → Type 0
+  Said s = ShownLent r.log (replied (run_is r s))
 
-  in_run : (from to : ℕ) → from ≤ low + x.retained → Said (Run (run_of from to x))
+  in_run : (from to : ℕ) → from ≤ low + x.retained → Said (Some (run_of from to x))
   in_run from to h =
       let m : ℕ = min (to - low) x.retained in
       inside (from - low) (m - (from - low)) (fits from low m x.retained h (omega arith))

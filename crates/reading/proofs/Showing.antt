@@ -12,8 +12,8 @@ use Rattle.model.specs.{Numbers.Numbers, Numbers.end_of, Log.numbers_of, Read.sp
 use Rattle.model.specs.{Calls.query, Calls.get_entries, Calls.get_suffix, Calls.query_reply, Calls.query_guards}
 use Rattle.state_cache.specs.{State.Raw, State.numbers_in, State.log_of, Inner.Ready, Run.run}
 use Rattle.state_cache.proofs.Stands.{stands_of, numbers_are}
-use Rattle.reading.specs.{Parts.part, Parts.word_at, Parts.part_at, Replies.lent_span, Replies.span_says}
-use Rattle.reading.specs.{Inner.span_in, declared.Span.TheVariants.Run}
+use Rattle.reading.specs.{Parts.part, Parts.word_at, Parts.part_at, Replies.lent_span, Replies.span_is}
+use Rattle.reading.specs.{Inner.span_in, declared.Span.Span}
 use Rattle.reading.proofs.Answers.{answer_is}
 
 -- the part itself, as the code cuts it, and where it stands
@@ -89,7 +89,8 @@ held low from to last e =
 -- the reply by its test, as the code takes it
 pub span_by : (from to last : ℕ) (n : Numbers) → last ≡ end_of n → (t : Bool)
     → (leb n.compacted from && (leb from to && leb to last)) ≡ t
-    → (if t then Run (from - n.compacted) (to - from) else Run 0 0) ≡ span_in from to n
+    → ◌≡◌ {A = Span} (if t then record { first = from - n.compacted; count = to - from }
+    else record { first = 0; count = 0 }) (span_in from to n)
 unfolding span_in
 span_by from to last n q t e = sym (rw (← q, e))
 
@@ -111,11 +112,11 @@ module _ (r : Raw) (g : Ready r) where
   pub numbers : numbers_of (log_of r) ≡ numbers_in r.index
   numbers = numbers_are (log_of r) r (stands_of r g.okay)
 
-  says_between : (from to : ℕ) → span_says r.log (span_in from to (numbers_in r.index))
+  says_between : (from to : ℕ) → replied (span_is r.log (span_in from to (numbers_in r.index)))
       ≡ replied (entries_between from to (log_of r))
   unfolding span_in entries_between log_of entries_at end_of
   says_between from to =
-      rw (ap end_of numbers) (both_by (span_says r.log) replied (leb c from
+      rw (ap end_of numbers) (both_by (λ (s : Span). replied (span_is r.log s)) replied (leb c from
       && (leb from to && leb to (end_of (numbers_in r.index)))) _ _ _ _ (λ e.
       let h = held c from to (end_of (numbers_in r.index)) e in
       ap (λ (es : List Change). replied (span (from - c) es))
@@ -123,13 +124,13 @@ module _ (r : Raw) (g : Ready r) where
       (λ _. refl))
 
   pub entries_answer : (from to : ℕ)
-      → span_says r.log (span_in from to (numbers_in r.index)) ≡ (run (query (get_entries from to)) true r).answer
+      → replied (span_is r.log (span_in from to (numbers_in r.index))) ≡ (run (query (get_entries from to)) true r).answer
   unfolding query_reply query_guards
   entries_answer from to = says_between from to
       ∙ answer_is (get_entries from to) r g.okay refl refl (entries_between from to (log_of r)) refl
 
   pub suffix_answer : (from to : ℕ) → to ≡ end_of (numbers_in r.index)
-      → span_says r.log (span_in from to (numbers_in r.index)) ≡ (run (query (get_suffix from)) true r).answer
+      → replied (span_is r.log (span_in from to (numbers_in r.index))) ≡ (run (query (get_suffix from)) true r).answer
   unfolding query_reply query_guards suffix_from
   suffix_answer from to e =
       says_between from to

@@ -1,12 +1,11 @@
 // What the calls do on a log that is known to be well formed: not for a user, whose calls are in lib.rt.
-ghost use Rattle.std.specs.Prelude.{◌-◌, ◌*◌, ◌/◌, ◌<◌, ◌≤◌, ◌≡◌, true, false, length};
+ghost use Rattle.std.specs.Prelude.{◌*◌, ◌/◌, ◌<◌, ◌≤◌, ◌≡◌, true, length, if◌then◌else◌};
 ghost use Rattle.words.specs.Coded.{over};
 ghost use Rattle.entry.specs.Limits.{width, reply_width};
 ghost use Rattle.entry.specs.Change.{entries_of};
-ghost use Rattle.entry.specs.Reply.{reply_code};
+ghost use Rattle.entry.specs.Reply.{known_is, reply_code};
 ghost use Rattle.entry.specs.Guards.{replied};
 ghost use Rattle.snapshot.specs.Folds.{last_of};
-ghost use Rattle.snapshot.specs.Calls.{found};
 ghost use Rattle.model.specs.Numbers.{accepted_of};
 ghost use Rattle.model.specs.Read.{start_past, stop_past, start_at, stop_at};
 ghost use Rattle.model.specs.Lookup.{lookup_replies};
@@ -16,98 +15,83 @@ ghost use Rattle.state_cache.specs.Inner.{Small, Ready};
 ghost use Rattle.state_cache.specs.Run.{run, settled};
 ghost use Rattle.reading.specs.Many.{room_for, filled_out};
 ghost use Rattle.reading.specs.Newest.{NewestIs};
-ghost use Rattle.reading.specs.Replies.{bound_of, span_says, read_said};
+ghost use Rattle.reading.specs.Replies.{bound_of, span_is, run_is, read_said};
 ghost use Rattle.reading.specs.Inner.{KindIs, EntryIs, span_in, marker_in, marker_at, run_of_none, run_of, read_in};
 
-use super::{Bound, Marker, ReadReply, ShownRun, Span};
-use entry::{LogIndex, Refusal};
-use snapshot::Found;
-use state_cache::{IndexRecord, Settled};
+use super::{Marker, ShownRun, Span};
+use entry::{LogIndex, Refusal, Said};
+use state_cache::IndexRecord;
+use std::ops::Bound;
 
-// Where the newest entry of a key stands, or none.
-#[derive(Clone, Copy)]
-pub enum Newest {
-    At(usize),
-    Nowhere,
-}
-
-// Among the first n entries, from the last one back.
-fn newest_of_few(log: &[u64], n: usize, key: u64) -> Newest
+// Where the newest entry of a key stands among the first n entries, from the last one back.
+fn newest_of_few(log: &[u64], n: usize, key: u64) -> Option<usize>
     requires { n * width ≤ length log.now }
     ensures { NewestIs key n log.now result }
 {
-    let mut i = n;
-    loop {
-        if i == 0 {
-            break Newest::Nowhere;
-        }
-        i -= 1;
+    for i in (0..n).rev() {
         let k = log[i * entry::WIDTH];
         if k == key {
-            break Newest::At(i);
+            return Some(i);
         }
     }
+    None
 }
 
-// The same, four entries a turn: to count them one by one would cost as much as to look at them.
-pub fn newest_at(log: &[u64], n: usize, key: u64) -> Newest
+// The same, four entries a turn: to count them one by one would cost as much as to look at them, and miss the bar of
+// docs/FIGURES.md. So the loop counts by hand.
+pub fn newest_at(log: &[u64], n: usize, key: u64) -> Option<usize>
     requires { n * width ≤ length log.now }
     ensures { NewestIs key n log.now result }
 {
     let mut i = n;
     loop {
         if i < 4 {
-            let few = newest_of_few(log, i, key);
-            break few;
+            break newest_of_few(log, i, key);
         }
         let a = i - 1;
         let ka = log[a * entry::WIDTH];
         if ka == key {
-            break Newest::At(a);
+            break Some(a);
         }
         let b = i - 2;
         let kb = log[b * entry::WIDTH];
         if kb == key {
-            break Newest::At(b);
+            break Some(b);
         }
         let c = i - 3;
         let kc = log[c * entry::WIDTH];
         if kc == key {
-            break Newest::At(c);
+            break Some(c);
         }
         i -= 4;
         let kd = log[i * entry::WIDTH];
         if kd == key {
-            break Newest::At(i);
+            break Some(i);
         }
     }
 }
 
 // What a key's newest entry among the first n says; unknown where it has none there.
-fn newest_word(log: &[u64], n: usize, key: u64) -> Found
+fn newest_word(log: &[u64], n: usize, key: u64) -> Option<Said>
     requires { n * width ≤ length log.now }
-    ensures { found result ≡ replied (last_of key (entries_of n log.now)) }
+    ensures { known_is result ≡ last_of key (entries_of n log.now) }
 {
-    let newest = newest_at(log, n, key);
-    let Newest::At(i) = newest else {
-        return Found::Unknown;
-    };
-    snapshot::inner::found_of(entry::inner::said_at(log, i))
+    let i = newest_at(log, n, key)?;
+    Some(entry::inner::said_at(log, i))
 }
 
 // A removal is a word too: where the newest entry is one, the snapshot is not asked.
-pub fn look(index: IndexRecord, log: &[u64], snapshot: &[u64], key: u64) -> Found
+pub fn look(index: IndexRecord, log: &[u64], snapshot: &[u64], key: u64) -> Option<Said>
     requires { Ready (raw index log.now snapshot.now) }
-    ensures { found result
+    ensures { replied (known_is result)
         ≡ (run (query (lookup key)) true (raw index log.now snapshot.now)).answer }
 {
     let decided = state_cache::inner::log_decided(index);
     let n = (decided - index.compacted.0) as usize;
-    let newest = newest_word(log, n, key);
-    let Found::Unknown = newest else {
-        return newest;
-    };
-    snapshot::inner::look_up(snapshot, index.keys, key)
+    match newest_word(log, n, key) {
+        None => snapshot::inner::look_up(snapshot, index.keys, key),
+        newest => newest,
+    }
 }
 
 // Looks the keys up one after the other, and writes each reply behind the one before.
@@ -119,12 +103,10 @@ fn fill(index: IndexRecord, log: &[u64], snapshot: &[u64], keys: &[u64], replies
         (lookup_replies keys.now (log_of (raw index log.now snapshot.now)))
         replies.old }
 {
-    let mut i = 0;
-    while i < keys.len() {
-        let found = look(index, log, snapshot, keys[i]);
-        let reply = entry::inner::reply(snapshot::inner::known_of(found));
+    for (i, key) in keys.iter().enumerate() {
+        let known = look(index, log, snapshot, *key);
+        let reply = entry::inner::reply(known);
         words::copy_in(replies, i * entry::REPLY_WIDTH, &reply);
-        i += 1;
     }
 }
 
@@ -135,7 +117,7 @@ pub fn look_many(
     snapshot: &[u64],
     keys: &[u64],
     replies: &mut [u64],
-) -> Settled
+) -> Result<(), Refusal>
     requires { Ready (raw index log.now snapshot.now) }
     ensures { (settled result, replies.new)
         ≡ filled_out
@@ -145,10 +127,10 @@ pub fn look_many(
     let asked = keys.len();
     let room = replies.len() / entry::REPLY_WIDTH;
     if (entry::MOST_ASKED < asked) | (room < asked) {
-        return Settled::Refused(Refusal::Malformed);
+        return Err(Refusal::Malformed);
     }
     fill(index, log, snapshot, keys, replies);
-    Settled::Done
+    Ok(())
 }
 
 // Where the entries from one index up to another stand among those retained.
@@ -160,9 +142,9 @@ pub fn between(index: IndexRecord, from: u64, to: u64) -> Span
     let last = state_cache::inner::end(index);
     let held = (low <= from) & ((from <= to) & (to <= last));
     if !held {
-        return Span::Run { first: 0, count: 0 };
+        return Span { first: 0, count: 0 };
     }
-    Span::Run {
+    Span {
         first: (from - low) as usize,
         count: (to - from) as usize,
     }
@@ -170,65 +152,40 @@ pub fn between(index: IndexRecord, from: u64, to: u64) -> Span
 
 // ---- read
 
-// Whether the index that a bound stands for is past 64 bits.
-pub fn start_past(b: Bound) -> bool
-    ensures { result ≡ start_past (bound_of b) }
+// The first index of a range; refused where it is past 64 bits. The two ends differ in the bound that stands next to
+// its index, so one function for both would take that as a flag.
+pub fn start_of(b: Bound<LogIndex>) -> Result<u64, Refusal>
+    ensures { result
+        ≡ (if start_past (bound_of b) then Err Refusal.Malformed else Ok (start_at (bound_of b))) }
 {
     match b {
-        Bound::Included(_) => false,
-        Bound::Excluded(i) => i.0 == u64::MAX,
-        Bound::Unbounded => false,
+        Bound::Included(i) => Ok(i.0),
+        Bound::Excluded(i) => i.0.checked_add(1).ok_or(Refusal::Malformed),
+        Bound::Unbounded => Ok(0),
     }
 }
 
-pub fn stop_past(b: Bound) -> bool
-    ensures { result ≡ stop_past (bound_of b) }
+// The index after the last one of a range, likewise.
+pub fn stop_of(b: Bound<LogIndex>, last: u64) -> Result<u64, Refusal>
+    ensures { result
+        ≡ (if stop_past (bound_of b) then Err Refusal.Malformed else Ok (stop_at (bound_of b) last)) }
 {
     match b {
-        Bound::Included(i) => i.0 == u64::MAX,
-        Bound::Excluded(_) => false,
-        Bound::Unbounded => false,
-    }
-}
-
-// The first index of a range, and the one after its last.
-pub fn start_at(b: Bound) -> u64
-    requires { start_past (bound_of b) ≡ false }
-    ensures { result ≡ start_at (bound_of b) }
-{
-    match b {
-        Bound::Included(i) => i.0,
-        Bound::Excluded(i) => i.0 + 1,
-        Bound::Unbounded => 0,
-    }
-}
-
-pub fn stop_at(b: Bound, last: u64) -> u64
-    requires { stop_past (bound_of b) ≡ false }
-    ensures { result ≡ stop_at (bound_of b) last }
-{
-    match b {
-        Bound::Included(i) => i.0 + 1,
-        Bound::Excluded(i) => i.0,
-        Bound::Unbounded => last,
+        Bound::Included(i) => i.0.checked_add(1).ok_or(Refusal::Malformed),
+        Bound::Excluded(i) => Ok(i.0),
+        Bound::Unbounded => Ok(last),
     }
 }
 
 // What stands at an index of the log.
-#[derive(Clone, Copy)]
+#[derive(Clone, Copy, Debug, PartialEq, Eq)]
 pub enum IndexEntry {
     Compacted,
     Entry,
     StopSign,
 }
 
-#[derive(Clone, Copy)]
-pub enum Kind {
-    Nothing,
-    Is(IndexEntry),
-}
-
-pub fn kind_at(index: IndexRecord, i: u64) -> Kind
+pub fn kind_at(index: IndexRecord, i: u64) -> Option<IndexEntry>
     requires { Small (numbers_in index) }
     ensures { KindIs (numbers_in index) i result }
 {
@@ -236,25 +193,24 @@ pub fn kind_at(index: IndexRecord, i: u64) -> Kind
     let end = state_cache::inner::end(index);
     let last = state_cache::inner::accepted(index);
     if i < low {
-        return Kind::Is(IndexEntry::Compacted);
+        return Some(IndexEntry::Compacted);
     }
     if i < end {
-        return Kind::Is(IndexEntry::Entry);
+        return Some(IndexEntry::Entry);
     }
     if i < last {
-        return Kind::Is(IndexEntry::StopSign);
+        return Some(IndexEntry::StopSign);
     }
-    Kind::Nothing
+    None
 }
 
 // The marker of a run that starts at an index of a kind.
-pub fn marker_of(index: IndexRecord, entry: IndexEntry) -> Marker
+pub fn marker_of(index: IndexRecord, entry: IndexEntry) -> Option<Marker>
     ensures { result ≡ marker_at entry index }
 {
     match entry {
-        IndexEntry::Compacted => compacted_marker(index),
-        IndexEntry::Entry => Marker::None,
-        IndexEntry::StopSign => Marker::None,
+        IndexEntry::Compacted => Some(compacted_marker(index)),
+        IndexEntry::Entry | IndexEntry::StopSign => None,
     }
 }
 
@@ -271,36 +227,30 @@ fn compacted_marker(index: IndexRecord) -> Marker
     Marker::Trimmed(compacted)
 }
 
-fn monus(a: u64, b: u64) -> u64
-    ensures { result ≡ a - b }
-{
-    if b <= a { a - b } else { 0 }
-}
-
 // The run from an index of a kind up to another.
 fn run_of(index: IndexRecord, entry: IndexEntry, from: u64, to: u64) -> ShownRun
     requires { Small (numbers_in index) × EntryIs (numbers_in index) from entry }
     ensures { result ≡ run_of from to index }
 {
     let low = index.compacted.0;
-    let start = monus(from, low);
-    let end = state_cache::inner::least(monus(to, low), index.retained as u64);
-    let known = state_cache::inner::least(end, monus(index.decided.0, low));
+    let start = from.saturating_sub(low);
+    let end = to.saturating_sub(low).min(index.retained as u64);
+    let known = end.min(index.decided.0.saturating_sub(low));
     let last = state_cache::inner::accepted(index);
     let decided = state_cache::inner::stop_decided(index);
     let marker = marker_of(index, entry);
     ShownRun {
         marker,
         first: start as usize,
-        count: monus(end, start) as usize,
-        decided: monus(known, start) as usize,
+        count: end.saturating_sub(start) as usize,
+        decided: known.saturating_sub(start) as usize,
         stop: (to == last) & index.stop_held,
         stop_decided: (to == last) & decided,
     }
 }
 
 // A run of a marker or nothing at all.
-fn no_entries(marker: Marker) -> ShownRun
+fn no_entries(marker: Option<Marker>) -> ShownRun
     ensures { result ≡ run_of_none marker }
 {
     ShownRun {
@@ -314,36 +264,33 @@ fn no_entries(marker: Marker) -> ShownRun
 }
 
 // Where the last index of the range is an entry or the stop-sign: the kind of the first decides.
-fn read_from(index: IndexRecord, from: u64, to: u64) -> ReadReply
+fn read_from(index: IndexRecord, from: u64, to: u64) -> Option<ShownRun>
     requires { Small (numbers_in index) × ((index.compacted.0 < to) × (to ≤ accepted_of (numbers_in index))) }
     ensures { result ≡ read_in from to index }
 {
-    let kind = kind_at(index, from);
-    let Kind::Is(entry) = kind else {
-        return ReadReply::Nothing;
+    let Some(entry) = kind_at(index, from) else {
+        return None;
     };
     if to <= from {
-        return ReadReply::Run(no_entries(Marker::None));
+        return Some(no_entries(None));
     }
-    ReadReply::Run(run_of(index, entry, from, to))
+    Some(run_of(index, entry, from, to))
 }
 
 // The kind of the last index is asked first: where it is compacted, the first is not looked at.
-pub fn read_at(index: IndexRecord, from: u64, to: u64) -> ReadReply
+pub fn read_at(index: IndexRecord, from: u64, to: u64) -> Option<ShownRun>
     requires { Small (numbers_in index) }
     ensures { result ≡ read_in from to index }
 {
     if to == 0 {
-        return ReadReply::Nothing;
+        return None;
     }
-    let kind = kind_at(index, to - 1);
-    let Kind::Is(entry) = kind else {
-        return ReadReply::Nothing;
+    let Some(entry) = kind_at(index, to - 1) else {
+        return None;
     };
     match entry {
-        IndexEntry::Compacted => ReadReply::Run(no_entries(compacted_marker(index))),
-        IndexEntry::Entry => read_from(index, from, to),
-        IndexEntry::StopSign => read_from(index, from, to),
+        IndexEntry::Compacted => Some(no_entries(Some(compacted_marker(index)))),
+        IndexEntry::Entry | IndexEntry::StopSign => read_from(index, from, to),
     }
 }
 
@@ -357,7 +304,7 @@ pub fn get_entries_reply(
     to: LogIndex,
 ) -> Span
     requires { Ready (raw index log.now snapshot.now) }
-    ensures { span_says log.now result
+    ensures { replied (span_is log.now result)
         ≡ (run (query (get_entries from.0 to.0)) true
         (raw index log.now snapshot.now)).answer }
 {
@@ -366,7 +313,7 @@ pub fn get_entries_reply(
 
 pub fn get_suffix_reply(index: IndexRecord, log: &[u64], snapshot: &[u64], from: LogIndex) -> Span
     requires { Ready (raw index log.now snapshot.now) }
-    ensures { span_says log.now result
+    ensures { replied (span_is log.now result)
         ≡ (run (query (get_suffix from.0)) true (raw index log.now snapshot.now)).answer }
 {
     between(index, from.0, state_cache::inner::end(index))
@@ -376,23 +323,18 @@ pub fn read_reply(
     index: IndexRecord,
     log: &[u64],
     snapshot: &[u64],
-    from: Bound,
-    to: Bound,
-) -> ReadReply
+    from: Bound<LogIndex>,
+    to: Bound<LogIndex>,
+) -> Result<Option<ShownRun>, Refusal>
     requires { Ready (raw index log.now snapshot.now) }
     ensures { read_said (raw index log.now snapshot.now) result
         ≡ (run (query (read (bound_of from) (bound_of to))) true
         (raw index log.now snapshot.now)).answer }
 {
-    let no_start = start_past(from);
-    let no_stop = stop_past(to);
-    if no_start | no_stop {
-        return ReadReply::Refused(Refusal::Malformed);
-    }
     let last = state_cache::inner::accepted(index);
-    let start = start_at(from);
-    let stop = stop_at(to, last);
-    read_at(index, start, stop)
+    let start = start_of(from)?;
+    let stop = stop_of(to, last)?;
+    Ok(read_at(index, start, stop))
 }
 
 pub fn read_decided_suffix_reply(
@@ -400,13 +342,13 @@ pub fn read_decided_suffix_reply(
     log: &[u64],
     snapshot: &[u64],
     from: LogIndex,
-) -> ReadReply
+) -> Option<ShownRun>
     requires { Ready (raw index log.now snapshot.now) }
-    ensures { read_said (raw index log.now snapshot.now) result
+    ensures { replied (run_is (raw index log.now snapshot.now) result)
         ≡ (run (query (read_decided from.0)) true (raw index log.now snapshot.now)).answer }
 {
     if index.decided.0 <= from.0 {
-        return ReadReply::Nothing;
+        return None;
     }
     read_at(index, from.0, index.decided.0)
 }

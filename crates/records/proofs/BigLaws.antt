@@ -3,6 +3,7 @@ use Rattle.words.proofs.Prelude.{arith, ◌≡◌, refl, sym, ap, ap₂, ◌∙�
 use Rattle.words.proofs.Prelude.{ltb, lt-ltb, ltb-true, List, [], ◌∷◌, ◌++◌, length-append, length, take, get_or}
 use Rattle.words.proofs.Prelude.{length-take-le}
 use Prim.Native.Nat.{◌%◌, ◌^◌}
+use Rattle.std.proofs.lemmas.List.{take_more}
 use lib.Seq.{take-suc, take-length}
 use Rattle.words.specs.All.{all_of}
 use Rattle.words.proofs.Alls.{all_head, all_tail, all_cons, all_join, all_take}
@@ -31,6 +32,9 @@ onto_append n (x ∷ a) b = onto_append (n * 256 + x) a b
 value_snoc : (a : List ℕ) (b : ℕ) → value (a ++ (b ∷ [])) ≡ value a * 256 + b
 unfolding onto
 value_snoc a b = onto_append 0 a (b ∷ [])
+
+pub value_more : (l : List ℕ) (i : ℕ) → i < length l → value (take (i + 1) l) ≡ value (take i l) * 256 + get_or l i 0
+value_more l i h = ap value (take_more l i 0 h) ∙ value_snoc (take i l) (get_or l i 0)
 
 pub value_big : (k n : ℕ) → n < 256 ^ k → value (big k n) ≡ n
 unfolding big onto

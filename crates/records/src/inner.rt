@@ -4,23 +4,15 @@ ghost use Rattle.words.specs.Words.{spliced};
 ghost use Rattle.records.specs.Big.{big, value};
 ghost use Rattle.records.specs.Sealed.{total, field, numbers, zipped, packed, unpacked, narrow, sum_of, sum_holds};
 
-fn wide(b: u8) -> u64
-    ensures { result ≡ b }
-{
-    b as u64
-}
-
-// Puts the k bytes of n at `at`.
+// Puts the k bytes of n at `at`, by their index: of what `iter_mut().rev()` writes, a proof knows nothing.
 pub fn put_big(s: &mut [u8], at: usize, k: usize, n: u64)
     requires { at + k ≤ length s.old }
     ensures { s.new ≡ spliced at k (big k n) s.old }
 {
-    let mut j = k;
     let mut m = n;
-    while 0 < j {
-        j -= 1;
+    for j in (0..k).rev() {
         s[at + j] = (m % 256) as u8;
-        m = m / 256;
+        m /= 256;
     }
 }
 
@@ -30,11 +22,10 @@ pub fn get_big(s: &[u8], at: usize, k: usize) -> u64
     requires k_bound { k ≤ 8 }
     ensures { result ≡ value (take k (drop at s.now)) }
 {
-    let mut i = 0;
+    let bytes = &s[at..at + k];
     let mut n = 0;
-    while i < k {
-        n = n * 256 + wide(s[at + i]);
-        i += 1;
+    for b in bytes {
+        n = n * 256 + u64::from(*b);
     }
     n
 }
@@ -47,30 +38,25 @@ pub fn put_fields(s: &mut [u8], at: usize, widths: &[usize], ns: &[u64])
         ≡ spliced at (total widths.now) (packed (zipped widths.now ns.now))
         s.old }
 {
-    let mut i = 0;
     let mut here = at;
-    while i < widths.len() {
-        let width = widths[i];
-        put_big(s, here, width, ns[i]);
-        here += width;
-        i += 1;
+    for (width, n) in widths.iter().zip(ns) {
+        put_big(s, here, *width, *n);
+        here += *width;
     }
 }
 
-// Gets the numbers that fields of these widths hold, the first of them at `at`.
+// Gets the numbers that fields of these widths hold, the first of them at `at`; ns by its index, since a proof knows
+// nothing of what a zip with `ns.iter_mut()` writes.
 pub fn get_fields(s: &[u8], at: usize, widths: &[usize], ns: &mut [u64])
     requires widths_in_bounds { at + total widths.now ≤ length s.now }
     requires widths_value { narrow widths.now ≡ true }
     requires ns_len { length ns.old ≡ length widths.now }
     ensures { ns.new ≡ numbers (unpacked widths.now (drop at s.now)) }
 {
-    let mut i = 0;
     let mut here = at;
-    while i < widths.len() {
-        let width = widths[i];
-        ns[i] = get_big(s, here, width);
-        here += width;
-        i += 1;
+    for (i, width) in widths.iter().enumerate() {
+        ns[i] = get_big(s, here, *width);
+        here += *width;
     }
 }
 
@@ -90,12 +76,7 @@ fn sum(s: &[u8], at: usize, k: usize) -> u64
     requires k_bound { k ≤ 65536 }
     ensures { result ≡ sum_of (take k (drop at s.now)) }
 {
-    let mut i = 0;
-    let mut t = 0;
-    while i < k {
-        t = t + wide(s[at + i]);
-        i += 1;
-    }
+    let t: u64 = s[at..at + k].iter().map(|b| u64::from(*b)).sum();
     t % 65536
 }
 

@@ -7,23 +7,20 @@ use Rattle.entry.specs.{Limits.width, Limits.largest_batch, Limits.log_words, Li
 use Rattle.entry.specs.{Guards.refused, Guards.replied, Change.Change, Change.entries_of, Change.change_code}
 use Rattle.model.specs.{Append.Flushed, Read.Bound, Read.span, Read.Shown, Read.shown, Log.given, Log.fresh_log}
 use Rattle.model.specs.{Numbers.accepted_of, Calls.Query, Calls.QueryReply, Calls.query, Calls.read}
-use Rattle.state_cache.proofs.{Stands.given_by, Unique.apart}
+use Rattle.entry.proofs.RefusalLaws.{apart}
+use Rattle.state_cache.proofs.{Stands.given_by}
 use Rattle.state_cache.specs.{State.Raw, State.raw, State.raw_of, State.index_of, State.one_if, Run.Outcome, Run.outcome}
 use Rattle.state_cache.specs.{Run.run, Run.fresh_call, Run.of_numbers, declared.IndexRecord.IndexRecord}
 use Rattle.text.specs.Answers.{line_of, entry_lines}
 use Rattle.text.specs.declared.Line.TheVariants.{Done, Refused, Run, Snapshot}
 use Rattle.reading.proofs.{Answers.query_keeps, Showing.lent_count, Replying.ShownLent, Replying.read_lent}
-use Rattle.reading.specs.{Parts.part, Replies.lent_span, Replies.marker_said, Replies.shown_said, Replies.read_said}
-use Rattle.reading.specs.{declared.ReadReply.ReadReply, declared.ShownRun.ShownRun}
+use Rattle.reading.specs.{Parts.part, Replies.lent_span, Replies.marker_said, Replies.shown_said}
+use Rattle.reading.specs.{declared.ShownRun.ShownRun}
 use Rattle.replay.specs.Answering.{printout, marker_text, stop_text, shown_text, read_text, in_log, read_text_in}
 use Rattle.replay.specs.Answering.{printed, started_by, stop_line, stopped_by}
 
 two : {t₁ t₂ : List ℕ} (t₀ a b : List ℕ) → t₁ ≡ t₀ ++ a → t₂ ≡ t₁ ++ b → t₂ ≡ t₀ ++ (a ++ b)
 two t₀ a b p q = q ∙ ap (λ (t : List ℕ). t ++ b) p ∙ append_assoc t₀ a b
-
-pub one_few : (b : Bool) → one_if b ≤ 1
-one_few true = omega arith
-one_few false = omega arith
 
 -- a snapshot's line counts the keys that its marker names
 pub snapshot_line : (i keys : ℕ) (snapshot : List ℕ)
@@ -81,23 +78,20 @@ lent_text log (replied (some v)) e =
 
 -- ---- what a call's answer prints, and the state after it
 
-pub tells : {A : Type 0} (text : Answer A → List ℕ) (l : List ℕ) (a : Answer A) (x : Raw) (o : Outcome A)
-    → outcome a x ≡ o → l ≡ text a → printout l x ≡ printed text o
-tells text l a x o e h = ap (λ (bs : List ℕ). printout bs x) h ∙ ap (printed text) e
-
 -- the answer of a call that changes nothing
-pub asks : (q : Query) (text : Answer (QueryReply q) → List ℕ) (l : List ℕ) (x : Raw)
-    → l ≡ text (run (query q) true x).answer → printout l x ≡ printed text (run (query q) true x)
-asks q text l x e = ap (λ (bs : List ℕ). printout bs x) e
+pub asks : (q : Query) (text : Answer (QueryReply q) → List ℕ) (a : Answer (QueryReply q)) (x : Raw)
+    → a ≡ (run (query q) true x).answer → printout (text a) x ≡ printed text (run (query q) true x)
+asks q text a x e = ap (λ (b : Answer (QueryReply q)). printout (text b) x) e
     ∙ ap (λ (s : Raw). printout (text (run (query q) true x).answer) s) (sym (query_keeps q x))
 
 -- a read's
-pub reads : (a b : Bound) (r : ReadReply) (x : Raw) → read_said x r ≡ (run (query (read a b)) true x).answer
-    → printout (read_text_in x.log (read_said x r)) x ≡ printed read_text (run (query (read a b)) true x)
-reads a b r x e =
-    asks (read a b) read_text (read_text_in x.log (read_said x r)) x
-    (ap (read_text_in x.log) e
-    ∙ lent_text x.log (run (query (read a b)) true x).answer (read_lent x a b))
+pub reads : (a b : Bound) (said : Answer (Option Shown)) (x : Raw) → said ≡ (run (query (read a b)) true x).answer
+    → printout (read_text_in x.log said) x ≡ printed read_text (run (query (read a b)) true x)
+reads a b said x e =
+    let whole = run (query (read a b)) true x in
+    ap (λ (s : Answer (Option Shown)). printout (read_text_in x.log s) x) e
+    ∙ ap (λ (bs : List ℕ). printout bs x) (lent_text x.log whole.answer (read_lent x a b))
+    ∙ ap (λ (s : Raw). printout (read_text whole.answer) s) (sym (query_keeps (read a b) x))
 
 pub stops : (l : List ℕ) (a : Answer (Option Flushed)) (last : Answer ℕ) (x : Raw) (o : Outcome (Option Flushed))
     → outcome a x ≡ o → last ≡ of_numbers accepted_of x → l ≡ stop_line a last → printout l x ≡ stopped_by o
@@ -122,13 +116,12 @@ pub starts : (n : ℕ) (x old : Raw) → outcome (replied tt) x ≡ fresh_call n
     → printout (line_of Done) x ≡ started_by (fresh_call n old.log old.snapshot) old
 starts n x old e = ap (λ (o : Outcome (Unit {0})). started_by o old) e
 
-pub stays : (n said k m : ℕ) (x old : Raw) → outcome (refused k m) x ≡ fresh_call n old.log old.snapshot → said ≡ k
-    → printout (line_of (Refused said)) (raw old.index x.log x.snapshot)
+pub stays : (n k m : ℕ) (x old : Raw) → outcome (refused k m) x ≡ fresh_call n old.log old.snapshot
+    → printout (line_of (Refused k)) (raw old.index x.log x.snapshot)
     ≡ started_by (fresh_call n old.log old.snapshot) old
-stays n said k m x old e h =
+stays n k m x old e =
     let kept = fresh_kept n k m x old.log old.snapshot e in
-    ap (λ (i : ℕ). printout (line_of (Refused i)) (raw old.index x.log x.snapshot)) h
-    ∙ ap (λ (r : Raw). printout (line_of (Refused k)) r)
+    ap (λ (r : Raw). printout (line_of (Refused k)) r)
     (ap (λ (l : List ℕ). raw old.index l x.snapshot) kept.0
     ∙ ap (λ (l : List ℕ). raw old.index old.log l) kept.1)
     ∙ ap (λ (o : Outcome (Unit {0})). started_by o old) e

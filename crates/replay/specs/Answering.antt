@@ -1,17 +1,21 @@
 -- "A replay, whole": what a line of input prints and the state after it, of any state.
 use Rattle.std.specs.Prelude.{ℕ, ◌+◌, ◌-◌, Bool, true, false, List, [], ◌∷◌, ◌++◌, length, replicate}
+use Rattle.std.specs.Prelude.{Result, Ok, Err}
 use Rattle.std.proofs.Math.Option.{Option, none, some}
 use Rattle.entry.specs.Limits.{most_nodes, most_metadata}
 use Rattle.entry.specs.Change.{Change, Said as SaidOf, place, removed, entries_in}
 use Rattle.entry.specs.Upto.{upto_of}
 use Rattle.entry.specs.Guards.{Answer, refused, replied}
+use Rattle.entry.specs.Refusals.{number_of}
+use Rattle.entry.specs.declared.Refusal.{Refusal}
 use Rattle.entry.specs.declared.StopSign.{StopSign}
 use Rattle.model.specs.Numbers.{accepted_of}
 use Rattle.model.specs.Log.{given}
 use Rattle.model.specs.Append.{Flushed}
 use Rattle.model.specs.Read.{included, excluded, Marker, trimmed, snapshotted, span, Shown, shown}
 use Rattle.model.specs.Calls.{query, read, lookup, append, flush, append_stop, decide, compact}
-use Rattle.state_cache.specs.State.{Raw, one_if}
+use Rattle.state_cache.specs.State.{Raw, raw, one_if}
+use Rattle.state_cache.specs.declared.IndexRecord.{IndexRecord}
 use Rattle.state_cache.specs.Run.{Outcome, run, fresh_call, of_numbers}
 use Rattle.text.specs.Answers.{line_of, entry_lines}
 use Rattle.text.specs.declared.Line.TheVariants.{Done, Held, Nothing, BadLine, Accepted, Refused, Run, Trimmed}
@@ -19,7 +23,7 @@ use Rattle.text.specs.declared.Line.TheVariants.{Snapshot, Stop, Place, Removed,
 use Rattle.text.specs.declared.Command.{Command}
 use Rattle.text.specs.declared.Command.TheVariants as command
 use Rattle.reading.specs.Parts.{part}
-use Rattle.reading.specs.Replies.{read_said}
+use Rattle.reading.specs.Replies.{run_is}
 use Rattle.replay.specs.declared.answer.Reply.{Reply}
 use Rattle.replay.specs.declared.answer.Reply.TheVariants as reply
 
@@ -93,10 +97,15 @@ read_text_in log (replied (some v)) = shown_text (in_log log v)
 -- a command's answer, beside the state after it
 abbrev pub reply_text : Raw → Reply → List ℕ
 reply_text x (reply.Line l) = line_of l
-reply_text x (reply.Read r) = read_text_in x.log (read_said x r)
+reply_text x (reply.Read r) = read_text_in x.log (replied (run_is x r))
 
 abbrev pub telling : Reply → Raw → Printout
 telling r x = printout (reply_text x r) x
+
+-- a command's answer: where it is refused the number is printed, and the record is the one that it was done on
+abbrev pub answered : IndexRecord → Result (IndexRecord × Reply) Refusal → List ℕ → List ℕ → Printout
+answered old (Ok (next, r)) log snapshot = telling r (raw next log snapshot)
+answered old (Err e) log snapshot = printout (line_of (Refused (number_of e))) (raw old log snapshot)
 
 -- a call's answer printed
 abbrev pub printed : {A : Type 0} → (Answer A → List ℕ) → Outcome A → Printout

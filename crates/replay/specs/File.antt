@@ -1,21 +1,21 @@
 -- The file: what the program was started with, and what it starts from.
-use Rattle.std.specs.Prelude.{ℕ, ◌≡◌, List, ◌⊎◌}
+use Rattle.std.specs.Prelude.{ℕ, ◌≡◌, List, ◌⊎◌, Result, Ok, Err, IfOk}
 use Rattle.std.proofs.Math.Option.{Option}
 use Rattle.entry.specs.Guards.{replied}
 use Rattle.model.specs.Log.{fresh_log}
-use Rattle.state_cache.specs.State.{Raw, raw_of}
+use Rattle.state_cache.specs.State.{Raw, raw, raw_of}
+use Rattle.state_cache.specs.declared.IndexRecord.{IndexRecord}
 use Rattle.state_cache.specs.Run.{outcome}
 use Rattle.image.specs.Calls.{read_call}
 use Rattle.words.specs.Words.{IsPrefixLen}
-use Rattle.keep.specs.declared.Saved.{Saved}
-use Rattle.keep.specs.declared.Saved.TheVariants as saved
+use Rattle.keep.specs.declared.SaveError.{SaveError}
+use Rattle.keep.specs.declared.SaveError.TheVariants as save_error
 use Rattle.text.specs.Lines.{lines_of, last_ended}
 use Rattle.replay.specs.Input.{replayed, start_of, Reached}
 use Rattle.replay.specs.declared.file.Given.{Given}
 use Rattle.replay.specs.declared.file.Given.TheVariants as given
 use Rattle.replay.specs.declared.told.Told.{Told}
-use Rattle.replay.specs.declared.told.Told.TheVariants.{Nothing, NoName, Unread, NoImage, NoBytes}
-use Rattle.replay.specs.declared.told.Told.TheVariants.{NotMade, NotWritten, NotNamed, NotSynced}
+use Rattle.replay.specs.declared.told.Told.TheVariants.{NoName, NotMade, NotWritten, NotNamed, NotSynced}
 
 -- the name of a file stands at the front of some bytes
 abbrev pub Named : Given → List ℕ → Type 0
@@ -43,28 +43,16 @@ Begins given.Nothing x = Fresh x
 Begins (given.File n) x = Filed x
 Begins given.NoName x = ⊥
 
--- where nothing is told the log is such a one
-abbrev pub Started : (Raw → Type 0) → Told → Raw → Type 0
-Started P Nothing x = P x
-Started P NoName x = Unit {0}
-Started P Unread x = Unit {0}
-Started P (NoImage number carried) x = Unit {0}
-Started P (NoBytes number carried) x = Unit {0}
-Started P NotMade x = Unit {0}
-Started P NotWritten x = Unit {0}
-Started P NotNamed x = Unit {0}
-Started P NotSynced x = Unit {0}
+-- a program without a file has a log; one that is to have a file and has no name for it tells that
+abbrev pub Began : Given → Result IndexRecord Told → List ℕ → List ℕ → Type 0
+Began given.Nothing r log snapshot = (index : IndexRecord) × (r ≡ Ok index) × Fresh (raw index log snapshot)
+Began (given.File n) r log snapshot = IfOk r (λ (index : IndexRecord). Filed (raw index log snapshot))
+Began given.NoName r log snapshot = r ≡ Err NoName
 
--- a program without a file has a log and tells nothing; one that is to have a file and has no name for it tells that
-abbrev pub Began : Given → Told → Raw → Type 0
-Began given.Nothing t x = (t ≡ Nothing) × Fresh x
-Began (given.File n) t x = Started Filed t x
-Began given.NoName t x = t ≡ NoName
-
-abbrev pub Quiet : Given → Told → Type 0
-Quiet given.Nothing t = t ≡ Nothing
-Quiet (given.File n) t = Unit {0}
-Quiet given.NoName t = Unit {0}
+abbrev pub Quiet : Given → Result (Unit {0}) Told → Type 0
+Quiet given.Nothing r = r ≡ Ok tt
+Quiet (given.File n) r = Unit {0}
+Quiet given.NoName r = Unit {0}
 
 -- where the program stands: some input has come, and its lines have been answered from such a log on
 pub record Standing (g : Given) (x : Raw) (line : Option (List ℕ)) (waits : List ℕ) : Type 0 where
@@ -80,9 +68,9 @@ pub record Ended (g : Given) (x : Raw) : Type 0 where
   pub input : List ℕ
   pub state : x ≡ (replayed (last_ended (lines_of input)).ended (start_of from)).after
 
-abbrev pub told_saved : Saved → Told
-told_saved saved.Done = Nothing
-told_saved saved.NotMade = NotMade
-told_saved saved.NotWritten = NotWritten
-told_saved saved.NotNamed = NotNamed
-told_saved saved.NotSynced = NotSynced
+abbrev pub told_saved : Result (Unit {0}) SaveError → Result (Unit {0}) Told
+told_saved (Ok done) = Ok tt
+told_saved (Err save_error.NotMade) = Err NotMade
+told_saved (Err save_error.NotWritten) = Err NotWritten
+told_saved (Err save_error.NotNamed) = Err NotNamed
+told_saved (Err save_error.NotSynced) = Err NotSynced

@@ -46,8 +46,7 @@ fn command_of(held: Partial, line: &[u8]) -> Command
     if held.over {
         return Command::BadLine;
     }
-    let len = held.len;
-    text::parse(&line[..len])
+    text::parse(&line[..held.len])
 }
 
 // The end of a line: it is answered on the log, and the next begins.
@@ -68,20 +67,16 @@ fn finish(
         (come fed.held.over fed.held.len line.now) (take fed.used out.new)) }
     ensures failed { OnErr result ((log.new ≡ log.old) × (snapshot.new ≡ snapshot.old)) }
 {
-    let used = st.used;
-    let index = st.index;
-    let at = text::inner::room(to, out, used, super::LAST_START)?;
+    let at = text::inner::room(to, out, st.used, super::LAST_START)?;
     let command = command_of(st.held, line);
-    let done = super::answer::step(index, log, snapshot, command, out, at);
-    let next = done.index;
-    let o = done.at;
+    let (index, used) = super::answer::step(st.index, log, snapshot, command, out, at);
     Ok(Feed {
-        index: next,
+        index,
         held: Partial {
             len: 0,
             over: false,
         },
-        used: o,
+        used,
         more: true,
     })
 }

@@ -1,13 +1,11 @@
 // The file that a replay starts from and is saved to.
-ghost use Rattle.std.specs.Prelude.{◌≡◌};
+ghost use Rattle.std.specs.Prelude.{◌≡◌, Result, Ok, Err, IfOk};
 ghost use Rattle.state_cache.specs.State.{raw};
-ghost use Rattle.replay.specs.File.{Named, Fresh, Stored, Filed, Started, Began, Ended, Quiet, told_saved};
-ghost use Rattle.replay.specs.declared.told.Told.TheVariants.{Nothing};
+ghost use Rattle.replay.specs.File.{Named, Fresh, Stored, Filed, Began, Ended, Quiet, told_saved};
 
 use super::told::Told;
-use image::Written;
-use keep::{Loaded, Saved};
-use state_cache::{IndexAnswer, IndexRecord};
+use keep::{LoadError, SaveError};
+use state_cache::IndexRecord;
 use std::env::FillError;
 use std::rt::Env;
 
@@ -17,13 +15,6 @@ pub enum Given {
     Nothing,
     File(usize),
     NoName,
-}
-
-// The log before the first line, or what is told where there is none.
-#[derive(Clone, Copy)]
-pub struct Begun {
-    pub index: IndexRecord,
-    pub told: Told,
 }
 
 // The first argument. A name that is empty, or too long for a file that is to be saved, is told before the first line
@@ -40,23 +31,13 @@ pub(crate) fn argument(rt: HostRuntime, path: &mut [u8]) -> Given
 }
 
 // A fresh log of batch size 0.
-fn fresh(log: &mut [u64; entry::LOG_WORDS], snapshot: &mut [u64; entry::SNAPSHOT_WORDS]) -> Begun
-    ensures { (result.told ≡ Nothing) × Fresh (raw result.index log.new snapshot.new) }
+fn fresh(
+    log: &mut [u64; entry::LOG_WORDS],
+    snapshot: &mut [u64; entry::SNAPSHOT_WORDS],
+) -> IndexRecord
+    ensures { Fresh (raw result log.new snapshot.new) }
 {
-    let first = state_cache::fresh(0, log, snapshot);
-    let index = first.index;
-    Begun {
-        index,
-        told: Told::Nothing,
-    }
-}
-
-// No log.
-fn none(told: Told) -> Begun
-    ensures { result.told ≡ told }
-{
-    let index = state_cache::inner::fresh_index(0);
-    Begun { index, told }
+    state_cache::fresh(0, log, snapshot).unwrap()
 }
 
 // The log that some bytes are the image of, with batch size 0: an image has no batch, nor a size for one.
@@ -64,23 +45,12 @@ fn from_image(
     bytes: &[u8],
     log: &mut [u64; entry::LOG_WORDS],
     snapshot: &mut [u64; entry::SNAPSHOT_WORDS],
-) -> Begun
-    ensures { Started Stored result.told (raw result.index log.new snapshot.new) }
+) -> Result<IndexRecord, Told>
+    ensures { IfOk result (λ index. Stored (raw index log.new snapshot.new)) }
 {
-    let read = image::read(0, bytes, log, snapshot);
-    let index = read.index;
-    let answer = read.answer;
-    let IndexAnswer::Refused(refusal) = answer else {
-        return Begun {
-            index,
-            told: Told::Nothing,
-        };
-    };
-    let number = entry::number(refusal);
-    let carried = entry::carried(refusal);
-    Begun {
-        index,
-        told: Told::NoImage(number, carried),
+    match image::read(0, bytes, log, snapshot) {
+        Ok((index, _)) => Ok(index),
+        Err(refusal) => Err(Told::NoImage(entry::number(refusal), entry::carried(refusal))),
     }
 }
 
@@ -91,45 +61,44 @@ fn from_file(
     path: &[u8],
     log: &mut [u64; entry::LOG_WORDS],
     snapshot: &mut [u64; entry::SNAPSHOT_WORDS],
-) -> Begun
-    ensures { Started Filed result.told (raw result.index log.new snapshot.new) }
+) -> Result<IndexRecord, Told>
+    ensures { IfOk result (λ index. Filed (raw index log.new snapshot.new)) }
 {
     let mut bytes = [0u8; image::ROOM + 1];
-    let loaded = keep::load(&rt, path, &mut bytes);
-    match loaded {
-        Loaded::Bytes(n) => from_image(&bytes[..n], log, snapshot),
-        Loaded::Missing => fresh(log, snapshot),
-        Loaded::Unread => none(Told::Unread),
+    match keep::load(&rt, path, &mut bytes) {
+        Ok(n) => from_image(&bytes[..n], log, snapshot),
+        Err(LoadError::Missing) => Ok(fresh(log, snapshot)),
+        Err(LoadError::Unread) => Err(Told::Unread),
     }
 }
 
-// The log before the first line.
+// The log before the first line, or what is told where there is none.
 pub(crate) fn begin(
     rt: HostRuntime,
     given: Given,
     path: &[u8],
     log: &mut [u64; entry::LOG_WORDS],
     snapshot: &mut [u64; entry::SNAPSHOT_WORDS],
-) -> Begun
+) -> Result<IndexRecord, Told>
     requires { Named given path.now }
-    ensures { Began given result.told (raw result.index log.new snapshot.new) }
+    ensures { Began given result log.new snapshot.new }
 {
     match given {
-        Given::Nothing => fresh(log, snapshot),
+        Given::Nothing => Ok(fresh(log, snapshot)),
         Given::File(n) => from_file(rt, &path[..n], log, snapshot),
-        Given::NoName => none(Told::NoName),
+        Given::NoName => Err(Told::NoName),
     }
 }
 
-fn told_saved(saved: Saved) -> Told
+fn told_saved(saved: Result<(), SaveError>) -> Result<(), Told>
     ensures { result ≡ told_saved saved }
 {
     match saved {
-        Saved::Done => Told::Nothing,
-        Saved::NotMade => Told::NotMade,
-        Saved::NotWritten => Told::NotWritten,
-        Saved::NotNamed => Told::NotNamed,
-        Saved::NotSynced => Told::NotSynced,
+        Ok(()) => Ok(()),
+        Err(SaveError::NotMade) => Err(Told::NotMade),
+        Err(SaveError::NotWritten) => Err(Told::NotWritten),
+        Err(SaveError::NotNamed) => Err(Told::NotNamed),
+        Err(SaveError::NotSynced) => Err(Told::NotSynced),
     }
 }
 
@@ -140,16 +109,11 @@ fn to_file(
     index: IndexRecord,
     log: &[u64],
     snapshot: &[u64],
-) -> Told {
+) -> Result<(), Told> {
     let mut bytes = [0u8; image::ROOM];
-    let written = image::write(index, log, snapshot, &mut bytes);
-    match written {
-        Written::Bytes(n) => told_saved(keep::save(&rt, path, &bytes[..n])),
-        Written::Refused(refusal) => {
-            let number = entry::number(refusal);
-            let carried = entry::carried(refusal);
-            Told::NoBytes(number, carried)
-        }
+    match image::write(index, log, snapshot, &mut bytes) {
+        Ok(n) => told_saved(keep::save(&rt, path, &bytes[..n])),
+        Err(refusal) => Err(Told::NoBytes(entry::number(refusal), entry::carried(refusal))),
     }
 }
 
@@ -161,14 +125,14 @@ pub(crate) fn save(
     index: IndexRecord,
     log: &[u64],
     snapshot: &[u64],
-) -> Told
+) -> Result<(), Told>
     requires named { Named given path.now }
     requires ended { Ended given (raw index log.now snapshot.now) }
     ensures { Quiet given result }
 {
     match given {
-        Given::Nothing => Told::Nothing,
+        Given::Nothing => Ok(()),
         Given::File(n) => to_file(rt, &path[..n], index, log, snapshot),
-        Given::NoName => Told::Nothing,
+        Given::NoName => Ok(()),
     }
 }

@@ -53,10 +53,8 @@ fn take_turn(
         → ((part : List ℕ) × Reached from (lines_from ls part) (raw fed.index log.new snapshot.new)
         (come fed.held.over fed.held.len line.new) (take fed.used out.new))) }
 {
-    let used = st.used;
-    let view: &[u8] = out;
     let to = rt.stdout();
-    to.write_all(&view[..used])?;
+    to.write_all(&out[..st.used])?;
     let mut chunk = [0u8; PART];
     let n = rt.stdin().read(&mut chunk)?;
     let mut s = st;
@@ -79,7 +77,7 @@ fn last(
     log: &mut [u64; entry::LOG_WORDS],
     snapshot: &mut [u64; entry::SNAPSHOT_WORDS],
     out: &mut [u8; OUT_ROOM],
-) -> io::Result<Told>
+) -> io::Result<Result<(), Told>>
     requires named { Named given path.now }
     requires len_le_input_line { (st.held.len ≤ input_line) × (st.used ≤ out_room) }
     requires standing { Standing given (raw st.index log.old snapshot.old)
@@ -88,11 +86,8 @@ fn last(
 {
     let to = rt.stdout();
     let s = feed::end(to, st, line, log, snapshot, out)?;
-    let used = s.used;
-    let index = s.index;
-    let view: &[u8] = out;
-    to.write_all(&view[..used])?;
-    Ok(file::save(rt, given, path, index, log, snapshot))
+    to.write_all(&out[..s.used])?;
+    Ok(file::save(rt, given, path, s.index, log, snapshot))
 }
 
 fn main(rt: HostRuntime) -> io::Result<()> {
@@ -103,19 +98,20 @@ fn main(rt: HostRuntime) -> io::Result<()> {
     let mut out = [0u8; OUT_ROOM];
     let given = file::argument(rt, &mut path);
     let begun = file::begin(rt, given, &path, &mut log, &mut snapshot);
-    let before = begun.told;
     // Where there is no log to start from no line is answered, and the file stays as it is.
-    if told::tell(rt.stdout(), before)? {
+    let start = told::tell(rt.stdout(), begun)?;
+    let Some(index) = start else {
         return Ok(());
-    }
-    let mut s = feed::start(begun.index);
-    // Nothing says that input ends: the turns are what is counted down.
-    let mut turns = u64::MAX;
-    while turns > 0 && s.more {
+    };
+    let mut s = feed::start(index);
+    // Nothing says that input ends: the turns are what is counted.
+    for _ in 0..u64::MAX {
+        if !s.more {
+            break;
+        }
         s = take_turn(rt, s, &mut line, &mut log, &mut snapshot, &mut out)?;
-        turns -= 1;
     }
-    let after = last(
+    let saved = last(
         rt,
         given,
         &path,
@@ -125,6 +121,6 @@ fn main(rt: HostRuntime) -> io::Result<()> {
         &mut snapshot,
         &mut out,
     )?;
-    told::tell(rt.stdout(), after)?;
+    told::tell(rt.stdout(), saved)?;
     Ok(())
 }

@@ -1,7 +1,7 @@
-// What is told of the file that the program was started with: a line at most, and none where all is well.
-ghost use Rattle.std.specs.Prelude.{◌≡◌, ◌++◌, ◌+◌, ◌≤◌, ltb, length, take, IfOk};
+// What is told of the file that the program was started with: a line, where not all is well.
+ghost use Rattle.std.specs.Prelude.{◌≡◌, ◌++◌, ◌+◌, ◌≤◌, length, take, IfOk};
 ghost use Rattle.text.specs.Refusing.{refused_room, refused_text};
-ghost use Rattle.replay.specs.Told.{told_room, told_text};
+ghost use Rattle.replay.specs.Told.{told_room, told_text, untold};
 
 use std::io;
 use std::io::Stdout;
@@ -9,10 +9,9 @@ use std::io::Stdout;
 // The most bytes of such a line.
 const TOLD_ROOM: usize = 128;
 
-// A refusal is told by its number and what it carries.
+// Why there is no log, or none saved. A refusal is told by its number and what it carries.
 #[derive(Clone, Copy)]
 pub enum Told {
-    Nothing,
     // Before the first line: no file can have the name; the file cannot be read; it has no image.
     NoName,
     Unread,
@@ -36,13 +35,13 @@ fn put_refused(out: &mut [u8], label: &[u8], number: u64, carried: u64) -> usize
 }
 
 // The line to the front of out.
+#[tactic(auto, unfolding(crate::specs::Told::told_text))]
 fn put_told(out: &mut [u8], told: Told) -> usize
     requires { told_room ≤ length out.old }
     ensures upper_bound { result ≤ told_room }
     ensures out_after { take result out.new ≡ told_text told }
 {
     match told {
-        Told::Nothing => 0,
         Told::NoName => text::inner::put(
             out,
             0,
@@ -73,12 +72,17 @@ fn put_told(out: &mut [u8], told: Told) -> usize
     }
 }
 
-// Writes the line, and says whether there is one.
-pub(crate) fn tell(to: Stdout, told: Told) -> io::Result<bool>
-    ensures { IfOk result (λ some. some ≡ ltb 0 (length (told_text told))) }
+// Writes the line where there is one to tell; hands on what there is where there is none.
+pub(crate) fn tell<T: Copy>(to: Stdout, told: Result<T, Told>) -> io::Result<Option<T>>
+    ensures { IfOk result (λ value. value ≡ untold told) }
 {
-    let mut out = [0u8; TOLD_ROOM];
-    let n = put_told(&mut out, told);
-    to.write_all(&out[..n])?;
-    Ok(n > 0)
+    match told {
+        Ok(value) => Ok(Some(value)),
+        Err(told) => {
+            let mut out = [0u8; TOLD_ROOM];
+            let n = put_told(&mut out, told);
+            to.write_all(&out[..n])?;
+            Ok(None)
+        }
+    }
 }

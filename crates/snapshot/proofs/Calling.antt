@@ -15,10 +15,8 @@ use Rattle.entry.proofs.{SliceLaws.slice_fine, SliceLaws.stored_entries, SliceLa
 use Rattle.snapshot.specs.Folds.{rising, fold_onto, fold, merge, find}
 use Rattle.snapshot.specs.Calls.{snapshot_formed, Outcome, outcome, written_by, fold_guards, folded, fold_call}
 use Rattle.snapshot.specs.Calls.{merge_call, find_call}
-use Rattle.snapshot.specs.Inner.{rank, spot_of, Holds, Shows, FoldIs, Aside, folded_out}
-use Rattle.snapshot.specs.declared.Folded.{Folded}
-use Rattle.snapshot.specs.declared.Folded.TheVariants.{Keys, Refused}
-use Rattle.snapshot.specs.declared.inner.Spot.TheVariants.{At, Before}
+use Rattle.snapshot.specs.Inner.{rank, spot_of, Holds, FoldIs, Aside, folded_out}
+use Rattle.std.specs.Prelude.{Result, Ok, Err}
 use Rattle.snapshot.proofs.{Searching.spot_at, Searching.spot_before, Searching.spot_inside, Finds.find_absent}
 use Rattle.snapshot.proofs.{Finds.find_found, Putting.folded_keys, Putting.folded_refused, Putting.folded_over}
 
@@ -33,24 +31,24 @@ module _ (es : List Change) (out : List ℕ) where
   unfolding first
   over_written h = rw (first_goes_on 8 0 (ltb key_room (length es)) [] (le-ltb key_room (length es) h))
 
-  module _ (r : Folded) (t : List ℕ) (p : FoldIs snapshot_words es r t) where
-    pub aside_refused : (x : Refusal) → r ≡ Refused x
+  module _ (r : Result ℕ Refusal) (t : List ℕ) (p : FoldIs snapshot_words es r t) where
+    pub aside_refused : (x : Refusal) → r ≡ Err x
         → outcome (folded r) out ≡ written_by (first (fold_guards es)) es out
     aside_refused x e =
-        ap (λ (y : Folded). outcome (folded y) out) (folded_over snapshot_words es r x p.reply e)
+        ap (λ (y : Result ℕ Refusal). outcome (folded y) out) (folded_over snapshot_words es r x p.reply e)
         ∙ over_refused (omega (arith, folded_refused snapshot_words es x (sym p.reply ∙ e)))
 
-    pub aside_written : (k : ℕ) → r ≡ Keys k → outcome (folded (Keys k)) t ≡ written_by (first (fold_guards es)) es out
+    pub aside_written : (k : ℕ) → r ≡ Ok k → outcome (folded (Ok k)) t ≡ written_by (first (fold_guards es)) es out
     aside_written k e =
         let q = folded_keys snapshot_words es k (sym p.reply ∙ e) in
         ap₂ (λ (n : ℕ) (ws : List ℕ). outcome (replied n) ws) q.1 (p.words_are q.0)
         ∙ over_written (omega (arith, q.0))
 
 -- what a fold's answer tells, whatever the verdict
-module _ (v : Verdict) (es : List Change) (out exit : List ℕ) (a : Folded)
+module _ (v : Verdict) (es : List Change) (out exit : List ℕ) (a : Result ℕ Refusal)
     (f : outcome (folded a) exit ≡ written_by v es out) where
-  pub wrote_nothing : (x : Refusal) → a ≡ Refused x → (v ≡ refuses (number_of x) (carried_of x)) × (exit ≡ out)
-  wrote_nothing x p = go v (ap (λ (b : Folded). outcome (folded b) exit) (sym p) ∙ f)
+  pub wrote_nothing : (x : Refusal) → a ≡ Err x → (v ≡ refuses (number_of x) (carried_of x)) × (exit ≡ out)
+  wrote_nothing x p = go v (ap (λ (b : Result ℕ Refusal). outcome (folded b) exit) (sym p) ∙ f)
     where
       go : (u : Verdict) → outcome (refused_by x) exit ≡ written_by u es out
           → (u ≡ refuses (number_of x) (carried_of x)) × (exit ≡ out)
@@ -62,8 +60,8 @@ module _ (v : Verdict) (es : List Change) (out exit : List ℕ) (a : Folded)
           let y : refused_by x ≡ refused n k = ap (λ (o : Outcome). o.answer) e in
           (cc, ap (λ (o : Outcome). o.output) e)
 
-  pub wrote_keys : (k : ℕ) → a ≡ Keys k → (v ≡ passes) × (k ≡ length es) × (exit ≡ stored snapshot_words es)
-  wrote_keys k p = go v (ap (λ (b : Folded). outcome (folded b) exit) (sym p) ∙ f)
+  pub wrote_keys : (k : ℕ) → a ≡ Ok k → (v ≡ passes) × (k ≡ length es) × (exit ≡ stored snapshot_words es)
+  wrote_keys k p = go v (ap (λ (b : Result ℕ Refusal). outcome (folded b) exit) (sym p) ∙ f)
     where
       go : (u : Verdict) → outcome (replied k) exit ≡ written_by u es out
           → (u ≡ passes) × (k ≡ length es) × (exit ≡ stored snapshot_words es)
@@ -75,20 +73,17 @@ module _ (v : Verdict) (es : List Change) (out exit : List ℕ) (a : Folded)
           let z : ◌≡◌ {A = ℕ} 0 1 = cc in
           absurd (omega arith)
 
--- the same as what is needed of scratch words, and of what a fold in them comes to
+-- the same of what a fold in scratch words comes to
 module _ (kept : ℕ) (base : List ℕ) (n : ℕ) (entries out : List ℕ) (a : Aside kept base n entries out) where
-  pub aside_needs : Holds (length base) kept base × Shows n entries
-  aside_needs = (rw a.base_holds.laid.long a.base_holds, a.entries_show)
-
-  module _ (r : Folded) (t : List ℕ)
+  module _ (r : Result ℕ Refusal) (t : List ℕ)
       (p : FoldIs (length base) (fold_onto (entries_of kept base) (entries_of n entries)) r t) where
     scratch_is : FoldIs snapshot_words (fold_onto (entries_of kept base) (entries_of n entries)) r t
     scratch_is = rw a.base_holds.laid.long at p
 
-    pub out_refused : (x : Refusal) → r ≡ Refused x → outcome (folded r) out ≡ folded_out kept base n entries out
+    pub out_refused : (x : Refusal) → r ≡ Err x → outcome (folded r) out ≡ folded_out kept base n entries out
     out_refused x e = aside_refused (fold_onto (entries_of kept base) (entries_of n entries)) out r t scratch_is x e
 
-    pub out_written : (k : ℕ) → r ≡ Keys k → outcome (folded (Keys k)) t ≡ folded_out kept base n entries out
+    pub out_written : (k : ℕ) → r ≡ Ok k → outcome (folded (Ok k)) t ≡ folded_out kept base n entries out
     out_written k e = aside_written (fold_onto (entries_of kept base) (entries_of n entries)) out r t scratch_is k e
 
 -- a snapshot in form, and the empty one
@@ -175,10 +170,10 @@ find_stands n ws k ok = sym (rw (first_goes_on 11 0 (not (snapshot_formed n ws))
 
 -- a search's end, as it is told
 module _ (n : ℕ) (ws : List ℕ) (k i : ℕ) where
-  pub look_none : Before i ≡ spot_of (entries_of n ws) k → replied none ≡ replied (find k (entries_of n ws))
+  pub look_none : Err i ≡ spot_of (entries_of n ws) k → none ≡ find k (entries_of n ws)
   look_none e = sym (rw (find_absent k (entries_of n ws) (spot_before (entries_of n ws) k i (sym e)).0))
 
-  pub look_at : At i ≡ spot_of (entries_of n ws) k → some (change_at ws i).said ≡ find k (entries_of n ws)
+  pub look_at : Ok i ≡ spot_of (entries_of n ws) k → some (change_at ws i).said ≡ find k (entries_of n ws)
   look_at e =
       let at = spot_at (entries_of n ws) k i (sym e) in
       let q : drop (rank (entries_of n ws) k) (entries_of n ws)

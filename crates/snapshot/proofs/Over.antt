@@ -4,8 +4,8 @@ use Rattle.entry.specs.{Limits.width, Limits.snapshot_words, Change.Change, Chan
 use Rattle.entry.specs.{Change.stored, declared.Refusal.Refusal}
 use Rattle.entry.proofs.SliceLaws.{stored_entries}
 use Rattle.snapshot.specs.{Folds.fold_onto, Calls.outcome, Calls.folded, Inner.Shows, Inner.FoldIs, Inner.Aside}
-use Rattle.snapshot.specs.{Inner.fold_written, Inner.folded_out, declared.Folded.Folded}
-use Rattle.snapshot.specs.{declared.Folded.TheVariants.Keys, declared.Folded.TheVariants.Refused}
+use Rattle.snapshot.specs.{Inner.fold_written, Inner.folded_out}
+use Rattle.std.specs.Prelude.{Result, Ok, Err}
 use Rattle.snapshot.proofs.{Folds.rising_onto, Forming.formed_onto, Room.onto_grows, Putting.folded_keys}
 use Rattle.snapshot.proofs.{Putting.folded_refused, Putting.folded_over, Calling.over_refused}
 use Rattle.snapshot.proofs.{Calling.snapshot_holds, Calling.snapshot_stored}
@@ -18,17 +18,17 @@ module _ (kept : ℕ) (base : List ℕ) (n : ℕ) (entries : List ℕ) (m : ℕ)
   abbrev all : List Change
   all = fold_onto first (entries_of m more)
 
-  module _ (r : Folded) (t : List ℕ) (p : FoldIs (length base) first r t) where
+  module _ (r : Result ℕ Refusal) (t : List ℕ) (p : FoldIs (length base) first r t) where
     is : FoldIs snapshot_words first r t
     is = rw a.base_holds.laid.long at p
 
-    pub twice_refused : (x : Refusal) → r ≡ Refused x → outcome (folded r) base ≡ fold_written all base
+    pub twice_refused : (x : Refusal) → r ≡ Err x → outcome (folded r) base ≡ fold_written all base
     twice_refused x e =
         let o = folded_refused snapshot_words first x (sym is.reply ∙ e) in
-        ap (λ (y : Folded). outcome (folded y) base) (folded_over snapshot_words first r x is.reply e)
+        ap (λ (y : Result ℕ Refusal). outcome (folded y) base) (folded_over snapshot_words first r x is.reply e)
         ∙ over_refused all base (omega (arith, onto_grows first (entries_of m more)))
 
-    module _ (k : ℕ) (e : r ≡ Keys k) where
+    module _ (k : ℕ) (e : r ≡ Ok k) where
       fits : (length first * width ≤ snapshot_words) × (k ≡ length first)
       fits = folded_keys snapshot_words first k (sym is.reply ∙ e)
 

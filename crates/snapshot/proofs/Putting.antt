@@ -11,23 +11,22 @@ use Rattle.entry.specs.{Change.stored, Change.stored_in, Inner.change_at}
 use Rattle.entry.proofs.ChangeLaws.{change_ok, entry_words, entry_cons}
 use Rattle.entry.proofs.SliceLaws.{laid_of, laid_stored, stored_length, stored_entries, stored_laid}
 use Rattle.snapshot.specs.{Folds.insert, Folds.fold_onto, Folds.rising, Inner.rank, Inner.spot_of, Inner.folded_in}
-use Rattle.snapshot.specs.{Inner.Holds, Inner.Shows, Inner.FoldIs, declared.inner.Spot.TheVariants.At}
-use Rattle.snapshot.specs.{declared.inner.Spot.TheVariants.Before, declared.Folded.Folded}
-use Rattle.snapshot.specs.{declared.Folded.TheVariants.Keys, declared.Folded.TheVariants.Refused}
+use Rattle.snapshot.specs.{Inner.Holds, Inner.Shows, Inner.FoldIs}
+use Rattle.std.specs.Prelude.{Result, Ok, Err}
 use Rattle.snapshot.proofs.Folds.{onto_append, rising_insert}
 use Rattle.snapshot.proofs.Searching.{spot_at, spot_before, Put, insert_over, insert_into, insert_grows}
 use Rattle.snapshot.proofs.Forming.{formed_insert}
 
-pub folded_fits : (words : ℕ) (es : List Change) → length es * width ≤ words → folded_in words es ≡ Keys (length es)
+pub folded_fits : (words : ℕ) (es : List Change) → length es * width ≤ words → folded_in words es ≡ Ok (length es)
 unfolding folded_in
 folded_fits words es h = rw (le-leb (length es * width) words h)
 
-pub folded_full : (words : ℕ) (es : List Change) → words < length es * width → folded_in words es ≡ Refused TooManyKeys
+pub folded_full : (words : ℕ) (es : List Change) → words < length es * width → folded_in words es ≡ Err TooManyKeys
 unfolding folded_in
 folded_full words es h = rw (lt-leb (length es * width) words h)
 
 -- what a reply tells of the size
-pub folded_keys : (words : ℕ) (es : List Change) (k : ℕ) → folded_in words es ≡ Keys k
+pub folded_keys : (words : ℕ) (es : List Change) (k : ℕ) → folded_in words es ≡ Ok k
     → (length es * width ≤ words) × (k ≡ length es)
 folded_keys words es k e = go (dec_le (length es * width) words)
   where
@@ -35,7 +34,7 @@ folded_keys words es k e = go (dec_le (length es * width) words)
     go (yes h) = let b = folded_fits words es h in let q : k ≡ length es = cc in (h, q)
     go (no h) = let b = folded_full words es (omega arith) in let z : ◌≡◌ {A = ℕ} 0 1 = cc in absurd (omega arith)
 
-pub folded_refused : (words : ℕ) (es : List Change) (x : Refusal) → folded_in words es ≡ Refused x
+pub folded_refused : (words : ℕ) (es : List Change) (x : Refusal) → folded_in words es ≡ Err x
     → words < length es * width
 folded_refused words es x e = go (dec_le (length es * width) words)
   where
@@ -43,8 +42,8 @@ folded_refused words es x e = go (dec_le (length es * width) words)
     go (yes h) = let b = folded_fits words es h in let z : ◌≡◌ {A = ℕ} 0 1 = cc in absurd (omega arith)
     go (no h) = omega arith
 
-pub folded_over : (words : ℕ) (es : List Change) (r : Folded) (x : Refusal) → r ≡ folded_in words es → r ≡ Refused x
-    → r ≡ Refused TooManyKeys
+pub folded_over : (words : ℕ) (es : List Change) (r : Result ℕ Refusal) (x : Refusal) → r ≡ folded_in words es → r ≡ Err x
+    → r ≡ Err TooManyKeys
 folded_over words es r x p e = p ∙ folded_full words es (folded_refused words es x (sym p ∙ e))
 
 -- the entry that the words `item` are, put among the n entries of s
@@ -68,20 +67,20 @@ module _ (s : List ℕ) (n : ℕ) (item : List ℕ) (h : Holds (length s) n s) (
       ∙ ap (λ (j : ℕ). stored (length s) (spliced j cut (c ∷ []) (entries_of n s))) (sym e)
       ∙ ap (stored (length s)) (sym p.spliced_is)
 
-  module _ (i : ℕ) (e : At i ≡ spot_of (entries_of n s) c.key) where
+  module _ (i : ℕ) (e : Ok i ≡ spot_of (entries_of n s) c.key) where
     over : Put c (entries_of n s) 1
     over = insert_over c (entries_of n s) (spot_at (entries_of n s) c.key i (sym e)).0
 
-    pub put_at : FoldIs (length s) (insert c (entries_of n s)) (Keys n)
+    pub put_at : FoldIs (length s) (insert c (entries_of n s)) (Ok n)
         (laid (length s) (spliced (i * width) width item (take (n * width) s)))
     put_at =
         let k : n ≡ length (insert c (entries_of n s)) = omega (arith, over.length_is, long) in
         record {
-          reply = ap Keys k ∙ sym (folded_fits (length s) (insert c (entries_of n s)) (omega (arith, h.laid.fits)));
+          reply = ap Ok k ∙ sym (folded_fits (length s) (insert c (entries_of n s)) (omega (arith, h.laid.fits)));
           words_are = λ _. put_words i 1 over (spot_at (entries_of n s) c.key i (sym e)).1;
         }
 
-  module _ (i : ℕ) (e : Before i ≡ spot_of (entries_of n s) c.key) where
+  module _ (i : ℕ) (e : Err i ≡ spot_of (entries_of n s) c.key) where
     into : Put c (entries_of n s) 0
     into = insert_into c (entries_of n s) (spot_before (entries_of n s) c.key i (sym e)).0
 
@@ -89,17 +88,17 @@ module _ (s : List ℕ) (n : ℕ) (item : List ℕ) (h : Holds (length s) n s) (
     before_inside = omega (arith, into.inside, (spot_before (entries_of n s) c.key i (sym e)).1, long)
 
     pub put_before : width ≤ length s - n * width
-        → FoldIs (length s) (insert c (entries_of n s)) (Keys (n + 1))
+        → FoldIs (length s) (insert c (entries_of n s)) (Ok (n + 1))
         (laid (length s) (spliced (i * width) 0 item (take (n * width) s)))
     put_before room =
         let k : n + 1 ≡ length (insert c (entries_of n s)) = omega (arith, into.length_is, long) in
         record {
-          reply = ap Keys k ∙ sym (folded_fits (length s) (insert c (entries_of n s)) (omega (arith, h.laid.fits)));
+          reply = ap Ok k ∙ sym (folded_fits (length s) (insert c (entries_of n s)) (omega (arith, h.laid.fits)));
           words_are = λ _. put_words i 0 into (spot_before (entries_of n s) c.key i (sym e)).1;
         }
 
     pub put_full : (t : List ℕ) → length s - n * width < width
-        → FoldIs (length s) (insert c (entries_of n s)) (Refused TooManyKeys) t
+        → FoldIs (length s) (insert c (entries_of n s)) (Err TooManyKeys) t
     put_full t full =
         let k : n + 1 ≡ length (insert c (entries_of n s)) = omega (arith, into.length_is, long) in
         let o : length s < length (insert c (entries_of n s)) * width = omega (arith, h.laid.fits) in
@@ -137,11 +136,11 @@ module _ (words : ℕ) (m : List Change) (s : List ℕ) (kept : ℕ) (f : Sofar 
       let in_form : stored_in words kept s ≡ true = rw (f.count, f.words_are) (stored_laid words m fits f.good) in
       record { laid = rw f.same_long (laid_of words kept s in_form); rises = rw sofar_entries f.rises }
 
-  module _ (c : Change) (r : Folded) (t : List ℕ) (p : FoldIs (length s) (insert c (entries_of kept s)) r t) where
+  module _ (c : Change) (r : Result ℕ Refusal) (t : List ℕ) (p : FoldIs (length s) (insert c (entries_of kept s)) r t) where
     put_is : FoldIs words (insert c m) r t
     put_is = rw (f.same_long, sofar_entries) at p
 
-    pub sofar_put : change_formed c ≡ true → (k : ℕ) → r ≡ Keys k → Sofar words (insert c m) t k
+    pub sofar_put : change_formed c ≡ true → (k : ℕ) → r ≡ Ok k → Sofar words (insert c m) t k
     sofar_put good k e =
         let q = folded_keys words (insert c m) k (sym put_is.reply ∙ e) in
         let w : t ≡ stored words (insert c m) = put_is.words_are q.0 in
@@ -154,7 +153,7 @@ module _ (words : ℕ) (m : List Change) (s : List ℕ) (kept : ℕ) (f : Sofar 
           words_are = w;
         }
 
-    pub sofar_full : (x : Refusal) → r ≡ Refused x → words < length (insert c m) * width
+    pub sofar_full : (x : Refusal) → r ≡ Err x → words < length (insert c m) * width
     sofar_full x e = folded_refused words (insert c m) x (sym put_is.reply ∙ e)
 
 -- a run of puts, entry by entry
@@ -182,13 +181,13 @@ onto_part base es i =
 
 module _ (words : ℕ) (base : List Change) (n : ℕ) (ws : List ℕ) (shown : Shows n ws) (i : ℕ) (s : List ℕ) (kept : ℕ)
     (f : Sofar words (fold_onto base (take i (entries_of n ws))) s kept) where
-  pub fold_done : n ≤ i → FoldIs words (fold_onto base (entries_of n ws)) (Keys kept) s
+  pub fold_done : n ≤ i → FoldIs words (fold_onto base (entries_of n ws)) (Ok kept) s
   fold_done h =
       let t : take i (entries_of n ws)
       ≡ entries_of n ws = take_all i (entries_of n ws) (omega (arith, entries_length change_code n ws)) in
       let g : Sofar words (fold_onto base (entries_of n ws)) s kept = rw t at f in
       record {
-        reply = ap Keys g.count
+        reply = ap Ok g.count
             ∙ sym (folded_fits words (fold_onto base (entries_of n ws)) (omega (arith, g.count, g.room)));
         words_are = λ _. g.words_are;
       }
@@ -199,7 +198,7 @@ module _ (words : ℕ) (base : List Change) (n : ℕ) (ws : List ℕ) (shown : S
         (rw (entry_cons i n ws h) at (all_drop change_formed i (entries_of n ws) shown.sound))
 
     -- the entry at i is put, as the part of the words that it is
-    module _ (r : Folded) (t : List ℕ)
+    module _ (r : Result ℕ Refusal) (t : List ℕ)
         (p : FoldIs (length s) (insert (change_code.dec (take (i * width + width - i * width) (drop (i * width) ws)))
         (entries_of kept s)) r t) where
       put_next : FoldIs (length s) (insert (change_at ws i) (entries_of kept s)) r t
@@ -207,12 +206,12 @@ module _ (words : ℕ) (base : List Change) (n : ℕ) (ws : List ℕ) (shown : S
           let m : i * width + width - i * width ≡ width = omega arith in
           rw (m, entry_words i ws) at p
 
-      pub fold_turn : (k : ℕ) → r ≡ Keys k → Sofar words (fold_onto base (take (i + 1) (entries_of n ws))) t k
+      pub fold_turn : (k : ℕ) → r ≡ Ok k → Sofar words (fold_onto base (take (i + 1) (entries_of n ws))) t k
       fold_turn k e = rw (onto_next base n i ws h)
           (sofar_put words (fold_onto base (take i (entries_of n ws))) s kept f (change_at ws i)
           r t put_next next_formed k e)
 
-      pub fold_refused : (x : Refusal) → r ≡ Refused x → FoldIs words (fold_onto base (entries_of n ws)) r t
+      pub fold_refused : (x : Refusal) → r ≡ Err x → FoldIs words (fold_onto base (entries_of n ws)) r t
       fold_refused x e =
           let a = sofar_full words (fold_onto base (take i (entries_of n ws))) s kept f (change_at ws i)
           r t put_next x e in

@@ -9,7 +9,7 @@ use Rattle.words.proofs.{Tests.short, Tests.reach, CodedLaws.entries_length}
 use Rattle.entry.specs.{Limits.width, Change.Change, Change.change_code, Change.entries_of, Inner.change_at}
 use Rattle.entry.proofs.ChangeLaws.{entry_cons}
 use Rattle.snapshot.specs.{Folds.insert, Folds.rising, Inner.rank, Inner.here, Inner.spot_of}
-use Rattle.snapshot.specs.{declared.inner.Spot.TheVariants.At, declared.inner.Spot.TheVariants.Before}
+use Rattle.std.specs.Prelude.{Ok, Err}
 use Rattle.snapshot.proofs.{Folds.insert-below, Folds.insert_same, Folds.insert-above, Rising.keys_climb}
 
 module _ (e : Change) (es : List Change) (k : ℕ) where
@@ -69,7 +69,7 @@ before (e ∷ es) k (suc i) r h = go (before es k i r h) (reach k e.key)
 
 module _ (n : ℕ) (ws : List ℕ) (k : ℕ) where
   spot_is : (t : Bool) (j : ℕ) → here (entries_of n ws) k ≡ t → rank (entries_of n ws) k ≡ j
-      → (if t then At j else Before j) ≡ spot_of (entries_of n ws) k
+      → (if t then Ok j else Err j) ≡ spot_of (entries_of n ws) k
   unfolding spot_of
   spot_is t j e q = rw (e, q)
 
@@ -81,10 +81,10 @@ module _ (n : ℕ) (ws : List ℕ) (k : ℕ) where
       before (entries_of n ws) k n (rw z) (rw z)
 
   pub search_end : (low high : ℕ) → Within (entries_of n ws) k low high → high ≤ low
-      → Before low ≡ spot_of (entries_of n ws) k
+      → Err low ≡ spot_of (entries_of n ws) k
   search_end low high w h = go (here (entries_of n ws) k) refl
     where
-      go : (t : Bool) → here (entries_of n ws) k ≡ t → Before low ≡ spot_of (entries_of n ws) k
+      go : (t : Bool) → here (entries_of n ws) k ≡ t → Err low ≡ spot_of (entries_of n ws) k
       go false q = spot_is false low q (omega (arith, w.from, w.to))
       go true q = absurd (omega (arith, w.from, w.inside q))
 
@@ -119,7 +119,7 @@ module _ (n : ℕ) (ws : List ℕ) (k : ℕ) where
         passed_more i (omega arith) (passed i (omega arith) (omega arith)) (omega arith)
 
     module _ (i : ℕ) (h : i < n) where
-      pub search_at : get_or ws (i * width) 0 ≡ k → At i ≡ spot_of (entries_of n ws) k
+      pub search_at : get_or ws (i * width) 0 ≡ k → Ok i ≡ spot_of (entries_of n ws) k
       search_at e =
           let p = passed i h (omega arith) in
           spot_is true i
@@ -141,21 +141,21 @@ module _ (n : ℕ) (ws : List ℕ) (k : ℕ) where
             record { from = w.from; to = b.to; inside = b.inside }
 
 -- what a spot says
-pub spot_at : (es : List Change) (k i : ℕ) → spot_of es k ≡ At i → (here es k ≡ true) × (rank es k ≡ i)
+pub spot_at : (es : List Change) (k i : ℕ) → spot_of es k ≡ Ok i → (here es k ≡ true) × (rank es k ≡ i)
 unfolding spot_of
 spot_at es k i e = go (here es k) refl
   where
     go : (t : Bool) → here es k ≡ t → (here es k ≡ true) × (rank es k ≡ i)
-    go true q = let e' : At (rank es k) ≡ At i = rw q at e in (q, cc)
-    go false q = let e' : Before (rank es k) ≡ At i = rw q at e in let z : ◌≡◌ {A = ℕ} 0 1 = cc in absurd (omega arith)
+    go true q = let e' : Ok (rank es k) ≡ Ok i = rw q at e in (q, cc)
+    go false q = let e' : Err (rank es k) ≡ Ok i = rw q at e in let z : ◌≡◌ {A = ℕ} 0 1 = cc in absurd (omega arith)
 
-pub spot_before : (es : List Change) (k i : ℕ) → spot_of es k ≡ Before i → (here es k ≡ false) × (rank es k ≡ i)
+pub spot_before : (es : List Change) (k i : ℕ) → spot_of es k ≡ Err i → (here es k ≡ false) × (rank es k ≡ i)
 unfolding spot_of
 spot_before es k i e = go (here es k) refl
   where
     go : (t : Bool) → here es k ≡ t → (here es k ≡ false) × (rank es k ≡ i)
-    go false q = let e' : Before (rank es k) ≡ Before i = rw q at e in (q, cc)
-    go true q = let e' : At (rank es k) ≡ Before i = rw q at e in let z : ◌≡◌ {A = ℕ} 0 1 = cc in absurd (omega arith)
+    go false q = let e' : Err (rank es k) ≡ Err i = rw q at e in (q, cc)
+    go true q = let e' : Ok (rank es k) ≡ Err i = rw q at e in let z : ◌≡◌ {A = ℕ} 0 1 = cc in absurd (omega arith)
 
 no_other : (a b : ℕ) → (a ≡ b → ⊥) → eqb a b ≡ true → ⊥
 no_other a b d e = d (eqb-true a b e)
@@ -230,7 +230,7 @@ insert_grows c es = go (here es c.key) refl
     go false q = omega (arith, (insert_into c es q).length_is)
 
 -- a key that is there stands at an entry
-pub spot_inside : (n : ℕ) (ws : List ℕ) (k i : ℕ) → At i ≡ spot_of (entries_of n ws) k → i < n
+pub spot_inside : (n : ℕ) (ws : List ℕ) (k i : ℕ) → Ok i ≡ spot_of (entries_of n ws) k → i < n
 spot_inside n ws k i e =
     let at = spot_at (entries_of n ws) k i (sym e) in
     omega (arith, (search_all n ws k).inside at.0, at.1)

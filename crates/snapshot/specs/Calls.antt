@@ -1,16 +1,16 @@
 -- The calls of module 2 on lent words. "Fold, merge: 11, 8. Find: 11." "No refusal changes anything lent"; "a written
 -- snapshot fills its whole slice".
 use Rattle.std.specs.Prelude.{ℕ, Bool, ◌&&◌, not, List, [], ◌∷◌, ltb, eqb, length}
-use Rattle.std.proofs.Math.Option.{Option, none, some}
+use Rattle.std.specs.Prelude.{Option as Optional, Result}
+use Rattle.std.proofs.Math.Option.{Option}
 use Rattle.entry.specs.Limits.{key_room, snapshot_words}
-use Rattle.entry.specs.Change.{Said, place, removed, Change, entries_of, entries_in, slice_formed, stored, stored_in}
-use Rattle.entry.specs.Guards.{Guard, guard, Verdict, first, Answer, refused, replied, refused_by}
-use Rattle.entry.specs.Guards.{settle}
+use Rattle.entry.specs.Change.{Said, Change, entries_of, entries_in, slice_formed, stored, stored_in}
+use Rattle.entry.specs.Guards.{Guard, guard, Verdict, first, Answer, refused, replied}
+use Rattle.entry.specs.Guards.{settle, said_by}
 use Rattle.snapshot.specs.Folds.{fold, merge, rising, find}
-use Rattle.snapshot.specs.declared.Folded.{Folded}
-use Rattle.snapshot.specs.declared.Folded.TheVariants.{Keys, Refused}
-use Rattle.snapshot.specs.declared.Found.{Found}
-use Rattle.snapshot.specs.declared.Found.TheVariants.{Place, Removed, Unknown, Refused as FindRefused}
+use Rattle.entry.specs.Reply.{known_is}
+use Rattle.entry.specs.declared.Refusal.{Refusal}
+use Rattle.entry.specs.declared.Said.{Said as CodeSaid}
 
 -- a lent snapshot in form: its slice's length, its places and zeros, and the order of its n keys
 unfoldable pub snapshot_formed : ℕ → List ℕ → Bool
@@ -53,20 +53,11 @@ unfoldable pub find_call : List ℕ → ℕ → ℕ → Answer (Option Said)
 find_call ws n k = settle (first (guard 11 0 (not (snapshot_formed n ws)) ∷ [])) (find k (entries_of n ws))
 
 -- what the replies say
-abbrev pub folded : Folded → Answer ℕ
-folded (Keys n) = replied n
-folded (Refused r) = refused_by r
+abbrev pub folded : Result ℕ Refusal → Answer ℕ
+folded r = said_by (λ (n : ℕ). n) r
 
-abbrev pub found : Found → Answer (Option Said)
-found (Place p) = replied (some (place p.0))
-found Removed = replied (some removed)
-found Unknown = replied none
-found (FindRefused r) = refused_by r
-
--- what an answer says of the key: a refusal says nothing
-abbrev pub said_in : Answer (Option Said) → Option Said
-said_in (replied o) = o
-said_in (refused n k) = none
+abbrev pub found : Result (Optional CodeSaid) Refusal → Answer (Option Said)
+found r = said_by known_is r
 
 -- one call after another, on the snapshot that the first wrote; where the first is refused, so is the whole
 abbrev pub afterwards : Outcome → List ℕ → (List ℕ → ℕ → Outcome) → Outcome

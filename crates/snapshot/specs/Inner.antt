@@ -1,15 +1,13 @@
 -- What the inner functions say: a search among ascending keys, and a fold in so many words.
 use Rattle.std.specs.Prelude.{ℕ, suc, ◌*◌, ◌≤◌, ◌≡◌, Bool, true, false, List, [], ◌∷◌, ltb, leb, eqb, length, if◌then◌else◌}
+use Rattle.std.specs.Prelude.{Result, Ok, Err}
 use Rattle.entry.specs.Limits.{width, snapshot_words}
 use Rattle.entry.specs.Change.{Change, entries_formed, entries_of, stored, Laid}
 use Rattle.entry.specs.Guards.{first}
+use Rattle.entry.specs.declared.Refusal.{Refusal}
 use Rattle.entry.specs.declared.Refusal.TheVariants.{TooManyKeys}
 use Rattle.snapshot.specs.Folds.{rising, fold_onto}
 use Rattle.snapshot.specs.Calls.{Outcome, written_by, fold_guards}
-use Rattle.snapshot.specs.declared.inner.Spot.{Spot}
-use Rattle.snapshot.specs.declared.inner.Spot.TheVariants.{At, Before}
-use Rattle.snapshot.specs.declared.Folded.{Folded}
-use Rattle.snapshot.specs.declared.Folded.TheVariants.{Keys, Refused}
 
 -- how many keys are below k before the first that is not; whether that one is k
 unfoldable pub rank : List Change → ℕ → ℕ
@@ -20,12 +18,13 @@ unfoldable pub here : List Change → ℕ → Bool
 here [] k = false
 here (e ∷ es) k = if ltb e.key k then here es k else eqb e.key k
 
-unfoldable pub spot_of : List Change → ℕ → Spot
-spot_of es k = if here es k then At (rank es k) else Before (rank es k)
+-- where a key stands, or else before which entry it would
+unfoldable pub spot_of : List Change → ℕ → Result ℕ ℕ
+spot_of es k = if here es k then Ok (rank es k) else Err (rank es k)
 
 -- entries in so many words: their count, where they fit
-unfoldable pub folded_in : ℕ → List Change → Folded
-folded_in words es = if leb (length es * width) words then Keys (length es) else Refused TooManyKeys
+unfoldable pub folded_in : ℕ → List Change → Result ℕ Refusal
+folded_in words es = if leb (length es * width) words then Ok (length es) else Err TooManyKeys
 
 -- so many words that hold n entries in form with ascending keys, and zeros after them
 pub record Holds (words n : ℕ) (ws : List ℕ) : Type 0 where
@@ -38,7 +37,7 @@ pub record Shows (n : ℕ) (ws : List ℕ) : Type 0 where
   pub sound : entries_formed (entries_of n ws) ≡ true
 
 -- a fold in scratch words: its reply, and the words where the entries fit
-pub record FoldIs (words : ℕ) (es : List Change) (r : Folded) (exit : List ℕ) : Type 0 where
+pub record FoldIs (words : ℕ) (es : List Change) (r : Result ℕ Refusal) (exit : List ℕ) : Type 0 where
   pub reply : r ≡ folded_in words es
   pub words_are : length es * width ≤ words → exit ≡ stored words es
 

@@ -5,25 +5,9 @@
 ghost use Rattle.std.specs.Prelude.{◌≡◌};
 ghost use Rattle.snapshot.specs.Calls.{snapshot_formed, outcome, folded, fold_call, merge_call, found, find_call};
 
-use entry::{BlockPlace, Refusal};
+use entry::{Refusal, Said};
 
 pub mod inner;
-
-// What a fold or a merge comes to: so many keys, written out.
-#[derive(Clone, Copy)]
-pub enum Folded {
-    Keys(usize),
-    Refused(Refusal),
-}
-
-// What a search comes to: what the newest word on a key says, or that there is none.
-#[derive(Clone, Copy)]
-pub enum Found {
-    Place(BlockPlace),
-    Removed,
-    Unknown,
-    Refused(Refusal),
-}
 
 // Whether a lent snapshot is in form.
 pub fn snapshot_formed(s: &[u64], keys: usize) -> bool
@@ -35,21 +19,21 @@ pub fn snapshot_formed(s: &[u64], keys: usize) -> bool
     inner::keys_ascend(s, keys)
 }
 
-// Folds a run of entries: the last one for a key wins, and a removal is kept.
-pub fn fold(entries: &[u64], out: &mut [u64]) -> Folded
+// Folds a run of entries: the last one for a key wins, and a removal is kept. Says how many keys the fold has.
+pub fn fold(entries: &[u64], out: &mut [u64]) -> Result<usize, Refusal>
     ensures { outcome (folded result) out.new ≡ fold_call entries.now out.old }
 {
     let fine = entry::entries_formed(entries);
     let roomy = out.len() == entry::SNAPSHOT_WORDS;
     if !(fine & roomy) {
-        return Folded::Refused(Refusal::Malformed);
+        return Err(Refusal::Malformed);
     }
     let mut empty = [0u64; entry::SNAPSHOT_WORDS];
     inner::fold_out(&mut empty, 0, entries, entries.len() / entry::WIDTH, out)
 }
 
 // Merges two snapshots: the second's word wins.
-pub fn merge(a: &[u64], n: usize, b: &[u64], m: usize, out: &mut [u64]) -> Folded
+pub fn merge(a: &[u64], n: usize, b: &[u64], m: usize, out: &mut [u64]) -> Result<usize, Refusal>
     ensures { outcome (folded result) out.new
         ≡ merge_call a.now n b.now m out.old }
 {
@@ -57,17 +41,17 @@ pub fn merge(a: &[u64], n: usize, b: &[u64], m: usize, out: &mut [u64]) -> Folde
     let second = snapshot_formed(b, m);
     let roomy = out.len() == entry::SNAPSHOT_WORDS;
     if !(first & (second & roomy)) {
-        return Folded::Refused(Refusal::Malformed);
+        return Err(Refusal::Malformed);
     }
     inner::fold_aside(a, n, b, m, out)
 }
 
-// Finds a key: its place, that it is removed, or that it is unknown.
-pub fn find(s: &[u64], keys: usize, key: u64) -> Found
+// Finds a key: what is said of it, or nothing where it is unknown.
+pub fn find(s: &[u64], keys: usize, key: u64) -> Result<Option<Said>, Refusal>
     ensures { found result ≡ find_call s.now keys key }
 {
     if !snapshot_formed(s, keys) {
-        return Found::Refused(Refusal::Malformed);
+        return Err(Refusal::Malformed);
     }
-    inner::look_up(s, keys, key)
+    Ok(inner::look_up(s, keys, key))
 }

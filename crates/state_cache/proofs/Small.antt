@@ -1,11 +1,17 @@
 -- The bounds within which the sums of the numbers fit: well-formed numbers keep them.
 use Rattle.words.proofs.Prelude.{arith, ◌≡◌, refl, sym, ◌∙◌, ℕ, ◌+◌, ◌-◌, ◌≤◌, ◌<◌, Bool, true, false, true≢false, ltb}
 use Rattle.words.proofs.Prelude.{leb, lt-ltb, le-ltb, le-leb, leb-true}
+use Rattle.std.specs.Int.{from_bool}
 use Rattle.words.proofs.Tests.{Reach, reached, short, reach, and_left, and_right, both_true}
 use Rattle.entry.specs.Limits.{entry_room, last_index}
 use Rattle.model.specs.{Numbers.Numbers, Numbers.end_of, Numbers.accepted_of, Numbers.numbers_formed, Inner.Sound}
 use Rattle.model.proofs.Forms.{sound_of}
 use Rattle.state_cache.specs.{State.one_if, Inner.sizes_formed, Inner.Small}
+
+-- what `u64::from` gives of a flag
+pub from_bool-one_if : (b : Bool) → from_bool b ≡ one_if b
+from_bool-one_if true = refl
+from_bool-one_if false = refl
 
 pub one-le : (b : Bool) → one_if b ≤ 1
 one-le true = omega arith

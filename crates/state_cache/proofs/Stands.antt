@@ -8,7 +8,7 @@ use Rattle.words.proofs.Alls.{all_join, all_left, all_right, zeros_are}
 use Rattle.words.proofs.CodedLaws.{entries_length, entries_add, entries_first, entries_second}
 use Rattle.entry.specs.Limits.{width, key_room, log_words, snapshot_words, most_nodes, most_metadata}
 use Rattle.entry.specs.Change.{Change, change_code, change_formed, entries_formed, entries_of, stored, stored_in}
-use Rattle.entry.specs.Sign.{sign_formed, sign_if, sign_blank, blank, no_sign}
+use Rattle.entry.specs.Sign.{sign_formed, sign_blank, blank, no_sign}
 use Rattle.entry.specs.declared.Ballot.{Ballot}
 use Rattle.entry.specs.declared.StopSign.{StopSign}
 use Rattle.entry.proofs.ChangeLaws.{change_ok}
@@ -169,10 +169,6 @@ sign_blank_lem g e =
 pub given_by : {A : Type 0} (b : Bool) (x : A) → given (if b then some x else none) ≡ b
 given_by true x = refl
 given_by false x = refl
-
-pub sign_by : (held : Bool) (g : StopSign) → sign_or (if held then some g else none) ≡ sign_if held g
-sign_by true g = refl
-sign_by false g = refl
 
 stop_by : (b : Bool) (g : StopSign) → ((b && sign_formed g) || (not b && sign_blank g)) ≡ true
     → sign_or (if b then some g else none) ≡ g

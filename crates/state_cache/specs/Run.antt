@@ -1,18 +1,15 @@
 -- What a call comes to: of any state and any request, its answer and the state after it. Every exported call is an
 -- equation with `run`.
-use Rattle.std.specs.Prelude.{ℕ, Bool, ◌&&◌, not, List, ◌∷◌, leb, eqb, length, if◌then◌else◌}
+use Rattle.std.specs.Prelude.{ℕ, Bool, ◌&&◌, not, List, ◌∷◌, leb, eqb, length, if◌then◌else◌, Result, Ok, Err}
 use Rattle.entry.specs.Limits.{largest_batch, log_words, snapshot_words}
-use Rattle.entry.specs.Guards.{guard, Verdict, passes, refuses, first, Answer, refused, replied, refused_by}
+use Rattle.entry.specs.Guards.{guard, Verdict, passes, refuses, first, Answer, refused, replied, refused_by, said_by}
+use Rattle.entry.specs.declared.Refusal.{Refusal}
+use Rattle.entry.specs.declared.LogIndex.{LogIndex}
 use Rattle.model.specs.Numbers.{Numbers}
 use Rattle.model.specs.Log.{fresh_log}
 use Rattle.model.specs.Calls.{Call, Reply, guards, effect, reply_of}
 use Rattle.state_cache.specs.State.{Raw, raw, numbers_in, formed, log_of, index_of, raw_of}
-use Rattle.state_cache.specs.declared.Settled.{Settled}
-use Rattle.state_cache.specs.declared.Settled.TheVariants.{Done, Refused}
-use Rattle.state_cache.specs.declared.IndexAnswer.{IndexAnswer}
-use Rattle.state_cache.specs.declared.IndexAnswer.TheVariants.{At, Refused as AcceptedRefused}
-use Rattle.state_cache.specs.declared.Flag.{Flag}
-use Rattle.state_cache.specs.declared.Flag.TheVariants.{Is, Refused as FlagRefused}
+use Rattle.state_cache.specs.declared.IndexRecord.{IndexRecord}
 
 pub record Outcome (A : Type 0) : Type 0 where
   pub answer : Answer A
@@ -39,18 +36,30 @@ run c whole r = chosen (verdict_on c whole r) (reply_of c (log_of r)) (raw_of (e
 unfoldable pub of_numbers : {A : Type 0} → (Numbers → A) → Raw → Answer A
 of_numbers f r = if formed r then replied (f (numbers_in r.index)) else refused 12 0
 
--- what the code's answers say
-abbrev pub settled : Settled → Answer (Unit {0})
-settled Done = replied tt
-settled (Refused r) = refused_by r
+-- what the code's replies say of a call that changes nothing
+abbrev pub index_at : LogIndex → ℕ
+index_at i = i.0
 
-abbrev pub index_said : IndexAnswer → Answer ℕ
-index_said (At i) = replied i.0
-index_said (AcceptedRefused r) = refused_by r
+abbrev pub index_said : Result LogIndex Refusal → Answer ℕ
+index_said r = said_by index_at r
 
-abbrev pub flag : Flag → Answer Bool
-flag (Is b) = replied b
-flag (FlagRefused r) = refused_by r
+abbrev pub flag : Result Bool Refusal → Answer Bool
+flag r = said_by (λ (b : Bool). b) r
+
+abbrev pub settled : Result (Unit {0}) Refusal → Answer (Unit {0})
+settled r = said_by (λ (u : Unit {0}). tt) r
+
+-- and of one that may change the record and the words beside it, of which it hands the record back: where it is refused
+-- that stays as it was lent
+abbrev pub changed : IndexRecord → Result IndexRecord Refusal → List ℕ → List ℕ → Outcome (Unit {0})
+changed old (Ok next) log snapshot = outcome (replied tt) (raw next log snapshot)
+changed old (Err r) log snapshot = outcome (refused_by r) (raw old log snapshot)
+
+-- the same with a reply beside the record
+abbrev pub changed_at : {A B : Type 0} → (A → B) → IndexRecord → Result (IndexRecord × A) Refusal → List ℕ → List ℕ
+    → Outcome B
+changed_at f old (Ok (next, y)) log snapshot = outcome (replied (f y)) (raw next log snapshot)
+changed_at f old (Err r) log snapshot = outcome (refused_by r) (raw old log snapshot)
 
 -- a fresh log: 11 for a batch size above 64 or a slice of wrong length; there is no record yet, and the one beside a
 -- refusal is that of a log with batch size 0

@@ -1,41 +1,17 @@
 // The numbers of an index record, for the crates above: not for a user, whose calls are in lib.rt. What a function
 // needs of the record it requires: its callers have tested it.
-ghost use Rattle.std.specs.Prelude.{◌≡◌, true, ◌+◌, ◌-◌, ◌≤◌, min, max, ltb};
+ghost use Rattle.std.specs.Prelude.{◌≡◌, true, ◌+◌, ◌-◌, ◌≤◌, ltb};
 ghost use Rattle.entry.specs.Limits.{last_index};
+ghost use Rattle.entry.specs.Guards.{replied};
 ghost use Rattle.model.specs.Log.{fresh_log};
 ghost use Rattle.model.specs.Calls.{reload};
 ghost use Rattle.model.specs.Numbers.{end_of, accepted_of, stop_decided, log_decided, numbers_formed};
-ghost use Rattle.state_cache.specs.State.{raw, numbers_in, one_if, sign_held, snapshot_held, index_of};
+ghost use Rattle.state_cache.specs.State.{raw, numbers_in, sign_held, snapshot_held, index_of};
 ghost use Rattle.state_cache.specs.Inner.{Small, sizes_formed, Ready, hole_in};
-ghost use Rattle.state_cache.specs.Run.{outcome, run, index_said};
+ghost use Rattle.state_cache.specs.Run.{outcome, run};
 
-use super::{IndexAnswer, IndexAnswerAt, IndexRecord};
+use super::IndexRecord;
 use entry::{Ballot, LogIndex};
-
-pub fn one_if(b: bool) -> u64
-    ensures { result ≡ one_if b }
-{
-    if b { 1 } else { 0 }
-}
-
-pub fn least(a: u64, b: u64) -> u64
-    ensures { result ≡ min a b }
-{
-    if a <= b { a } else { b }
-}
-
-pub fn larger(a: u64, b: u64) -> u64
-    ensures { result ≡ max a b }
-{
-    if a < b { b } else { a }
-}
-
-// How far a is above b: 0 where it is not.
-pub fn above(a: u64, b: u64) -> u64
-    ensures { result ≡ a - b }
-{
-    if b <= a { a - b } else { 0 }
-}
 
 // Whether a sum passes the largest index. No sum is made that might not fit.
 pub fn past_last(a: u64, n: usize, more: u64) -> bool
@@ -61,7 +37,7 @@ pub fn accepted(index: IndexRecord) -> u64
     requires { Small (numbers_in index) }
     ensures { result ≡ accepted_of (numbers_in index) }
 {
-    end(index) + one_if(index.stop_held)
+    end(index) + u64::from(index.stop_held)
 }
 
 // Whether the log has a hole: entries were dropped, and no snapshot is held that has them.
@@ -85,14 +61,10 @@ pub fn log_decided(index: IndexRecord) -> u64
     requires { Small (numbers_in index) }
     ensures { result ≡ log_decided (numbers_in index) }
 {
-    let decided = index.decided.0;
-    if stop_decided(index) {
-        if decided == 0 {
-            return 0;
-        }
-        return decided - 1;
-    }
-    decided
+    index
+        .decided
+        .0
+        .saturating_sub(u64::from(stop_decided(index)))
 }
 
 // The bounds within which the sums of the other tests fit.
@@ -144,13 +116,7 @@ pub fn snapshot_held_formed(index: IndexRecord, snapshot: &[u64]) -> bool
 pub fn fresh_index(batch_size: u64) -> IndexRecord
     ensures { result ≡ index_of (fresh_log batch_size) }
 {
-    let none = Ballot {
-        config_id: 0,
-        n: 0,
-        priority: 0,
-        pid: 0,
-    };
-    let stop = entry::inner::no_sign();
+    let none = Ballot::with(0, 0, 0, 0);
     IndexRecord {
         batch_size,
         retained: 0,
@@ -162,14 +128,14 @@ pub fn fresh_index(batch_size: u64) -> IndexRecord
         snapshot_held: false,
         keys: 0,
         stop_held: false,
-        stop,
+        stop: entry::inner::no_sign(),
     }
 }
 
-// Drops the batch of a well-formed log.
-pub fn reload(index: IndexRecord, log: &mut [u64], snapshot: &[u64]) -> IndexAnswerAt
+// Drops the batch of a well-formed log. Says the accepted index after it.
+pub fn reload(index: IndexRecord, log: &mut [u64], snapshot: &[u64]) -> (IndexRecord, LogIndex)
     requires { Ready (raw index log.old snapshot.now) }
-    ensures { outcome (index_said result.answer) (raw result.index log.new snapshot.now)
+    ensures { outcome (replied result.1.0) (raw result.0 log.new snapshot.now)
         ≡ run reload true (raw index log.old snapshot.now) }
 {
     let used = (index.retained + index.batched) * entry::WIDTH;
@@ -181,9 +147,5 @@ pub fn reload(index: IndexRecord, log: &mut [u64], snapshot: &[u64]) -> IndexAns
     );
     let mut next = index;
     next.batched = 0;
-    let last = accepted(next);
-    IndexAnswerAt {
-        answer: IndexAnswer::At(LogIndex(last)),
-        index: next,
-    }
+    (next, LogIndex(accepted(next)))
 }

@@ -5,15 +5,16 @@
 ghost use Rattle.std.specs.Prelude.{◌≡◌, true};
 ghost use Rattle.model.specs.Numbers.{accepted_of, stop_decided, log_decided};
 ghost use Rattle.model.specs.Calls.{reload};
-ghost use Rattle.state_cache.specs.State.{raw, formed};
-ghost use Rattle.state_cache.specs.Run.{outcome, run, of_numbers, settled, index_said, flag, fresh_call};
+ghost use Rattle.state_cache.specs.State.{raw, formed, index_of};
+ghost use Rattle.model.specs.Log.{fresh_log};
+ghost use Rattle.state_cache.specs.Run.{run, of_numbers, index_at, index_said, flag, changed, changed_at, fresh_call};
 
 use entry::{Ballot, LogIndex, Refusal, StopSign};
 
 pub mod inner;
 
 #[repr(C)]
-#[derive(Clone, Copy)]
+#[derive(Clone, Copy, Debug, PartialEq, Eq)]
 pub struct IndexRecord {
     pub batch_size: u64,
     pub retained: usize,
@@ -26,39 +27,6 @@ pub struct IndexRecord {
     pub keys: usize,
     pub stop_held: bool,
     pub stop: StopSign,
-}
-
-// The reply of a call that has nothing more to say.
-#[derive(Clone, Copy)]
-pub enum Settled {
-    Done,
-    Refused(Refusal),
-}
-
-#[derive(Clone, Copy)]
-pub struct SettledAt {
-    pub answer: Settled,
-    pub index: IndexRecord,
-}
-
-// The reply of a call that tells an index of the log: the accepted one, or log-decided.
-#[derive(Clone, Copy)]
-pub enum IndexAnswer {
-    At(LogIndex),
-    Refused(Refusal),
-}
-
-#[derive(Clone, Copy)]
-pub struct IndexAnswerAt {
-    pub answer: IndexAnswer,
-    pub index: IndexRecord,
-}
-
-// The reply of a question that is answered by yes or no.
-#[derive(Clone, Copy)]
-pub enum Flag {
-    Is(bool),
-    Refused(Refusal),
 }
 
 // Document 01's "well formed", all of it.
@@ -75,10 +43,9 @@ pub fn well_formed(index: IndexRecord, log: &[u64], snapshot: &[u64]) -> bool
     numbers & (stop & (entries & keys))
 }
 
-// A fresh log: zeros over both slices, and the record of a log with that batch size. Where it is refused the record
-// is that of size 0.
-pub fn fresh(batch_size: u64, log: &mut [u64], snapshot: &mut [u64]) -> SettledAt
-    ensures { outcome (settled result.answer) (raw result.index log.new snapshot.new)
+// A fresh log: zeros over both slices, and the record of a log with that batch size.
+pub fn fresh(batch_size: u64, log: &mut [u64], snapshot: &mut [u64]) -> Result<IndexRecord, Refusal>
+    ensures { changed (index_of (fresh_log 0)) result log.new snapshot.new
         ≡ fresh_call batch_size log.old snapshot.old }
 {
     let words = log.len();
@@ -86,42 +53,41 @@ pub fn fresh(batch_size: u64, log: &mut [u64], snapshot: &mut [u64]) -> SettledA
     let sized = batch_size <= entry::LARGEST_BATCH;
     let roomy = (words == entry::LOG_WORDS) & (snapshot_words == entry::SNAPSHOT_WORDS);
     if !(sized & roomy) {
-        return SettledAt {
-            answer: Settled::Refused(Refusal::Malformed),
-            index: inner::fresh_index(0),
-        };
+        return Err(Refusal::Malformed);
     }
     words::clear(log, 0, words);
     words::clear(snapshot, 0, snapshot_words);
-    SettledAt {
-        answer: Settled::Done,
-        index: inner::fresh_index(batch_size),
-    }
+    Ok(inner::fresh_index(batch_size))
 }
 
 // Reloads a log: the batch is dropped and its words become zero, and the rest stays. Replies the accepted index.
-pub fn load_cache(index: IndexRecord, log: &mut [u64], snapshot: &[u64]) -> IndexAnswerAt
-    ensures { outcome (index_said result.answer) (raw result.index log.new snapshot.now)
+pub fn load_cache(
+    index: IndexRecord,
+    log: &mut [u64],
+    snapshot: &[u64],
+) -> Result<(IndexRecord, LogIndex), Refusal>
+    ensures { changed_at index_at index result log.new snapshot.now
         ≡ run reload true (raw index log.old snapshot.now) }
 {
-    if !well_formed(index, log, snapshot) {
-        return IndexAnswerAt {
-            answer: IndexAnswer::Refused(Refusal::IllFormed),
-            index,
-        };
+    if well_formed(index, log, snapshot) {
+        Ok(inner::reload(index, log, snapshot))
+    } else {
+        Err(Refusal::IllFormed)
     }
-    inner::reload(index, log, snapshot)
 }
 
 // The index after the last that is accepted: compacted, the retained entries, and the stop-sign where one is held.
-pub fn get_accepted_idx(index: IndexRecord, log: &[u64], snapshot: &[u64]) -> IndexAnswer
+pub fn get_accepted_idx(
+    index: IndexRecord,
+    log: &[u64],
+    snapshot: &[u64],
+) -> Result<LogIndex, Refusal>
     ensures { index_said result ≡ of_numbers accepted_of (raw index log.now snapshot.now) }
 {
     if !well_formed(index, log, snapshot) {
-        return IndexAnswer::Refused(Refusal::IllFormed);
+        return Err(Refusal::IllFormed);
     }
-    let last = inner::accepted(index);
-    IndexAnswer::At(LogIndex(last))
+    Ok(LogIndex(inner::accepted(index)))
 }
 
 // The decided index, a decided stop-sign not counted.
@@ -129,23 +95,25 @@ pub fn get_decided_idx_without_stopsign(
     index: IndexRecord,
     log: &[u64],
     snapshot: &[u64],
-) -> IndexAnswer
+) -> Result<LogIndex, Refusal>
     ensures { index_said result ≡ of_numbers log_decided (raw index log.now snapshot.now) }
 {
     if !well_formed(index, log, snapshot) {
-        return IndexAnswer::Refused(Refusal::IllFormed);
+        return Err(Refusal::IllFormed);
     }
-    let decided = inner::log_decided(index);
-    IndexAnswer::At(LogIndex(decided))
+    Ok(LogIndex(inner::log_decided(index)))
 }
 
 // Whether a stop-sign is held and the decided index counts it.
-pub fn stopsign_is_decided(index: IndexRecord, log: &[u64], snapshot: &[u64]) -> Flag
+pub fn stopsign_is_decided(
+    index: IndexRecord,
+    log: &[u64],
+    snapshot: &[u64],
+) -> Result<bool, Refusal>
     ensures { flag result ≡ of_numbers stop_decided (raw index log.now snapshot.now) }
 {
     if !well_formed(index, log, snapshot) {
-        return Flag::Refused(Refusal::IllFormed);
+        return Err(Refusal::IllFormed);
     }
-    let decided = inner::stop_decided(index);
-    Flag::Is(decided)
+    Ok(inner::stop_decided(index))
 }

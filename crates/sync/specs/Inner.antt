@@ -1,10 +1,11 @@
 -- What the inner functions say: the snapshot held after a sync, the record after it, its marks, its run and its
 -- stop-sign; and the log's words after it.
-use Rattle.std.specs.Prelude.{ℕ, ◌+◌, ◌-◌, ◌*◌, ◌≤◌, ◌≡◌, Bool, true, false, ◌||◌, not, List, length, take, if◌then◌else◌}
+use Rattle.std.specs.Prelude.{ℕ, ◌+◌, ◌-◌, ◌*◌, ◌≤◌, ◌≡◌, Bool, true, false, ◌||◌, List, length, take, if◌then◌else◌}
+use Rattle.std.specs.Prelude.{Option as Optional, Some, None, is_none, is_some, unwrap_or}
 use Rattle.words.specs.Words.{laid, spliced}
 use Rattle.entry.specs.Limits.{width, entry_room, log_words, snapshot_words}
 use Rattle.entry.specs.Change.{Change, Laid, whole_in}
-use Rattle.entry.specs.Sign.{sign_if}
+use Rattle.entry.specs.Sign.{no_sign}
 use Rattle.entry.specs.declared.Ballot.{Ballot}
 use Rattle.snapshot.specs.Folds.{fold_onto}
 use Rattle.snapshot.specs.Inner.{Holds}
@@ -12,16 +13,16 @@ use Rattle.model.specs.Sync.{part_formed, decided_then, kept_then}
 use Rattle.state_cache.specs.State.{Raw, numbers_in}
 use Rattle.state_cache.specs.Inner.{Ready, with_run, with_stop}
 use Rattle.state_cache.specs.declared.IndexRecord.{IndexRecord}
-use Rattle.sync.specs.Requests.{plain_by, numbers_by, part_by}
+use Rattle.sync.specs.Requests.{numbers_by, part_by}
 use Rattle.sync.specs.declared.LogSync.{LogSync}
 use Rattle.sync.specs.declared.SnapshotType.{SnapshotType}
-use Rattle.sync.specs.declared.SnapshotType.TheVariants.{Plain, Complete, Delta}
+use Rattle.sync.specs.declared.SnapshotType.TheVariants.{Complete, Delta}
 
 -- the snapshot held before, the one lent, or the one lent over all that was decided
-abbrev pub snapshot_then : SnapshotType → List Change → List Change → List Change → List Change
-snapshot_then Plain held decided lent = held
-snapshot_then Complete held decided lent = lent
-snapshot_then Delta held decided lent = fold_onto (fold_onto held decided) lent
+abbrev pub snapshot_then : Optional SnapshotType → List Change → List Change → List Change → List Change
+snapshot_then None held decided lent = held
+snapshot_then (Some Complete) held decided lent = lent
+snapshot_then (Some Delta) held decided lent = fold_onto (fold_onto held decided) lent
 
 -- the round, and the larger decided index
 abbrev pub marked : Ballot → ℕ → IndexRecord → IndexRecord
@@ -46,9 +47,10 @@ kept_by x n y = kept_then (numbers_by x n) (numbers_in y)
 -- the run and the stop-sign, with the snapshot's keys
 abbrev pub synced_index : LogSync → ℕ → ℕ → IndexRecord → IndexRecord
 synced_index x n keys y =
-    let plain : Bool = plain_by x.decided_snapshot in
-    with_stop x.stop_held (sign_if x.stop_held x.stopsign)
-    (with_run (if plain then y.compacted else x.sync_idx) (kept_by x n y + n) (y.snapshot_held || not plain) keys
+    let plain : Bool = is_none x.decided_snapshot in
+    with_stop (is_some x.stopsign) (unwrap_or x.stopsign no_sign)
+    (with_run (if plain then y.compacted else x.sync_idx) (kept_by x n y + n)
+    (y.snapshot_held || is_some x.decided_snapshot) keys
     y)
 
 -- what a suffix of n entries needs to be put into the log, and what that comes to
@@ -71,5 +73,5 @@ pub record Taken (x : LogSync) (n keys : ℕ) (y : IndexRecord) (log suffix : Li
 pub record Syncs (r : Raw) (x : LogSync) (incoming suffix : List ℕ) : Type 0 where
   pub ready : Ready r
   pub whole : whole_in suffix ≡ true
-  pub lent : plain_by x.decided_snapshot ≡ false → Holds snapshot_words x.keys incoming
+  pub lent : is_none x.decided_snapshot ≡ false → Holds snapshot_words x.keys incoming
   pub fine : part_formed (part_by x incoming suffix) ≡ true

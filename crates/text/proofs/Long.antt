@@ -11,8 +11,8 @@ use Rattle.words.proofs.Alls.{all_head}
 use Rattle.text.specs.{Bytes.bytes, Rooms.most_digits, Rooms.input_line, Number.is_digit, Number.value, Number.plain}
 use Rattle.text.specs.{Number.numeral_of, Parse.◌is◌, Parse.words, Parse.onto, Parse.bare_of, Parse.compact_of}
 use Rattle.text.specs.{Parse.numbered_of, Parse.with_number, Parse.with_one, Parse.paired_of, Parse.with_numbers}
-use Rattle.text.specs.{Parse.with_two, Parse.command_of, Parse.parse_of, declared.Parsed.Parsed}
-use Rattle.text.specs.{declared.Parsed.TheVariants.Value, declared.Parsed.TheVariants.NoNumber}
+use Rattle.text.specs.{Parse.with_two, Parse.command_of, Parse.parse_of}
+use Rattle.std.specs.Prelude.{Option, Some, None}
 use Rattle.text.specs.{declared.Command.TheVariants.BadLine}
 use Rattle.entry.specs.declared.Compaction.TheVariants.{Trim, Snapshot}
 use Rattle.text.proofs.ParseLaws.{same_lengths}
@@ -57,19 +57,19 @@ module _ (w : List ℕ) (h : length (bytes "decide") < length w) where
         off w "stop" (omega arith),
       )
 
-  long_number : (p : Parsed) → with_number w p ≡ BadLine
-  long_number (Value n) = long_numbered n
-  long_number NoNumber = refl
+  long_number : (p : Option ℕ) → with_number w p ≡ BadLine
+  long_number (Some n) = long_numbered n
+  long_number None = refl
 
 module _ (w : List ℕ) (h : length (bytes "read") < length w) where
   long_paired : (m n : ℕ) → paired_of w m n ≡ BadLine
   unfolding paired_of
   long_paired m n = rw (off w "put" (omega arith), off w "read" (omega arith))
 
-  long_numbers : (p q : Parsed) → with_numbers w p q ≡ BadLine
-  long_numbers (Value m) (Value n) = long_paired m n
-  long_numbers (Value m) NoNumber = refl
-  long_numbers NoNumber q = refl
+  long_numbers : (p q : Option ℕ) → with_numbers w p q ≡ BadLine
+  long_numbers (Some m) (Some n) = long_paired m n
+  long_numbers (Some m) None = refl
+  long_numbers None q = refl
 
 -- no number has more than `most_digits` digits
 tens : ℕ → List ℕ → ℕ
@@ -103,19 +103,19 @@ value_long (b ∷ c ∷ bs) h p =
     let q = pow-le-pow_right {n = 10} (lit< tt) {i = most_digits} {j = length (c ∷ bs)} (omega arith) in
     omega (arith, g, t, q, one-mul (10 ^ length (c ∷ bs)))
 
-number_long : (xs : List ℕ) → most_digits < length xs → numeral_of xs ≡ NoNumber
+number_long : (xs : List ℕ) → most_digits < length xs → numeral_of xs ≡ None
 unfolding numeral_of
 number_long xs h = go (plain xs) (value_long xs h)
   where
     go : (t : Bool) → (t ≡ true → 2 ^ 64 ≤ value 0 xs)
-        → (if t && ltb (value 0 xs) (2 ^ 64) then Value (value 0 xs) else NoNumber) ≡ NoNumber
+        → (if t && ltb (value 0 xs) (2 ^ 64) then Some (value 0 xs) else None) ≡ None
     go false f = refl
     go true f = rw (le-ltb (value 0 xs) (2 ^ 64) (f refl))
 
 -- so a line of more bytes than such a name, two numbers and two spaces is none of the ten
-second_long : (w : List ℕ) (p : Parsed) → with_numbers w p NoNumber ≡ BadLine
-second_long w (Value m) = refl
-second_long w NoNumber = refl
+second_long : (w : List ℕ) (p : Option ℕ) → with_numbers w p None ≡ BadLine
+second_long w (Some m) = refl
+second_long w None = refl
 
 one_long : (w a : List ℕ) → most_digits < length a → with_one w a ≡ BadLine
 unfolding with_one compact_of

@@ -1,27 +1,43 @@
 -- How the definitions of a line's words and numbers go on by one byte at an index, as the loops take them.
-use Rattle.words.proofs.Prelude.{arith, ◌≡◌, refl, ap, ℕ, suc, ◌+◌, ◌-◌, ◌*◌, ◌≤◌, ◌<◌, add-one, Bool, true, false}
-use Rattle.words.proofs.Prelude.{and-true, ◌&&◌, eqb, ltb, eq-eqb, ne_eqb, lt-ltb, le-ltb, le-leb, lt-leb}
+use Rattle.words.proofs.Prelude.{arith, ◌≡◌, refl, sym, ap, ◌∙◌, ℕ, suc, ◌+◌, ◌-◌, ◌*◌, ◌≤◌, ◌<◌, add-one, Bool, true, false}
+use Rattle.words.proofs.Prelude.{and-true, ◌&&◌, eqb, ltb, eq-eqb, ne_eqb, ltb-false, lt-ltb, le-ltb, le-leb, not}
 use Rattle.words.proofs.Prelude.{if◌then◌else◌, List, [], ◌∷◌, drop_of_length-le, length, take, drop, get_or, drop-cons}
 use Prim.Native.Nat.{◌^◌}
 use mathlib.Core.Bool.{and-false}
 use borrow.Author.Rules.{part_to_end}
+use lib.Pointwise.{pointwise}
 use Rattle.words.specs.All.{all_of}
 use Rattle.text.specs.{Number.is_digit, Number.value, Number.numeral_of, Parse.same_of, Parse.words, Parse.onto}
-use Rattle.text.specs.{Parse.command_of, Bytes.gap_of, declared.Parsed.Parsed, declared.Parsed.TheVariants.Value}
-use Rattle.text.specs.{declared.Parsed.TheVariants.NoNumber, declared.Command.TheVariants.BadLine}
+use Rattle.text.specs.{Parse.command_of, Bytes.gap_of}
+use Rattle.std.specs.Prelude.{Option, Some, None, position, unwrap_or, ◌==◌, cond}
+use Rattle.std.specs.List.{position_or_len}
+use Rattle.text.specs.{declared.Command.TheVariants.BadLine}
 
--- the first b
-module _ (b : ℕ) (s : List ℕ) (i : ℕ) where
-  pub gap_step : i < length s → (get_or s i 0 ≡ b → ⊥) → gap_of b (drop i s) ≡ suc (gap_of b (drop (i + 1) s))
-  gap_step h ne = rw (add-one, drop-cons s i 0, ne_eqb _ _ ne)
+-- the first b, as the library finds it
+gap-prefix : (b : ℕ) (s : List ℕ) → position_or_len (λ (x : ℕ). x == b) s ≡ gap_of b s
+gap-prefix b [] = refl
+gap-prefix b (x ∷ xs) = go (eqb x b) (gap-prefix b xs)
+  where
+    go : (t : Bool) → position_or_len (λ (y : ℕ). y == b) xs ≡ gap_of b xs
+        → cond (not t) (1 + position_or_len (λ (y : ℕ). y == b) xs) 0 ≡ (if t then 0 else suc (gap_of b xs))
+    go true e = refl
+    go false e = omega (arith, e)
 
-  pub gap_here : i < length s → get_or s i 0 ≡ b → gap_of b (drop i s) ≡ 0
-  gap_here h e = rw (drop-cons s i 0, eq-eqb _ _ e)
+gap_le : (b : ℕ) (s : List ℕ) → gap_of b s ≤ length s
+gap_le b [] = omega arith
+gap_le b (x ∷ xs) = go (eqb x b) (gap_le b xs)
+  where
+    go : (t : Bool) → gap_of b xs ≤ length xs → (if t then 0 else suc (gap_of b xs)) ≤ length (x ∷ xs)
+    go true h = omega arith
+    go false h = omega arith
 
-  pub gap_end : length s ≤ i → gap_of b (drop i s) ≡ 0
-  gap_end h = ap (gap_of b) (drop_of_length-le s h)
+pub gap-position : (b : ℕ) (s : List ℕ) → unwrap_or (position (λ (x : ℕ). x == b) s) (length s) ≡ gap_of b s
+gap-position b s = go (ltb (gap_of b s) (length s)) refl
+  where
+    go : (t : Bool) → ltb (gap_of b s) (length s) ≡ t → unwrap_or (position (λ (x : ℕ). x == b) s) (length s) ≡ gap_of b s
+    go true e = rw (gap-prefix b s, e)
+    go false e = rw (gap-prefix b s, e) (omega (arith, ltb-false _ _ e, gap_le b s))
 
--- the words of a line
 words_none_by : (b : ℕ) (bs : List ℕ) (t : Bool) → (if t then 0 else suc (gap_of 32 bs)) ≡ suc (length bs)
     → (gap_of 32 bs ≡ length bs → words bs ≡ bs ∷ [])
     → (if t then [] ∷ words bs else onto b (words bs)) ≡ (b ∷ bs) ∷ []
@@ -75,31 +91,30 @@ same_lengths [] (y ∷ ys) ne = refl
 same_lengths (x ∷ xs) [] ne = refl
 same_lengths (x ∷ xs) (y ∷ ys) ne = rw (same_lengths xs ys (λ e. ne (ap suc e))) (and-false (eqb x y))
 
-module _ (a b : List ℕ) (i : ℕ) where
-  pub same_step : i < length a → i < length b → get_or a i 0 ≡ get_or b i 0
-      → same_of (drop i a) (drop i b) ≡ same_of (drop (i + 1) a) (drop (i + 1) b)
-  same_step h k e = rw (add-one, drop-cons a i 0, drop-cons b i 0, eq-eqb _ _ e)
+-- the library's equality of slices, and what a test by it says of a literal
+same-pointwise : (a b : List ℕ) → pointwise eqb a b ≡ same_of a b
+same-pointwise [] [] = refl
+same-pointwise [] (y ∷ ys) = refl
+same-pointwise (x ∷ xs) [] = refl
+same-pointwise (x ∷ xs) (y ∷ ys) = ap (λ (t : Bool). eqb x y && t) (same-pointwise xs ys)
 
-  pub same_here : i < length a → i < length b → (get_or a i 0 ≡ get_or b i 0 → ⊥) → same_of (drop i a) (drop i b) ≡ false
-  same_here h k ne = rw (drop-cons a i 0, drop-cons b i 0, ne_eqb _ _ ne)
-
-  pub same_end : length a ≤ i → length b ≤ i → same_of (drop i a) (drop i b) ≡ true
-  same_end h k = rw (drop_of_length-le a h, drop_of_length-le b k)
+pub is_by : (w lit : List ℕ) {r : List ℕ} {q t : Bool} → r ≡ lit → q ≡ pointwise eqb w r → q ≡ t → same_of w lit ≡ t
+is_by w lit e f g = sym (same-pointwise w lit) ∙ ap (pointwise eqb w) (sym e) ∙ sym f ∙ g
 
 -- numbers: what the digits that are left make of the number already read
-unfoldable pub whole : ℕ → List ℕ → Parsed
-whole n xs = if all_of is_digit xs && ltb (value n xs) (2 ^ 64) then Value (value n xs) else NoNumber
+unfoldable pub whole : ℕ → List ℕ → Option ℕ
+whole n xs = if all_of is_digit xs && ltb (value n xs) (2 ^ 64) then Some (value n xs) else None
 
 value_grows : (n : ℕ) (xs : List ℕ) → n ≤ value n xs
 value_grows n [] = omega arith
 value_grows n (b ∷ bs) = omega (arith, value_grows (n * 10 + (b - 48)) bs)
 
-pub number_empty : (s : List ℕ) → length s ≡ 0 → numeral_of s ≡ NoNumber
+pub number_empty : (s : List ℕ) → length s ≡ 0 → numeral_of s ≡ None
 unfolding numeral_of
 number_empty [] e = refl
 number_empty (b ∷ bs) e = absurd (omega arith)
 
-pub number_zero : (s : List ℕ) → 1 < length s → get_or s 0 0 ≡ 48 → numeral_of s ≡ NoNumber
+pub number_zero : (s : List ℕ) → 1 < length s → get_or s 0 0 ≡ 48 → numeral_of s ≡ None
 unfolding numeral_of
 number_zero [] h e = absurd (omega arith)
 number_zero (b ∷ []) h e = absurd (omega arith)
@@ -118,26 +133,22 @@ number_more (b ∷ []) h ne = absurd (omega arith)
 number_more (b ∷ c ∷ bs) h ne = rw (ne_eqb b 48 ne)
 
 module _ (n : ℕ) (s : List ℕ) (i : ℕ) where
-  pub whole_step : i < length s → 48 ≤ get_or s i 0 → get_or s i 0 ≤ 57
+  pub whole_step : i < length s → is_digit (get_or s i 0) ≡ true
       → whole n (drop i s) ≡ whole (n * 10 + (get_or s i 0 - 48)) (drop (i + 1) s)
   unfolding whole all_of
-  whole_step h k l = rw (add-one, drop-cons s i 0, le-leb 48 (get_or s i 0), le-leb (get_or s i 0) 57)
+  whole_step h d = rw (add-one, drop-cons s i 0, d)
 
-  pub whole_below : i < length s → get_or s i 0 < 48 → whole n (drop i s) ≡ NoNumber
+  pub whole_bad : i < length s → is_digit (get_or s i 0) ≡ false → whole n (drop i s) ≡ None
   unfolding whole all_of
-  whole_below h k = rw (drop-cons s i 0, lt-leb 48 (get_or s i 0))
+  whole_bad h e = rw (drop-cons s i 0, e)
 
-  pub whole_above : i < length s → 57 < get_or s i 0 → whole n (drop i s) ≡ NoNumber
-  unfolding whole all_of
-  whole_above h k = rw (drop-cons s i 0, lt-leb (get_or s i 0) 57, and-false)
-
-  pub whole_over : i < length s → 2 ^ 64 ≤ n * 10 + (get_or s i 0 - 48) → whole n (drop i s) ≡ NoNumber
+  pub whole_over : i < length s → 2 ^ 64 ≤ n * 10 + (get_or s i 0 - 48) → whole n (drop i s) ≡ None
   unfolding whole all_of
   whole_over h k =
       let l : 2 ^ 64 ≤ value (n * 10 + (get_or s i 0 - 48)) (drop (suc i) s) = omega
       (arith, value_grows (n * 10 + (get_or s i 0 - 48)) (drop (suc i) s)) in
       rw (drop-cons s i 0, le-ltb _ _ l, and-false)
 
-  pub whole_end : length s ≤ i → n < 2 ^ 64 → whole n (drop i s) ≡ Value n
+  pub whole_end : length s ≤ i → n < 2 ^ 64 → whole n (drop i s) ≡ Some n
   unfolding whole all_of
   whole_end h k = rw (drop_of_length-le s h, lt-ltb n (2 ^ 64) k)

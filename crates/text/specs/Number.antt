@@ -1,8 +1,7 @@
 -- "Numbers are decimal without leading zeros; one past 64 bits .. makes a bad line."
 use Rattle.std.specs.Prelude.{ℕ, ◌+◌, ◌-◌, ◌*◌, ◌^◌, Bool, false, ◌&&◌, not, List, [], ◌∷◌, ltb, leb, eqb, if◌then◌else◌}
+use Rattle.std.specs.Prelude.{Option, Some, None}
 use Rattle.words.specs.All.{all_of}
-use Rattle.text.specs.declared.Parsed.{Parsed}
-use Rattle.text.specs.declared.Parsed.TheVariants.{Value, NoNumber}
 
 -- `0` to `9`
 abbrev pub is_digit : ℕ → Bool
@@ -19,5 +18,5 @@ abbrev pub value : ℕ → List ℕ → ℕ
 value n [] = n
 value n (b ∷ bs) = value (n * 10 + (b - 48)) bs
 
-unfoldable pub numeral_of : List ℕ → Parsed
-numeral_of xs = if plain xs && ltb (value 0 xs) (2 ^ 64) then Value (value 0 xs) else NoNumber
+unfoldable pub numeral_of : List ℕ → Option ℕ
+numeral_of xs = if plain xs && ltb (value 0 xs) (2 ^ 64) then Some (value 0 xs) else None

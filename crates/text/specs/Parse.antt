@@ -1,14 +1,12 @@
 -- What a line means: "Commands are the nine shown, with `snap` taking an index or `all`. .. Other lines print `bad
 -- line`." And document 02: ""All" is now open to trimming too (`trim all`)", and the program "gains `find K`".
 use Rattle.std.specs.Prelude.{ℕ, ◌^◌, Bool, true, false, ◌&&◌, List, [], ◌∷◌, ltb, eqb, if◌then◌else◌}
+use Rattle.std.specs.Prelude.{Option, Some, None}
 use Prim.Native.String.{String}
 use Rattle.entry.specs.declared.Compaction.{Compaction}
 use Rattle.entry.specs.declared.Compaction.TheVariants.{Trim, Snapshot}
-use Rattle.entry.specs.declared.Upto.TheVariants.{All, Index}
 use Rattle.text.specs.Bytes.{bytes}
 use Rattle.text.specs.Number.{numeral_of}
-use Rattle.text.specs.declared.Parsed.{Parsed}
-use Rattle.text.specs.declared.Parsed.TheVariants.{Value, NoNumber}
 use Rattle.text.specs.declared.Command.{Command}
 use Rattle.text.specs.declared.Command.TheVariants.{Batch, Put, Del, Read, Flush, Decide, Compact, Stop}
 use Rattle.text.specs.declared.Command.TheVariants.{Find, BadLine}
@@ -47,16 +45,16 @@ numbered_of w n =
     else if w is "stop" then (if ltb n (2 ^ 32) then Stop n else BadLine)
     else BadLine
 
-abbrev pub with_number : List ℕ → Parsed → Command
-with_number w (Value n) = numbered_of w n
-with_number w NoNumber = BadLine
+abbrev pub with_number : List ℕ → Option ℕ → Command
+with_number w (Some n) = numbered_of w n
+with_number w None = BadLine
 
-abbrev pub compact_to : Compaction → Parsed → Command
-compact_to what (Value n) = Compact what (Index (record { 0 = n }))
-compact_to what NoNumber = BadLine
+abbrev pub compact_to : Compaction → Option ℕ → Command
+compact_to what (Some n) = Compact what (Some (record { 0 = n }))
+compact_to what None = BadLine
 
 unfoldable pub compact_of : Compaction → List ℕ → Command
-compact_of what a = if a is "all" then Compact what All else compact_to what (numeral_of a)
+compact_of what a = if a is "all" then Compact what None else compact_to what (numeral_of a)
 
 unfoldable pub with_one : List ℕ → List ℕ → Command
 with_one w a =
@@ -71,10 +69,10 @@ paired_of w m n =
     else if w is "read" then Read m n
     else BadLine
 
-abbrev pub with_numbers : List ℕ → Parsed → Parsed → Command
-with_numbers w (Value m) (Value n) = paired_of w m n
-with_numbers w (Value m) NoNumber = BadLine
-with_numbers w NoNumber q = BadLine
+abbrev pub with_numbers : List ℕ → Option ℕ → Option ℕ → Command
+with_numbers w (Some m) (Some n) = paired_of w m n
+with_numbers w (Some m) None = BadLine
+with_numbers w None q = BadLine
 
 abbrev pub with_two : List ℕ → List ℕ → List ℕ → Command
 with_two w a b = with_numbers w (numeral_of a) (numeral_of b)

@@ -1,6 +1,6 @@
 // What the program needs to take lines apart and to gather its answers: not for a user. Each function that puts bytes
 // puts them into out from index `at` on, for which it asks room, and answers the index after them.
-ghost use Rattle.std.specs.Prelude.{◌≡◌, ◌++◌, ◌+◌, ◌*◌, ◌≤◌, length, take, IfOk};
+ghost use Rattle.std.specs.Prelude.{◌≡◌, ◌++◌, ◌+◌, ◌*◌, ◌≤◌, length, take, position, ◌==◌, IfOk};
 ghost use Rattle.entry.specs.Limits.{width};
 ghost use Rattle.entry.specs.Change.{said_is, entries_of};
 ghost use Rattle.words.specs.Words.{IsPrefixLen};
@@ -12,56 +12,43 @@ ghost use Rattle.text.specs.Number.{numeral_of};
 ghost use Rattle.text.specs.Answers.{decimal_of, line_of, entry_text, entry_line, entry_lines};
 ghost use Rattle.text.specs.declared.Line.TheVariants.{Stop};
 
-use super::{Line, Parsed};
+use super::Line;
 use entry::Said;
 use std::io;
 use std::io::Stdout;
+
+fn first(s: &[u8], b: u8) -> Option<usize>
+    ensures { result ≡ position (λ x. x == b) s.now }
+{
+    s.iter().position(|&x| x == b)
+}
 
 // How many bytes stand before the first b.
 pub fn gap(s: &[u8], b: u8) -> usize
     ensures prefix_len { IsPrefixLen result s.now }
     ensures value { result ≡ gap_of b s.now }
 {
-    let mut i = 0;
-    while i < s.len() {
-        if s[i] == b {
-            return i;
-        }
-        i += 1;
-    }
-    i
+    first(s, b).unwrap_or(s.len())
 }
 
 // The number that s spells in decimal, without leading zeros and below 2^64.
-pub fn number(s: &[u8]) -> Parsed
+pub fn number(s: &[u8]) -> Option<u64>
     ensures { result ≡ numeral_of s.now }
 {
-    if s.len() == 0 {
-        return Parsed::NoNumber;
+    if s.is_empty() {
+        return None;
     }
-    if s.len() > 1 {
-        if s[0] == b'0' {
-            return Parsed::NoNumber;
-        }
+    if s.len() > 1 && s[0] == b'0' {
+        return None;
     }
     let mut n: u64 = 0;
-    let mut i = 0;
-    while i < s.len() {
-        let b = s[i];
-        if b < b'0' {
-            return Parsed::NoNumber;
+    for &b in s {
+        if !b.is_ascii_digit() {
+            return None;
         }
-        if b > b'9' {
-            return Parsed::NoNumber;
-        }
-        let d = (b - b'0') as u64;
-        if n > (u64::MAX - d) / 10 {
-            return Parsed::NoNumber;
-        }
-        n = n * 10 + d;
-        i += 1;
+        n = n.checked_mul(10)?.checked_add(u64::from(b - b'0'))?;
     }
-    Parsed::Value(n)
+    Some(n)
 }
 
 // The bytes of src.
@@ -70,12 +57,9 @@ pub fn put(out: &mut [u8], at: usize, src: &[u8]) -> usize
     ensures value { result ≡ at + length src.now }
     ensures out_after { take result out.new ≡ take at out.old ++ src.now }
 {
-    let mut i = 0;
-    while i < src.len() {
-        out[at + i] = src[i];
-        i += 1;
-    }
-    at + i
+    let end = at + src.len();
+    out[at..end].copy_from_slice(src);
+    end
 }
 
 // n in decimal: the digits of its tenth, and its last digit.
@@ -236,11 +220,9 @@ pub fn put_run(out: &mut [u8], at: usize, entries: &[u64], n: usize, decided: us
         ≡ take at out.old ++ entry_lines decided (entries_of n entries.now) }
 {
     let mut o = at;
-    let mut i = 0;
-    while i < n {
+    for i in 0..n {
         let key = entries[i * entry::WIDTH];
         o = put_entry(out, o, i < decided, key, entry::inner::said_at(entries, i));
-        i += 1;
     }
     o
 }

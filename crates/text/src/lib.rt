@@ -2,9 +2,9 @@
 #![tactic(auto)]
 
 ghost use Rattle.std.specs.Prelude.{◌≡◌};
-ghost use Rattle.text.specs.Parse.{same_of, bare_of, compact_of, numbered_of, with_one, with_two, parse_of};
+ghost use Rattle.text.specs.Parse.{bare_of, compact_of, numbered_of, with_one, with_two, parse_of};
 
-use entry::{Compaction, LogIndex, Upto};
+use entry::{Compaction, LogIndex};
 
 pub mod inner;
 
@@ -18,15 +18,8 @@ pub const INPUT_LINE: usize = 4 + 2 * (1 + DIGITS);
 // after the second.
 pub const OUTPUT_LINE: usize = 10 + 2 * (DIGITS + 1);
 
-// What a word is when it is read as a number.
-#[derive(Clone, Copy)]
-pub enum Parsed {
-    Value(u64),
-    NoNumber,
-}
-
 // A line of input.
-#[derive(Clone, Copy)]
+#[derive(Clone, Copy, Debug, PartialEq, Eq)]
 pub enum Command {
     Batch(u64),
     Put(u64, u64),
@@ -34,14 +27,14 @@ pub enum Command {
     Read(u64, u64),
     Flush,
     Decide(u64),
-    Compact(Compaction, Upto),
+    Compact(Compaction, Option<LogIndex>),
     Stop(u32),
     Find(u64),
     BadLine,
 }
 
 // A line of output, but for those of a run's entries.
-#[derive(Clone, Copy)]
+#[derive(Clone, Copy, Debug, PartialEq, Eq)]
 pub enum Line {
     Done,
     Held,
@@ -58,28 +51,11 @@ pub enum Line {
     Unknown,
 }
 
-// Whether two slices hold the same bytes.
-fn same(a: &[u8], b: &[u8]) -> bool
-    ensures { result ≡ same_of a.now b.now }
-{
-    if a.len() != b.len() {
-        return false;
-    }
-    let mut i = 0;
-    while i < a.len() {
-        if a[i] != b[i] {
-            return false;
-        }
-        i += 1;
-    }
-    true
-}
-
 // A line of one word.
 fn bare(w: &[u8]) -> Command
     ensures { result ≡ bare_of w.now }
 {
-    if same(w, b"flush") {
+    if w == b"flush".as_slice() {
         return Command::Flush;
     }
     Command::BadLine
@@ -89,37 +65,36 @@ fn bare(w: &[u8]) -> Command
 fn compact(what: Compaction, a: &[u8]) -> Command
     ensures { result ≡ compact_of what a.now }
 {
-    if same(a, b"all") {
-        return Command::Compact(what, Upto::All);
+    if a == b"all".as_slice() {
+        return Command::Compact(what, None);
     }
-    let Parsed::Value(n) = inner::number(a) else {
+    let Some(n) = inner::number(a) else {
         return Command::BadLine;
     };
-    let upto = Upto::Index(LogIndex(n));
-    Command::Compact(what, upto)
+    Command::Compact(what, Some(LogIndex(n)))
 }
 
 // A word with a number after it.
 fn numbered(w: &[u8], n: u64) -> Command
     ensures { result ≡ numbered_of w.now n }
 {
-    if same(w, b"batch") {
+    if w == b"batch".as_slice() {
         return Command::Batch(n);
     }
-    if same(w, b"del") {
+    if w == b"del".as_slice() {
         return Command::Del(n);
     }
-    if same(w, b"decide") {
+    if w == b"decide".as_slice() {
         return Command::Decide(n);
     }
-    if same(w, b"find") {
+    if w == b"find".as_slice() {
         return Command::Find(n);
     }
-    if same(w, b"stop") {
-        if n < 0x1_0000_0000 {
-            return Command::Stop(n as u32);
-        }
-        return Command::BadLine;
+    if w == b"stop".as_slice() {
+        let Ok(c) = u32::try_from(n) else {
+            return Command::BadLine;
+        };
+        return Command::Stop(c);
     }
     Command::BadLine
 }
@@ -128,13 +103,13 @@ fn numbered(w: &[u8], n: u64) -> Command
 fn one(w: &[u8], a: &[u8]) -> Command
     ensures { result ≡ with_one w.now a.now }
 {
-    if same(w, b"snap") {
+    if w == b"snap".as_slice() {
         return compact(Compaction::Snapshot, a);
     }
-    if same(w, b"trim") {
+    if w == b"trim".as_slice() {
         return compact(Compaction::Trim, a);
     }
-    let Parsed::Value(n) = inner::number(a) else {
+    let Some(n) = inner::number(a) else {
         return Command::BadLine;
     };
     numbered(w, n)
@@ -144,16 +119,16 @@ fn one(w: &[u8], a: &[u8]) -> Command
 fn two(w: &[u8], a: &[u8], b: &[u8]) -> Command
     ensures { result ≡ with_two w.now a.now b.now }
 {
-    let Parsed::Value(m) = inner::number(a) else {
+    let Some(m) = inner::number(a) else {
         return Command::BadLine;
     };
-    let Parsed::Value(n) = inner::number(b) else {
+    let Some(n) = inner::number(b) else {
         return Command::BadLine;
     };
-    if same(w, b"put") {
+    if w == b"put".as_slice() {
         return Command::Put(m, n);
     }
-    if same(w, b"read") {
+    if w == b"read".as_slice() {
         return Command::Read(m, n);
     }
     Command::BadLine

@@ -8,8 +8,9 @@ ghost use Rattle.state_cache.specs.State.{raw};
 ghost use Rattle.state_cache.specs.Run.{run};
 ghost use Rattle.reading.specs.Replies.{bound_of, part_shown, part_shown_at};
 
-use reading::Bound;
+use entry::LogIndex;
 use state_cache::IndexRecord;
+use std::ops::Bound;
 
 pub mod inner;
 
@@ -18,8 +19,8 @@ pub fn read_entries<'a>(
     index: IndexRecord,
     log: &'a [u64],
     snapshot: &[u64],
-    from: Bound,
-    to: Bound,
+    from: Bound<LogIndex>,
+    to: Bound<LogIndex>,
 ) -> &'a [u64]
     ensures { (result.now
         ≡ part_shown (run (query (read (bound_of from) (bound_of to))) true
@@ -28,6 +29,5 @@ pub fn read_entries<'a>(
         ≡ part_shown_at (run (query (read (bound_of from) (bound_of to))) true
         (raw index log.now snapshot.now)).answer log.now log.entry.ref_ptr) }
 {
-    let found = reading::read(index, log, snapshot, from, to);
-    found.entries
+    reading::read(index, log, snapshot, from, to).entries
 }

@@ -1,11 +1,12 @@
 -- Tests of a list's elements: of parts of a list, and as loops take them.
-use Rattle.words.proofs.Prelude.{arith, ◌≡◌, refl, sym, ap, ◌∙◌, ℕ, zero, suc, ◌+◌, ◌≤◌, ◌<◌, add-one, Bool}
-use Rattle.words.proofs.Prelude.{true, false, and-true, ◌&&◌, ◌||◌, eqb, eq-eqb, ne_eqb, eqb-true, eqb-false}
-use Rattle.words.proofs.Prelude.{if◌then◌else◌, List, [], ◌∷◌, ◌++◌, drop_of_length-le, take-append-drop, length}
-use Rattle.words.proofs.Prelude.{take, drop, replicate, get_or, drop-cons}
-use mathlib.Core.Bool.{and_assoc, or_assoc, or-false}
+use Rattle.words.proofs.Prelude.{arith, ◌≡◌, refl, sym, ap, ◌∙◌, ℕ, zero, suc, ◌+◌, ◌≤◌, add-one, Bool}
+use Rattle.words.proofs.Prelude.{true, false, and-true, ◌&&◌, eqb, eq-eqb, ne_eqb, eqb-true, eqb-false}
+use Rattle.words.proofs.Prelude.{List, [], ◌∷◌, ◌++◌, drop_of_length-le, take-append-drop, length}
+use Rattle.words.proofs.Prelude.{take, drop, replicate}
+use mathlib.Core.Bool.{and_assoc}
+use Rattle.std.specs.Prelude.{fold}
 use lib.Bits.{bit_or, or_add_and, and_le_l, and_le_r}
-use Rattle.words.specs.{All.all_of, All.any_of, All.count_of, Words.all_zero}
+use Rattle.words.specs.{All.all_of, Words.all_zero}
 use Rattle.words.proofs.Tests.{and_left, and_right, both_true}
 
 module _ {A : Type 0} (t : A → Bool) where
@@ -52,42 +53,6 @@ module _ {A : Type 0} (t : A → Bool) where
     unfolding all_of
     all_end h = sym (and-true ok) ∙ ap (λ (m : List A). ok && all_of t m) (sym (drop_of_length-le l {i = i} h)) ∙ so
 
-  -- the same of whether any passes, and of how many do
-  module _ (l : List A) (i : ℕ) (found asked : Bool) (so : (found || any_of t (drop i l)) ≡ asked) where
-    pub any_turn : (x : A) → drop i l ≡ x ∷ drop (suc i) l → (found || t x || any_of t (drop (i + 1) l)) ≡ asked
-    unfolding any_of
-    any_turn x e = rw (add-one i)
-        (or_assoc found (t x) (any_of t (drop (suc i) l)) ∙ ap (λ (m : List A). found || any_of t m) (sym e) ∙ so)
-
-    pub any_end : length l ≤ i → found ≡ asked
-    unfolding any_of
-    any_end h =
-        sym (or-false found) ∙ ap (λ (m : List A). found || any_of t m) (sym (drop_of_length-le l {i = i} h)) ∙ so
-
-  module _ (l : List A) (i n asked : ℕ) (so : n + count_of t (drop i l) ≡ asked) where
-    pub count_turn : (x : A) → drop i l ≡ x ∷ drop (suc i) l
-        → n + (if t x then 1 else 0) + count_of t (drop (i + 1) l) ≡ asked
-    unfolding count_of
-    count_turn x e =
-        let f : count_of t (drop i l) ≡ (if t x then 1 else 0) + count_of t (drop (suc i) l) = ap (count_of t) e in
-        rw (add-one i) (omega (arith, so, f))
-
-    pub count_end : length l ≤ i → n ≡ asked
-    unfolding count_of
-    count_end h =
-        let f : count_of t (drop i l) ≡ 0 = ap (count_of t) (drop_of_length-le l {i = i} h) in
-        omega (arith, so, f)
-
-  -- no more pass than there are
-  pub count-le : (l : List A) → count_of t l ≤ length l
-  unfolding count_of
-  count-le [] = omega arith
-  count-le (x ∷ l) = go (t x) (count-le l)
-    where
-      go : (b : Bool) → count_of t l ≤ length l → (if b then 1 else 0) + count_of t l ≤ suc (length l)
-      go true h = omega arith
-      go false h = omega arith
-
   -- where one element alone passes, a list that passes is that element over and over
   module _ (b : A) where
     pub all_are : ((x : A) → t x ≡ true → x ≡ b) → (l : List A) → all_of t l ≡ true → l ≡ replicate (length l) b
@@ -100,7 +65,7 @@ module _ {A : Type 0} (t : A → Bool) where
     all_pass e zero = refl
     all_pass e (suc n) = all_cons b (replicate n b) e (all_pass e n)
 
--- Zeros: the flag is that the `or` of the words passed is zero.
+-- Zeros: words are all zero where the `or` of them is.
 or-zero : (a b : ℕ) (p q : Bool) → eqb a 0 ≡ p → eqb b 0 ≡ q → eqb (bit_or a b) 0 ≡ (p && q)
 or-zero a b true true e f =
     eq-eqb (bit_or a b) 0 (omega (arith, or_add_and a b, eqb-true a 0 e, eqb-true b 0 f))
@@ -109,12 +74,13 @@ or-zero a b true false e f =
 or-zero a b false q e f =
     ne_eqb (bit_or a b) 0 (λ h. eqb-false a 0 e (omega (arith, or_add_and a b, and_le_r a b, h)))
 
-pub zero_turn : (l : List ℕ) (i all : ℕ) (asked : Bool) → i < length l → (eqb all 0 && all_zero (drop i l)) ≡ asked
-    → (eqb (bit_or all (get_or l i 0)) 0 && all_zero (drop (i + 1) l)) ≡ asked
-zero_turn l i all asked h so =
-    ap (λ (b : Bool). b && all_zero (drop (i + 1) l))
-    (or-zero all (get_or l i 0) (eqb all 0) (eqb (get_or l i 0) 0) refl refl)
-    ∙ all_turn (λ (w : ℕ). eqb w 0) l i (eqb all 0) asked so (get_or l i 0) (drop-cons l i 0 h)
+pub zero_fold : (l : List ℕ) (all : ℕ) → eqb (fold bit_or all l) 0 ≡ (eqb all 0 && all_zero l)
+unfolding all_of
+zero_fold [] all = sym (and-true (eqb all 0))
+zero_fold (w ∷ l) all =
+    zero_fold l (bit_or all w)
+    ∙ ap (λ (b : Bool). b && all_zero l) (or-zero all w (eqb all 0) (eqb w 0) refl refl)
+    ∙ and_assoc (eqb all 0) (eqb w 0) (all_zero l)
 
 pub zeros_are : (l : List ℕ) → all_zero l ≡ true → l ≡ replicate (length l) 0
 zeros_are l e = all_are (λ (w : ℕ). eqb w 0) 0 (λ x q. eqb-true x 0 q) l e

@@ -87,7 +87,14 @@ module _ {E : Type 0} (c : Code E) where
     pub words_length : (es : List E) → length (words_of c es) ≡ length es * c.width
     unfolding words_of
     words_length [] = sym (zero-mul c.width)
-    words_length (e ∷ es) = omega (arith, length-append (c.enc e) (words_of c es), ok.long e, words_length es, suc-mul (length es) c.width)
+    words_length (e ∷ es) =
+        omega (
+          arith,
+          length-append (c.enc e) (words_of c es),
+          ok.long e,
+          words_length es,
+          suc-mul (length es) c.width,
+        )
 
     pub words_take : (n : ℕ) (es : List E) → take (n * c.width) (words_of c es) ≡ words_of c (take n es)
     unfolding words_of

@@ -19,7 +19,7 @@ spliced at cut new ws = take at ws ++ (new ++ drop (at + cut) ws)
 abbrev pub all_zero : List ℕ → Bool
 all_zero ws = all_of (λ (w : ℕ). eqb w 0) ws
 
--- `&xs[..n]` is in bounds and has n elements. The second part follows from the first, and spares a caller's `&buf[..n]` a
--- proof
+-- `&xs[..n]` is in bounds and has n elements. The second part follows from the first, and spares a caller's
+-- `&buf[..n]` a proof
 abbrev pub IsPrefixLen : ℕ → List ℕ → Type 0
 IsPrefixLen n xs = (n ≤ length xs) × (n ≡ length (take n xs))

@@ -12,37 +12,7 @@ pub fn copy_in(s: &mut [u64], at: usize, src: &[u64])
     requires { at + length src.now ≤ length s.old }
     ensures { s.new ≡ paste s.old at src.now (length src.now) }
 {
-    let mut i = 0;
-    while i < src.len() {
-        s[at + i] = src[i];
-        i += 1;
-    }
-}
-
-// Moves the n words from `from` on down to `to`, lowest first.
-fn move_down(s: &mut [u64], from: usize, to: usize, n: usize)
-    requires to_le_from { to ≤ from }
-    requires n_in_bounds { from + n ≤ length s.old }
-    ensures { s.new ≡ paste s.old to (drop from s.old) n }
-{
-    let mut i = 0;
-    while i < n {
-        s[to + i] = s[from + i];
-        i += 1;
-    }
-}
-
-// Moves the n words from `from` on up to `to`, highest first.
-fn move_up(s: &mut [u64], from: usize, to: usize, n: usize)
-    requires from_le_to { from ≤ to }
-    requires n_in_bounds { to + n ≤ length s.old }
-    ensures { s.new ≡ paste s.old to (drop from s.old) n }
-{
-    let mut i = n;
-    while 0 < i {
-        i -= 1;
-        s[to + i] = s[from + i];
-    }
+    s[at..at + src.len()].copy_from_slice(src);
 }
 
 // Moves the n words from `from` on to `to`, up or down.
@@ -51,11 +21,7 @@ pub fn copy_within(s: &mut [u64], from: usize, to: usize, n: usize)
     requires n_in_bounds_2 { to + n ≤ length s.old }
     ensures { s.new ≡ paste s.old to (drop from s.old) n }
 {
-    if to <= from {
-        move_down(s, from, to, n);
-    } else {
-        move_up(s, from, to, n);
-    }
+    s.copy_within(from..from + n, to);
 }
 
 // Copies all of src to dst, which is as long.
@@ -63,18 +29,16 @@ pub fn copy_words(src: &[u64], dst: &mut [u64])
     requires { length src.now ≡ length dst.old }
     ensures { dst.new ≡ src.now }
 {
-    copy_in(dst, 0, src);
+    dst.copy_from_slice(src);
 }
 
-// Writes zeros from `from` up to, not including, `to`.
+// Writes zeros from `from` up to, not including, `to`: none where `to` is not past `from`.
 pub fn clear(s: &mut [u64], from: usize, to: usize)
     requires { to ≤ length s.old }
     ensures { s.new ≡ paste s.old from (replicate (to - from) 0) (to - from) }
 {
-    let mut i = from;
-    while i < to {
-        s[i] = 0;
-        i += 1;
+    if from < to {
+        s[from..to].fill(0);
     }
 }
 
@@ -96,17 +60,15 @@ pub fn splice(s: &mut [u64], used: usize, at: usize, cut: usize, insert: &[u64])
     clear(s, to + n, used);
 }
 
-// Whether every word from `from` on is zero. The loop has one way out, so that the compiler may take several words at
-// a time.
+// Whether every word from `from` on is zero. The fold takes them all, with one way out, so that the compiler may take
+// several at a time.
 pub fn zero_from(s: &[u64], from: usize) -> bool
     ensures { result ≡ all_zero (drop from s.now) }
 {
-    let mut all: u64 = 0;
-    let mut i = from;
-    while i < s.len() {
-        all = all | s[i];
-        i += 1;
-    }
+    let Some(rest) = s.get(from..) else {
+        return true;
+    };
+    let all = rest.iter().fold(0, |all, w| all | *w);
     all == 0
 }
 

@@ -5,43 +5,45 @@ ghost use Rattle.model.specs.Backend.{last_guards};
 ghost use Rattle.model.specs.Calls.{write};
 ghost use Rattle.state_cache.specs.State.{raw, numbers_in};
 ghost use Rattle.state_cache.specs.Inner.{Small};
-ghost use Rattle.state_cache.specs.Run.{outcome, run, settled};
+ghost use Rattle.state_cache.specs.Run.{run, settled, changed};
 ghost use Rattle.backend.specs.Ops.{ops_in, lent_of};
 ghost use Rattle.backend.specs.Inner.{midst_of, Kept, Listed, Wrote};
 
 use super::super::{Lent, OpList};
-use super::step::step;
+use super::step::{Stepped, step};
 use entry::{LogIndex, Refusal};
-use state_cache::{IndexRecord, Settled, SettledAt};
+use state_cache::IndexRecord;
 
 // What is judged after the last operation: refusals 9 and 12. Every operation keeps the words in form, so the numbers
 // alone are asked.
 fn judge_last(
     before: IndexRecord,
-    start: u64,
-    index: IndexRecord,
+    after: Stepped,
     log: &[u64],
     snapshot: &[u64],
-) -> Settled
-    requires kept { Kept (raw index log.now snapshot.now) }
+) -> Result<(), Refusal>
+    requires kept { Kept (raw after.index log.now snapshot.now) }
     requires small { Small (numbers_in before) }
     ensures { settled result
         ≡ settle
-        (first (last_guards (numbers_in before) (midst_of start (raw index log.now snapshot.now))))
+        (first
+        (last_guards (numbers_in before)
+        (midst_of after.start (raw after.index log.now snapshot.now))))
         tt }
 {
+    let index = after.index;
     let last = state_cache::inner::accepted(before);
-    let more = state_cache::inner::one_if(index.stop_held) + index.batched as u64;
+    let more = u64::from(index.stop_held) + index.batched as u64;
     if state_cache::inner::past_last(index.compacted.0, index.retained, more) {
-        return Settled::Refused(Refusal::PastLastIndex(LogIndex(last)));
+        return Err(Refusal::PastLastIndex(LogIndex(last)));
     }
-    if start != index.compacted.0 {
-        return Settled::Refused(Refusal::IllFormed);
+    if after.start != index.compacted.0 {
+        return Err(Refusal::IllFormed);
     }
     if !state_cache::inner::numbers_formed(index) {
-        return Settled::Refused(Refusal::IllFormed);
+        return Err(Refusal::IllFormed);
     }
-    Settled::Done
+    Ok(())
 }
 
 // All operations in turn, on words that are of no use where one is refused.
@@ -53,38 +55,24 @@ fn run_ops(
     incoming: &[u64],
     lent: Lent,
     list: OpList,
-) -> SettledAt
+) -> Result<IndexRecord, Refusal>
     requires { Listed (raw before log.old snapshot.old) lent entries.now incoming.now list }
     ensures { Wrote
         (raw before log.old snapshot.old)
         (lent_of lent entries.now incoming.now)
         (ops_in list)
-        result.answer
-        (raw result.index log.new snapshot.new) }
+        result log.new snapshot.new }
 {
-    let n = list.count;
-    let ops = list.ops;
-    let mut start = before.compacted.0;
-    let mut index = before;
-    let mut i = 0;
-    while i < n {
-        let o = ops[i];
-        let s = step(
-            before, start, index, log, snapshot, entries, incoming, lent, o,
-        );
-        let answer = s.answer;
-        if let Settled::Refused(refusal) = answer {
-            return SettledAt {
-                answer: Settled::Refused(refusal),
-                index,
-            };
-        }
-        start = s.start;
-        index = s.index;
-        i += 1;
+    let mut so_far = Stepped {
+        start: before.compacted.0,
+        index: before,
+    };
+    let ops = &list.ops[..list.count];
+    for o in ops {
+        so_far = step(before, so_far, log, snapshot, entries, incoming, lent, *o)?;
     }
-    let answer = judge_last(before, start, index, log, snapshot);
-    SettledAt { answer, index }
+    judge_last(before, so_far, log, snapshot)?;
+    Ok(so_far.index)
 }
 
 // All operations or none: they run on copies of the words, which are written back where the whole list stands.
@@ -96,9 +84,9 @@ pub fn write_at(
     incoming: &[u64],
     lent: Lent,
     list: OpList,
-) -> SettledAt
+) -> Result<IndexRecord, Refusal>
     requires { Listed (raw before log.old snapshot.old) lent entries.now incoming.now list }
-    ensures { outcome (settled result.answer) (raw result.index log.new snapshot.new)
+    ensures { changed before result log.new snapshot.new
         ≡ run
         (write (lent_of lent entries.now incoming.now) (ops_in list))
         true
@@ -108,19 +96,8 @@ pub fn write_at(
     let mut keys = [0u64; entry::SNAPSHOT_WORDS];
     words::copy_words(log, &mut words);
     words::copy_words(snapshot, &mut keys);
-    let r = run_ops(before, &mut words, &mut keys, entries, incoming, lent, list);
-    let answer = r.answer;
-    let after = r.index;
-    if let Settled::Refused(refusal) = answer {
-        return SettledAt {
-            answer: Settled::Refused(refusal),
-            index: before,
-        };
-    }
+    let after = run_ops(before, &mut words, &mut keys, entries, incoming, lent, list)?;
     words::copy_words(&words, log);
     words::copy_words(&keys, snapshot);
-    SettledAt {
-        answer: Settled::Done,
-        index: after,
-    }
+    Ok(after)
 }

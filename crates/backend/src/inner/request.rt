@@ -5,7 +5,7 @@ ghost use Rattle.entry.specs.Limits.{most_ops};
 ghost use Rattle.model.specs.Backend.{supplied, ops_formed};
 ghost use Rattle.backend.specs.Ops.{op_of, ops_in, lent_of, incoming_formed, whole_list};
 
-use super::super::{Lent, Op, OpKind, OpList};
+use super::super::{Lent, OPERATIONS, Op, OpKind, OpList};
 
 // Whether what an operation needs is lent.
 fn supplied(lent: Lent, o: Op) -> bool
@@ -30,16 +30,7 @@ fn all_supplied(lent: Lent, list: OpList) -> bool
     requires { list.count ≤ most_ops }
     ensures { result ≡ all_of (supplied (lent_of lent [] [])) (ops_in list) }
 {
-    let n = list.count;
-    let ops = list.ops;
-    let mut ok = true;
-    let mut i = 0;
-    while i < n {
-        let o = ops[i];
-        ok = ok & supplied(lent, o);
-        i += 1;
-    }
-    ok
+    list.ops[..list.count].iter().all(|o| supplied(lent, *o))
 }
 
 // Whether the incoming slice is in form: its length always, the rest where a snapshot is lent.
@@ -59,7 +50,7 @@ pub fn request_formed(entries: &[u64], incoming: &[u64], lent: Lent, list: OpLis
 {
     let count = list.count;
     let stop = lent.stop;
-    if super::super::OPERATIONS < count {
+    if OPERATIONS < count {
         return false;
     }
     let fine = entry::entries_formed(entries);

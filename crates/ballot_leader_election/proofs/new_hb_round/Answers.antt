@@ -1,19 +1,16 @@
 -- `ballot_leader_election::new_hb_round` meets its contract: 12, else as on a well-formed state.
-use Rattle.words.proofs.Prelude.{sym, ◌∙◌}
-use Rattle.ballot_leader_election.specs.Calls.{new_hb_round}
-use Rattle.ballot_leader_election.proofs.{Forming.formed_facts, Coming.ill_formed, Coming.well_formed_lem}
+use Rattle.words.proofs.Prelude.{sym, ap, ◌∙◌}
+use Rattle.ballot_leader_election.specs.{State.formed, Calls.new_hb_round}
+use Rattle.ballot_leader_election.proofs.Coming.{err_is, refuses_ill_formed, well_formed_lem}
 use Rattle.ballot_leader_election.proofs.new_hb_round.Goals as goal
 
-pub returns-then-not-well_formed : goal.returns-then-not-well_formed
-returns-then-not-well_formed c =
-    c.refuse.ensures
-    ∙ ill_formed new_hb_round c.args.e (sym c.well_formed-2.ensures ∙ c.if-not-well_formed.true)
+pub returns-in_err-checked : goal.returns-in_err-checked
+returns-in_err-checked c =
+    rw (err_is c.from_residual.result _ c.from_residual.ensures.1)
+    (refuses_ill_formed new_hb_round c.args.e _ c.in_err-checked.ensures)
 
 pub returns : goal.returns
 returns c =
-    c.new_round_at.ensures
-    ∙ well_formed_lem new_hb_round c.args.e (sym c.well_formed-2.ensures ∙ c.if-not-well_formed.false)
-
-pub new_round_at-requires : goal.new_round_at-requires
-new_round_at-requires c =
-    formed_facts _ (sym c.well_formed-2.ensures ∙ c.if-not-well_formed.false)
+    let same = c.in_ok-checked.ensures in
+    (rw same at c.new_round_at.ensures)
+    ∙ well_formed_lem new_hb_round c.args.e (ap formed (sym same) ∙ c.in_ok-checked.field-0.is_formed)

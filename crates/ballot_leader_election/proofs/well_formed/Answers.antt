@@ -1,8 +1,28 @@
 -- `ballot_leader_election::well_formed` meets its contract: its tests joined.
+use Rattle.words.proofs.Prelude.{arith, ◌≡◌, length}
+use Rattle.entry.specs.Limits.{most_peers, most_replies, most_outgoing}
 use Rattle.ballot_leader_election.specs.State.{formed}
+use Rattle.ballot_leader_election.proofs.Forming.{false_test}
 use Rattle.ballot_leader_election.proofs.well_formed.Goals as goal
 
 pub returns : goal.returns
 unfolding formed
 returns c =
-    simp (c.outgoing_formed-outgoing.ensures, c.replies_formed-prev.ensures, c.replies_formed-replies.ensures, c.peers_formed-peers.ensures)
+    let e = c.args.e in
+    let peers : length e.peers.held ≡ most_peers = omega (arith, c.well_formed) in
+    let replies : length e.heartbeat_replies.held ≡ most_replies = omega (arith, c.well_formed) in
+    let prev : length e.prev_replies.held ≡ most_replies = omega (arith, c.well_formed) in
+    let outgoing : length e.outgoing.held ≡ most_outgoing = omega (arith, c.well_formed) in
+    simp (
+      c.list_formed-peers.ensures,
+      c.list_formed-replies.ensures,
+      c.list_formed-prev.ensures,
+      c.list_formed-outgoing.ensures,
+      c.no_reply-reply.ensures,
+      c.no_message-message.ensures,
+      false_test,
+      peers,
+      replies,
+      prev,
+      outgoing,
+    )

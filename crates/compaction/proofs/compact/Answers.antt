@@ -1,5 +1,4 @@
 -- `compaction::compact` meets its contract: refusal 12, or what a compaction of a well-formed log comes to.
-use Rattle.words.proofs.Prelude.{rules}
 use Rattle.words.proofs.Prelude.{sym, ◌∙◌, true}
 use Rattle.model.specs.Calls.{compact}
 use Rattle.state_cache.specs.State.{raw}
@@ -17,7 +16,3 @@ pub compact_at-requires : goal.compact_at-requires
 compact_at-requires c =
     ready_of (raw c.args.index c.args.log.now c.args.snapshot.now)
     (sym c.well_formed-2.ensures ∙ c.if-not-well_formed.false)
-
-pub returns : goal.returns
-returns c =
-    search rules

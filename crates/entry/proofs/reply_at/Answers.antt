@@ -14,6 +14,6 @@ returns-then-word c =
 
 pub returns : goal.returns
 returns c =
-    ap (λ (s : Said). some s) c.said_of-said.ensures
+    ap (λ (s : Said). some s) c.said_of.ensures
     ∙ reply_said_lem _ c.if-word.false
     ∙ reply_there c.args.replies.now c.args.i c.if-replies-i.false

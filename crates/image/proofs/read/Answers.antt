@@ -1,29 +1,22 @@
 -- `image::read` meets its contract: refused before a word is written, or loaded.
 use Rattle.words.proofs.Prelude.{sym, ap, ◌∙◌}
-use Rattle.entry.specs.Refusals.{number_of, carried_of}
+use Rattle.entry.proofs.RefusalLaws.{passed_up}
 use Rattle.image.specs.Calls.{judged}
-use Rattle.image.proofs.Loading.{read_malformed, read-refused, read_loaded, read_loadable}
+use Rattle.image.proofs.Loading.{read_malformed, read-refused, read_loaded}
 use Rattle.image.proofs.read.Goals as goal
 
 pub returns-then-not-sized-roomy : goal.returns-then-not-sized-roomy
 returns-then-not-sized-roomy c =
-    rw c.fresh_index.ensures (read_malformed c.args.batch_size c.args.bytes.now c.args.log.now c.args.snapshot.now
-    (c.if-not-sized-roomy.true))
+    read_malformed c.args.batch_size c.args.bytes.now c.args.log.now c.args.snapshot.now c.if-not-sized-roomy.true
 
-pub load-requires : goal.load-requires
-load-requires c =
-    read_loadable c.args.batch_size c.args.bytes.now c.args.log.now c.args.snapshot.now (c.if-not-sized-roomy.false)
-    (sym (ap judged c.in-Sound.is) ∙ c.judge-judged.ensures)
+pub returns-in_err-judge : goal.returns-in_err-judge
+returns-in_err-judge c =
+    rw (passed_up c.from_residual.result _ c.from_residual.ensures.1)
+    (read-refused c.args.batch_size c.args.bytes.now c.args.log.now c.args.snapshot.now
+    (c.if-not-sized-roomy.false) _ _ (sym (ap judged c.in_err-judge.was) ∙ c.judge.ensures))
 
-pub returns-in-Sound : goal.returns-in-Sound
-returns-in-Sound c =
+pub returns : goal.returns
+returns c =
     c.load.ensures
     ∙ read_loaded c.args.batch_size c.args.bytes.now c.args.log.now c.args.snapshot.now (c.if-not-sized-roomy.false)
-    (sym (ap judged c.in-Sound.is) ∙ c.judge-judged.ensures)
-
-pub returns-in-Refused : goal.returns-in-Refused
-returns-in-Refused c =
-    let r = c.in-Refused.refusal in
-    rw c.fresh_index-in-Refused.ensures (read-refused c.args.batch_size c.args.bytes.now c.args.log.now c.args.snapshot.now
-    (c.if-not-sized-roomy.false) (number_of r) (carried_of r)
-    (sym (ap judged c.in-Refused.is) ∙ c.judge-judged.ensures))
+    (sym (ap judged c.in_ok-judge.was) ∙ c.judge.ensures)

@@ -4,12 +4,12 @@ ghost use Rattle.entry.specs.Change.{said_is, entries_in, whole_in};
 ghost use Rattle.model.specs.Calls.{append, append_now};
 ghost use Rattle.state_cache.specs.State.{raw};
 ghost use Rattle.state_cache.specs.Inner.{Ready};
-ghost use Rattle.state_cache.specs.Run.{outcome, run, index_said};
-ghost use Rattle.internal_storage.specs.Replies.{append_said, maybe_index_said, index_only, with_index_only};
+ghost use Rattle.state_cache.specs.Run.{run, index_at, changed_at};
+ghost use Rattle.internal_storage.specs.Replies.{flushed_is, maybe_at, with_index_only};
 
-use super::super::{Appended, AppendedAt, MaybeIndex, MaybeIndexAt};
-use entry::{Refusal, Said};
-use state_cache::{IndexAnswer, IndexAnswerAt, IndexRecord};
+use super::super::Flushed;
+use entry::{LogIndex, Refusal, Said};
+use state_cache::IndexRecord;
 
 pub fn append_entry_with_batching(
     index: IndexRecord,
@@ -17,9 +17,9 @@ pub fn append_entry_with_batching(
     snapshot: &[u64],
     key: u64,
     said: Said,
-) -> AppendedAt
+) -> Result<(IndexRecord, Option<Flushed>), Refusal>
     requires { Ready (raw index log.old snapshot.now) }
-    ensures { outcome (append_said result.answer) (raw result.index log.new snapshot.now)
+    ensures { changed_at flushed_is index result log.new snapshot.now
         ≡ run
         (append (record { key = key; said = said_is said } ∷ []))
         true
@@ -34,17 +34,14 @@ pub fn append_entries_with_batching(
     log: &mut [u64],
     snapshot: &[u64],
     entries: &[u64],
-) -> AppendedAt
+) -> Result<(IndexRecord, Option<Flushed>), Refusal>
     requires { Ready (raw index log.old snapshot.now) }
-    ensures { outcome (append_said result.answer) (raw result.index log.new snapshot.now)
+    ensures { changed_at flushed_is index result log.new snapshot.now
         ≡ run (append (entries_in entries.now)) (whole_in entries.now)
         (raw index log.old snapshot.now) }
 {
     if !entry::entries_formed(entries) {
-        return AppendedAt {
-            answer: Appended::Refused(Refusal::Malformed),
-            index,
-        };
+        return Err(Refusal::Malformed);
     }
     super::append_at(index, log, snapshot, entries, entries.len() / entry::WIDTH)
 }
@@ -54,33 +51,16 @@ pub fn append_entries_without_batching(
     log: &mut [u64],
     snapshot: &[u64],
     entries: &[u64],
-) -> IndexAnswerAt
+) -> Result<(IndexRecord, LogIndex), Refusal>
     requires { Ready (raw index log.old snapshot.now) }
-    ensures { outcome (index_said result.answer) (raw result.index log.new snapshot.now)
+    ensures { changed_at index_at index result log.new snapshot.now
         ≡ run (append_now (entries_in entries.now)) (whole_in entries.now)
         (raw index log.old snapshot.now) }
 {
     if !entry::entries_formed(entries) {
-        return IndexAnswerAt {
-            answer: IndexAnswer::Refused(Refusal::Malformed),
-            index,
-        };
+        return Err(Refusal::Malformed);
     }
     super::append_now_at(index, log, snapshot, entries, entries.len() / entry::WIDTH)
-}
-
-// An append's answer without the number of entries flushed.
-fn index_only(answer: Appended) -> MaybeIndex
-    ensures { maybe_index_said result ≡ index_only (append_said answer) }
-{
-    match answer {
-        Appended::Nothing => MaybeIndex::Nothing,
-        Appended::Flushed {
-            accepted,
-            entries: _,
-        } => MaybeIndex::At(accepted),
-        Appended::Refused(refusal) => MaybeIndex::Refused(refusal),
-    }
 }
 
 pub fn append_entries_and_get_accepted_idx(
@@ -88,18 +68,13 @@ pub fn append_entries_and_get_accepted_idx(
     log: &mut [u64],
     snapshot: &[u64],
     entries: &[u64],
-) -> MaybeIndexAt
+) -> Result<(IndexRecord, Option<LogIndex>), Refusal>
     requires { Ready (raw index log.old snapshot.now) }
-    ensures { outcome (maybe_index_said result.answer) (raw result.index log.new snapshot.now)
+    ensures { changed_at maybe_at index result log.new snapshot.now
         ≡ with_index_only
         (run (append (entries_in entries.now)) (whole_in entries.now)
         (raw index log.old snapshot.now)) }
 {
-    let appended = append_entries_with_batching(index, log, snapshot, entries);
-    let answer = appended.answer;
-    let next = appended.index;
-    MaybeIndexAt {
-        answer: index_only(answer),
-        index: next,
-    }
+    let (next, flushed) = append_entries_with_batching(index, log, snapshot, entries)?;
+    Ok((next, flushed.map(|f| f.accepted)))
 }

@@ -1,48 +1,42 @@
 // The stop-sign of a log that is known to be well formed: not for a user, whose calls are in stop.rt.
-ghost use Rattle.std.specs.Prelude.{◌≡◌, true};
-ghost use Rattle.entry.specs.Guards.{first};
+ghost use Rattle.std.specs.Prelude.{◌≡◌, true, is_some, unwrap_or};
+ghost use Rattle.entry.specs.Guards.{first, settle};
+ghost use Rattle.entry.specs.Sign.{no_sign};
 ghost use Rattle.model.specs.Numbers.{accepted_of};
 ghost use Rattle.model.specs.Append.{append_stop_guards, set_stop_guards};
 ghost use Rattle.model.specs.Calls.{append_stop, set_stop};
 ghost use Rattle.model.specs.Inner.{Sound};
 ghost use Rattle.state_cache.specs.State.{raw, numbers_in};
 ghost use Rattle.state_cache.specs.Inner.{Ready, with_stop};
-ghost use Rattle.state_cache.specs.Run.{outcome, run, index_said};
-ghost use Rattle.internal_storage.specs.Replies.{append_said, asked};
-ghost use Rattle.internal_storage.specs.Inner.{indexed, by_numbers, flush_says, all_flushed};
+ghost use Rattle.state_cache.specs.Run.{run, index_at, changed_at};
+ghost use Rattle.internal_storage.specs.Replies.{flushed_is, sign_is};
+ghost use Rattle.internal_storage.specs.Inner.{next_at, flush_says, all_flushed};
 
-use super::super::{Appended, AppendedAt};
+use super::super::Flushed;
 use entry::{LogIndex, Refusal, StopSign};
-use state_cache::{IndexAnswer, IndexAnswerAt, IndexRecord};
+use state_cache::IndexRecord;
 
 // Refusals 4 and 9, or the batch flushed and the stop-sign after it.
-fn append_stop_at(index: IndexRecord, ss: StopSign) -> AppendedAt
+fn append_stop_at(
+    index: IndexRecord,
+    ss: StopSign,
+) -> Result<(IndexRecord, Option<Flushed>), Refusal>
     requires { Sound (numbers_in index) }
-    ensures { indexed (append_said result.answer) result.index
-        ≡ by_numbers (first (append_stop_guards (numbers_in index))) (flush_says index) (with_stop true ss (all_flushed index))
-        index }
+    ensures { next_at flushed_is result
+        ≡ settle (first (append_stop_guards (numbers_in index)))
+        (with_stop true ss (all_flushed index), flush_says index) }
 {
     let last = state_cache::inner::accepted(index);
     if index.stop_held {
-        return AppendedAt {
-            answer: Appended::Refused(Refusal::Stopped(LogIndex(last))),
-            index,
-        };
+        return Err(Refusal::Stopped(LogIndex(last)));
     }
     if entry::LAST_INDEX < last + index.batched as u64 + 1 {
-        return AppendedAt {
-            answer: Appended::Refused(Refusal::PastLastIndex(LogIndex(last))),
-            index,
-        };
+        return Err(Refusal::PastLastIndex(LogIndex(last)));
     }
-    let answer = super::flush::flush_answer(index);
     let mut next = super::flush::flush(index);
     next.stop_held = true;
     next.stop = ss;
-    AppendedAt {
-        answer,
-        index: next,
-    }
+    Ok((next, super::flush::flush_answer(index)))
 }
 
 pub fn append_stopsign(
@@ -50,75 +44,55 @@ pub fn append_stopsign(
     log: &[u64],
     snapshot: &[u64],
     ss: StopSign,
-) -> AppendedAt
+) -> Result<(IndexRecord, Option<Flushed>), Refusal>
     requires { Ready (raw index log.now snapshot.now) }
-    ensures { outcome (append_said result.answer) (raw result.index log.now snapshot.now)
+    ensures { changed_at flushed_is index result log.now snapshot.now
         ≡ run (append_stop ss) true (raw index log.now snapshot.now) }
 {
     if !entry::sign_formed(ss) {
-        return AppendedAt {
-            answer: Appended::Refused(Refusal::Malformed),
-            index,
-        };
+        return Err(Refusal::Malformed);
     }
     append_stop_at(index, ss)
 }
 
 // Refusals 4, 10 and 9, or the flag and the stop-sign set.
-fn set_stop_at(index: IndexRecord, held: bool, ss: StopSign) -> IndexAnswerAt
+fn set_stop_at(index: IndexRecord, ss: Option<StopSign>) -> Result<(IndexRecord, LogIndex), Refusal>
     requires { Sound (numbers_in index) }
-    ensures { indexed (index_said result.answer) result.index
-        ≡ by_numbers (first (set_stop_guards held (numbers_in index))) (accepted_of (numbers_in (with_stop held ss index)))
-        (with_stop held ss index) index }
+    ensures { next_at index_at result
+        ≡ settle (first (set_stop_guards (is_some ss) (numbers_in index)))
+        (let next = with_stop (is_some ss) (unwrap_or ss no_sign) index in (next, accepted_of (numbers_in next))) }
 {
     let last = state_cache::inner::accepted(index);
     if state_cache::inner::stop_decided(index) {
-        return IndexAnswerAt {
-            answer: IndexAnswer::Refused(Refusal::Stopped(LogIndex(last))),
-            index,
-        };
+        return Err(Refusal::Stopped(LogIndex(last)));
     }
     let waiting = index.batched;
-    if held & (0 < waiting) {
-        return IndexAnswerAt {
-            answer: IndexAnswer::Refused(Refusal::BatchHeld(waiting)),
-            index,
-        };
+    if ss.is_some() & (0 < waiting) {
+        return Err(Refusal::BatchHeld(waiting));
     }
     let mut next = index;
-    next.stop_held = held;
-    next.stop = ss;
+    next.stop_held = ss.is_some();
+    next.stop = ss.unwrap_or(entry::inner::no_sign());
     let then = state_cache::inner::accepted(next);
     if entry::LAST_INDEX < then + waiting as u64 {
-        return IndexAnswerAt {
-            answer: IndexAnswer::Refused(Refusal::PastLastIndex(LogIndex(last))),
-            index,
-        };
+        return Err(Refusal::PastLastIndex(LogIndex(last)));
     }
-    IndexAnswerAt {
-        answer: IndexAnswer::At(LogIndex(then)),
-        index: next,
-    }
+    Ok((next, LogIndex(then)))
 }
 
-// With `held` false the stop-sign is taken away, and `ss` is not looked at.
+// Without a stop-sign the one held is taken away.
 pub fn set_stopsign(
     index: IndexRecord,
     log: &[u64],
     snapshot: &[u64],
-    held: bool,
-    ss: StopSign,
-) -> IndexAnswerAt
+    ss: Option<StopSign>,
+) -> Result<(IndexRecord, LogIndex), Refusal>
     requires { Ready (raw index log.now snapshot.now) }
-    ensures { outcome (index_said result.answer) (raw result.index log.now snapshot.now)
-        ≡ run (set_stop (asked held ss)) true (raw index log.now snapshot.now) }
+    ensures { changed_at index_at index result log.now snapshot.now
+        ≡ run (set_stop (sign_is ss)) true (raw index log.now snapshot.now) }
 {
-    let formed = entry::sign_formed(ss);
-    if held & !formed {
-        return IndexAnswerAt {
-            answer: IndexAnswer::Refused(Refusal::Malformed),
-            index,
-        };
+    if ss.is_some_and(|sign| !entry::sign_formed(sign)) {
+        return Err(Refusal::Malformed);
     }
-    set_stop_at(index, held, entry::inner::sign_if(held, ss))
+    set_stop_at(index, ss)
 }

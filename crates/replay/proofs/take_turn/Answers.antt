@@ -1,16 +1,12 @@
 -- `replay::take_turn` meets its contract: what waits is handed over, and what was read is a part of the input.
 use Rattle.words.proofs.Prelude.{rules}
-use Rattle.words.proofs.Prelude.{arith, sym, [], take, length-take-le}
+use Rattle.words.proofs.Prelude.{[], take}
 use Rattle.state_cache.specs.State.{Raw, raw}
 use Rattle.text.specs.{Lines.Lines, Lines.lines_from, Feeding.come}
 use Rattle.replay.specs.Input.{Reached}
 use Rattle.replay.proofs.{Inputs.handed_over}
 use Rattle.std.proofs.lemmas.Result.{IfOk-weaker}
 use Rattle.replay.proofs.take_turn.Goals as goal
-
-pub slice_bounds-write_all-end : goal.slice_bounds-write_all-end
-slice_bounds-write_all-end c =
-    sym (length-take-le _ _ (omega arith))
 
 pub returns-then-n-eq0 : goal.returns-then-n-eq0
 unfolding lines_from

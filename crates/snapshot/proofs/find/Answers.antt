@@ -1,5 +1,6 @@
 -- `snapshot::find` meets its contract: refusal 11, or what is found in a snapshot in form.
-use Rattle.words.proofs.Prelude.{◌≡◌, sym, ◌∙◌, true}
+use Rattle.words.proofs.Prelude.{◌≡◌, sym, ap, ◌∙◌, true, Option}
+use Rattle.entry.specs.{Change.Said, Guards.replied}
 use Rattle.snapshot.specs.Calls.{snapshot_formed}
 use Rattle.snapshot.proofs.Calling.{snapshot_holds, find_malformed, find_stands}
 use Rattle.snapshot.proofs.find.Goals as goal
@@ -22,4 +23,4 @@ look_up-requires c =
 
 pub returns : goal.returns
 returns c =
-    c.look_up.ensures ∙ find_stands c.args.keys c.args.s.now c.args.key (okay (goal.at.returns c).Else-not-snapshot_formed)
+    ap (λ (o : Option Said). replied o) c.look_up.ensures ∙ find_stands c.args.keys c.args.s.now c.args.key (okay (goal.at.returns c).Else-not-snapshot_formed)

@@ -4,11 +4,9 @@ use Rattle.state_cache.proofs.fresh.Goals as goal
 
 pub returns-then-not-sized-roomy : goal.returns-then-not-sized-roomy
 returns-then-not-sized-roomy c =
-    rw c.fresh_index.ensures (fresh_refused c.args.batch_size c.args.log.now c.args.snapshot.now
-    (c.if-not-sized-roomy.true))
+    fresh_refused c.args.batch_size c.args.log.now c.args.snapshot.now c.if-not-sized-roomy.true
 
 pub returns : goal.returns
 returns c =
-    rw c.fresh_index-2.ensures (fresh_stands c.args.batch_size c.args.log.now c.args.snapshot.now
-    (c.if-not-sized-roomy.false) c.clear.new.s c.clear-2.new.s c.clear.ensures
-    c.clear-2.ensures)
+    rw c.fresh_index.ensures (fresh_stands c.args.batch_size c.args.log.now c.args.snapshot.now
+    c.if-not-sized-roomy.false c.clear.new.s c.clear-2.new.s c.clear.ensures c.clear-2.ensures)

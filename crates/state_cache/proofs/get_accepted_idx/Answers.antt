@@ -15,11 +15,11 @@ returns-then-not-well_formed c =
     not_asked accepted_of (raw c.args.index c.args.log.now c.args.snapshot.now)
     (sym c.well_formed-2.ensures ∙ c.if-not-well_formed.true)
 
-pub accepted-last-requires : goal.accepted-last-requires
-accepted-last-requires c =
+pub accepted-requires : goal.accepted-requires
+accepted-requires c =
     sound_small _ (ready_of _ (okay c)).numbers
 
 pub returns : goal.returns
 returns c =
     asked_of accepted_of (raw c.args.index c.args.log.now c.args.snapshot.now)
-    (okay (goal.at.returns c).Else-not-well_formed) _ c.accepted-last.ensures
+    (okay (goal.at.returns c).Else-not-well_formed) _ c.accepted.ensures

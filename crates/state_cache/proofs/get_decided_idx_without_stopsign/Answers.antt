@@ -16,11 +16,11 @@ returns-then-not-well_formed c =
     not_asked log_decided (raw c.args.index c.args.log.now c.args.snapshot.now)
     (sym c.well_formed-2.ensures ∙ c.if-not-well_formed.true)
 
-pub log_decided-decided-requires : goal.log_decided-decided-requires
-log_decided-decided-requires c =
+pub log_decided-requires : goal.log_decided-requires
+log_decided-requires c =
     sound_small _ (ready_of _ (okay c)).numbers
 
 pub returns : goal.returns
 returns c =
     asked_of log_decided (raw c.args.index c.args.log.now c.args.snapshot.now)
-    (okay (goal.at.returns c).Else-not-well_formed) _ c.log_decided-decided.ensures
+    (okay (goal.at.returns c).Else-not-well_formed) _ c.log_decided.ensures

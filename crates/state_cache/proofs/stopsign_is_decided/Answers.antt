@@ -15,11 +15,11 @@ returns-then-not-well_formed c =
     not_asked stop_decided (raw c.args.index c.args.log.now c.args.snapshot.now)
     (sym c.well_formed-2.ensures ∙ c.if-not-well_formed.true)
 
-pub stop_decided-decided-requires : goal.stop_decided-decided-requires
-stop_decided-decided-requires c =
+pub stop_decided-requires : goal.stop_decided-requires
+stop_decided-requires c =
     sound_small _ (ready_of _ (okay c)).numbers
 
 pub returns : goal.returns
 returns c =
     asked_of stop_decided (raw c.args.index c.args.log.now c.args.snapshot.now)
-    (okay (goal.at.returns c).Else-not-well_formed) _ c.stop_decided-decided.ensures
+    (okay (goal.at.returns c).Else-not-well_formed) _ c.stop_decided.ensures

@@ -1,18 +1,19 @@
 -- `text::compact` meets its contract: `all`, or a number or none.
 use Rattle.words.proofs.Prelude.{sym, ◌∙◌}
 use Rattle.text.specs.Parse.{compact_of}
+use Rattle.text.proofs.ParseLaws.{is_by}
 use Rattle.text.proofs.compact.Goals as goal
 
-pub returns-then-same : goal.returns-then-same
+pub returns-then-eq : goal.returns-then-eq
 unfolding compact_of
-returns-then-same c =
-    rw (sym c.same.ensures ∙ c.if-same.true)
+returns-then-eq c =
+    rw (is_by c.args.a.now _ c.as_slice.ensures c.eq.ensures c.if-eq.true)
 
 pub returns-in_default : goal.returns-in_default
 unfolding compact_of
 returns-in_default c =
     rw (
-      sym c.same.ensures ∙ c.if-same.false,
+      is_by c.args.a.now _ c.as_slice.ensures c.eq.ensures c.if-eq.false,
       sym c.number.ensures
           ∙ c.in_default.is,
     )
@@ -21,7 +22,7 @@ pub returns : goal.returns
 unfolding compact_of
 returns c =
     rw (
-      sym c.same.ensures ∙ c.if-same.false,
+      is_by c.args.a.now _ c.as_slice.ensures c.eq.ensures c.if-eq.false,
       sym c.number.ensures
-          ∙ c.in-Value.is,
+          ∙ c.in-Some.is,
     )

@@ -1,57 +1,62 @@
 -- `text::numbered` meets its contract: at each `return` the comparisons that led there say which case holds.
-use Rattle.words.proofs.Prelude.{◌≡◌, sym, ◌∙◌, false, lt-ltb, le-ltb}
+use Rattle.words.proofs.Prelude.{arith, ◌≡◌, sym, ap, ◌∙◌, true, false, ltb, lt-ltb, le-ltb}
+use Prim.Native.Nat.{◌^◌}
+use Rattle.text.specs.declared.Command.TheVariants.{Stop}
 use Rattle.text.specs.Parse.{◌is◌, numbered_of}
+use Rattle.text.proofs.ParseLaws.{is_by}
 use Rattle.text.proofs.numbered.Goals as goal
-use Rattle.text.proofs.numbered.Goals.{Else-same, Else-same-2, Else-same-3, Else-same-4}
+use Rattle.text.proofs.numbered.Goals.{Else-eq, Else-eq-2, Else-eq-3, Else-eq-4}
 
 -- what each comparison that failed says
-noBatch : (c : Else-same) → (c.args.w.now is "batch") ≡ false
+noBatch : (c : Else-eq) → (c.args.w.now is "batch") ≡ false
 noBatch c =
-    sym c.same.ensures ∙ c.if-same.false
+    is_by c.args.w.now _ c.as_slice.ensures c.eq.ensures c.if-eq.false
 
-noDel : (c : Else-same-2) → (c.args.w.now is "del") ≡ false
+noDel : (c : Else-eq-2) → (c.args.w.now is "del") ≡ false
 noDel c =
-    sym c.same-2.ensures ∙ c.if-same-2.false
+    is_by c.args.w.now _ c.as_slice-2.ensures c.eq-2.ensures c.if-eq-2.false
 
-noDecide : (c : Else-same-3) → (c.args.w.now is "decide") ≡ false
+noDecide : (c : Else-eq-3) → (c.args.w.now is "decide") ≡ false
 noDecide c =
-    sym c.same-3.ensures ∙ c.if-same-3.false
+    is_by c.args.w.now _ c.as_slice-3.ensures c.eq-3.ensures c.if-eq-3.false
 
-noFind : (c : Else-same-4) → (c.args.w.now is "find") ≡ false
+noFind : (c : Else-eq-4) → (c.args.w.now is "find") ≡ false
 noFind c =
-    sym c.same-4.ensures ∙ c.if-same-4.false
+    is_by c.args.w.now _ c.as_slice-4.ensures c.eq-4.ensures c.if-eq-4.false
 
-pub returns-then-same : goal.returns-then-same
+pub returns-then-eq : goal.returns-then-eq
 unfolding numbered_of
-returns-then-same c =
-    rw (sym c.same.ensures ∙ c.if-same.true)
+returns-then-eq c =
+    rw (is_by c.args.w.now _ c.as_slice.ensures c.eq.ensures c.if-eq.true)
 
-pub returns-then-same-2 : goal.returns-then-same-2
+pub returns-then-eq-2 : goal.returns-then-eq-2
 unfolding numbered_of
-returns-then-same-2 c =
-    rw (noBatch (goal.at.returns-then-same-2 c).Else-same, sym c.same-2.ensures ∙ c.if-same-2.true)
+returns-then-eq-2 c =
+    rw (noBatch (goal.at.returns-then-eq-2 c).Else-eq, is_by c.args.w.now _ c.as_slice-2.ensures c.eq-2.ensures c.if-eq-2.true)
 
-pub returns-then-same-3 : goal.returns-then-same-3
+pub returns-then-eq-3 : goal.returns-then-eq-3
 unfolding numbered_of
-returns-then-same-3 c =
-    rw (noBatch (goal.at.returns-then-same-3 c).Else-same, noDel (goal.at.returns-then-same-3 c).Else-same-2, sym c.same-3.ensures ∙ c.if-same-3.true)
+returns-then-eq-3 c =
+    rw (noBatch (goal.at.returns-then-eq-3 c).Else-eq, noDel (goal.at.returns-then-eq-3 c).Else-eq-2, is_by c.args.w.now _ c.as_slice-3.ensures c.eq-3.ensures c.if-eq-3.true)
 
-pub returns-then-same-4 : goal.returns-then-same-4
+pub returns-then-eq-4 : goal.returns-then-eq-4
 unfolding numbered_of
-returns-then-same-4 c =
-    rw (noBatch (goal.at.returns-then-same-4 c).Else-same, noDel (goal.at.returns-then-same-4 c).Else-same-2, noDecide (goal.at.returns-then-same-4 c).Else-same-3, sym c.same-4.ensures ∙ c.if-same-4.true)
+returns-then-eq-4 c =
+    rw (noBatch (goal.at.returns-then-eq-4 c).Else-eq, noDel (goal.at.returns-then-eq-4 c).Else-eq-2, noDecide (goal.at.returns-then-eq-4 c).Else-eq-3, is_by c.args.w.now _ c.as_slice-4.ensures c.eq-4.ensures c.if-eq-4.true)
 
-pub returns-then-n-lt4294967296 : goal.returns-then-n-lt4294967296
+pub returns-in_default : goal.returns-in_default
 unfolding numbered_of
-returns-then-n-lt4294967296 c =
-    rw (noBatch (goal.at.returns-then-n-lt4294967296 c).Else-same, noDel (goal.at.returns-then-n-lt4294967296 c).Else-same-2, noDecide (goal.at.returns-then-n-lt4294967296 c).Else-same-3, noFind (goal.at.returns-then-n-lt4294967296 c).Else-same-4, sym c.same-5.ensures ∙ c.if-same-5.true, lt-ltb _ _ c.if-n-lt4294967296.true)
+returns-in_default c =
+    let h : ltb c.args.n (2 ^ 32) ≡ false = le-ltb _ _ (omega (arith, c.in_default.ensures)) in
+    rw (noBatch (goal.at.returns-in_default c).Else-eq, noDel (goal.at.returns-in_default c).Else-eq-2, noDecide (goal.at.returns-in_default c).Else-eq-3, noFind (goal.at.returns-in_default c).Else-eq-4, is_by c.args.w.now _ c.as_slice-5.ensures c.eq-5.ensures c.if-eq-5.true, h)
 
-pub returns-then-same-5 : goal.returns-then-same-5
+pub returns-then-eq-5 : goal.returns-then-eq-5
 unfolding numbered_of
-returns-then-same-5 c =
-    rw (noBatch (goal.at.returns-then-same-5 c).Else-same, noDel (goal.at.returns-then-same-5 c).Else-same-2, noDecide (goal.at.returns-then-same-5 c).Else-same-3, noFind (goal.at.returns-then-same-5 c).Else-same-4, sym c.same-5.ensures ∙ c.if-same-5.true, le-ltb _ _ c.if-n-lt4294967296.false)
+returns-then-eq-5 c =
+    let h : ltb c.args.n (2 ^ 32) ≡ true = lt-ltb _ _ c.in-Ok.ensures.0 in
+    rw (noBatch (goal.at.returns-then-eq-5 c).Else-eq, noDel (goal.at.returns-then-eq-5 c).Else-eq-2, noDecide (goal.at.returns-then-eq-5 c).Else-eq-3, noFind (goal.at.returns-then-eq-5 c).Else-eq-4, is_by c.args.w.now _ c.as_slice-5.ensures c.eq-5.ensures c.if-eq-5.true, h) (ap Stop c.in-Ok.ensures.1)
 
 pub returns : goal.returns
 unfolding numbered_of
 returns c =
-    rw (noBatch (goal.at.returns c).Else-same, noDel (goal.at.returns c).Else-same-2, noDecide (goal.at.returns c).Else-same-3, noFind (goal.at.returns c).Else-same-4, sym c.same-5.ensures ∙ c.if-same-5.false)
+    rw (noBatch (goal.at.returns c).Else-eq, noDel (goal.at.returns c).Else-eq-2, noDecide (goal.at.returns c).Else-eq-3, noFind (goal.at.returns c).Else-eq-4, is_by c.args.w.now _ c.as_slice-5.ensures c.eq-5.ensures c.if-eq-5.false)

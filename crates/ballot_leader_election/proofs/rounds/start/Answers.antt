@@ -8,12 +8,12 @@ unfolding starting_at
 returns-in_default c =
     rw c.in_default.is (simp c.with-mine.ensures)
 
-pub returns-then-ballot_blank : goal.returns-then-ballot_blank
+pub returns-then-eq : goal.returns-then-eq
 unfolding starting_at
-returns-then-ballot_blank c =
-    rw c.in-Leader.is (simp (sym c.ballot_blank.ensures ∙ c.if-ballot_blank.true, c.with-mine.ensures))
+returns-then-eq c =
+    rw c.in-Some.is (simp (rw c.no_ballot.ensures at (sym c.eq.ensures ∙ c.if-eq.true), c.with-mine.ensures))
 
 pub returns : goal.returns
 unfolding starting_at
 returns c =
-    rw c.in-Leader.is (simp (sym c.ballot_blank.ensures ∙ c.if-ballot_blank.false, c.with-mine.ensures))
+    rw c.in-Some.is (simp (rw c.no_ballot.ensures at (sym c.eq.ensures ∙ c.if-eq.false), c.with-mine.ensures))

@@ -1,41 +1,44 @@
 -- `compaction::inner::compact_at` meets its contract: by what becomes of the run's start, and by what is then held.
+use Rattle.entry.proofs.RefusalLaws.{passed_up}
 use Rattle.state_cache.specs.State.{raw}
-use Rattle.state_cache.proofs.Small.{sound_small}
 use Rattle.entry.specs.Upto.{upto_of}
-use Rattle.compaction.specs.Inner.{Up}
-use Rattle.compaction.proofs.Moving.{compact_stays, movable, compact_over, compact_moves}
+use Rattle.compaction.specs.Inner.{Up, Movable}
+use Rattle.compaction.proofs.Moving.{compact_stays, compact_above, movable, compact_over, compact_moves}
 use Rattle.compaction.proofs.inner.compact_at.Goals as goal
-use Rattle.compaction.proofs.inner.compact_at.Goals.{In-To}
+use Rattle.compaction.proofs.inner.compact_at.Goals.{In-Some}
 
-up : (k : In-To)
-    → Up (upto_of k.args.upto) k.args.index k.in-To.to
-up k =
-    rw k.in-To.is at k.reach_of-way.ensures
+up : (k : In-Some) → Up (upto_of k.args.upto) k.args.index k.in-Some.to
+up k = rw k.in-Some.is at k.in_ok-to.ensures
 
-pub reach_of-way-requires : goal.reach_of-way-requires
-reach_of-way-requires c =
-    sound_small _ c.requires.numbers
+moves : (k : In-Some) → Movable k.in-Some.to k.args.index k.args.log.now
+moves k =
+    movable (raw k.args.index k.args.log.now k.args.snapshot.now) k.requires.okay k.args.what (upto_of k.args.upto) _
+    (up k)
 
-pub hold-held-requires : goal.hold-held-requires
-hold-held-requires c =
-    (c.requires, movable (raw c.args.index c.args.log.now c.args.snapshot.now) c.requires.okay c.args.what (upto_of c.args.upto) _ (up (goal.at.hold-held-requires c).In-To))
+pub returns-in_err-to : goal.returns-in_err-to
+returns-in_err-to c =
+    rw (passed_up c.from_residual.result _ c.from_residual.ensures.1)
+    (compact_above (raw c.args.index c.args.log.now c.args.snapshot.now) c.requires.okay c.args.what _ _
+    c.in_err-to.ensures)
 
-pub move_to-next-requires : goal.move_to-next-requires
-move_to-next-requires c =
-    movable (raw c.args.index c.args.log.now c.args.snapshot.now) c.requires.okay c.args.what (upto_of c.args.upto) _ (up (goal.at.move_to-next-requires c).In-To)
+pub returns-in_default : goal.returns-in_default
+returns-in_default c =
+    compact_stays (raw c.args.index c.args.log.now c.args.snapshot.now) c.requires.okay c.args.what _
+    (rw c.in_default.is at c.in_ok-to.ensures)
 
-pub returns-in-Stays : goal.returns-in-Stays
-returns-in-Stays c =
-    compact_stays (raw c.args.index c.args.log.now c.args.snapshot.now) c.requires.okay c.args.what (upto_of c.args.upto) _
-    (rw c.in-Stays.is at c.reach_of-way.ensures)
+pub hold-requires : goal.hold-requires
+hold-requires c = (c.requires, moves (goal.at.hold-requires c).In-Some)
 
-pub returns-in-Refused : goal.returns-in-Refused
-returns-in-Refused c =
-    compact_over (raw c.args.index c.args.log.now c.args.snapshot.now) c.requires.okay c.args.what (upto_of c.args.upto) _ (up (goal.at.returns-in-Refused c).In-To) c.hold-held.result
-    c.hold-held.new.snapshot c.hold-held.ensures _ c.in-Refused.is
+pub returns-in_err-keys : goal.returns-in_err-keys
+returns-in_err-keys c =
+    rw (passed_up c.from_residual-in_err-keys.result _ c.from_residual-in_err-keys.ensures.1)
+    (compact_over (raw c.args.index c.args.log.now c.args.snapshot.now) c.requires.okay c.args.what _ _
+    (up (goal.at.returns-in_err-keys c).In-Some) _ _ c.hold.ensures _ c.in_err-keys.was)
 
-pub returns-in-Keys : goal.returns-in-Keys
-returns-in-Keys c =
-    compact_moves (raw c.args.index c.args.log.now c.args.snapshot.now) c.requires.okay c.args.what (upto_of c.args.upto) _ (up (goal.at.returns-in-Keys c).In-To) c.hold-held.result
-    c.hold-held.new.snapshot c.hold-held.ensures _ c.in-Keys.is c.holds.result c.holds.ensures
-    c.move_to-next.result c.move_to-next.new.log c.move_to-next.ensures
+pub move_to-requires : goal.move_to-requires
+move_to-requires c = moves (goal.at.move_to-requires c).In-Some
+
+pub returns : goal.returns
+returns c =
+    compact_moves (raw c.args.index c.args.log.now c.args.snapshot.now) c.requires.okay c.args.what _ _
+    (up (goal.at.returns c).In-Some) _ _ c.hold.ensures _ c.in_ok-keys.was _ c.holds.ensures _ _ c.move_to.ensures

@@ -10,26 +10,28 @@ use Rattle.compaction.proofs.inner.hold.Goals as goal
 
 pub returns-then-hole : goal.returns-then-hole
 returns-then-hole c =
-    hold_holed (raw c.args.index c.args.log.now c.args.snapshot.now) c.args.to c.requires.0.okay (sym c.hole.ensures ∙ c.if-hole.true)
-    ∙ ap (λ (w : Compaction). held_written w c.args.to (raw c.args.index c.args.log.now c.args.snapshot.now)) (sym c.in-Snapshot.is)
+    let r = raw c.args.index c.args.log.now c.args.snapshot.now in
+    hold_holed r c.args.to c.requires.0.okay (sym c.hole.ensures ∙ c.if-hole.true)
+    ∙ ap (λ (w : Compaction). held_written w c.args.to r) (sym c.in-Snapshot.is)
 
 pub fold_over-requires : goal.fold_over-requires
 unfolding entries_at all_of
 fold_over-requires c = (
-  fold_needs (raw c.args.index c.args.log.now c.args.snapshot.now) c.requires.0.okay c.args.to c.requires.1.within c.args.snapshot.now
-      c.requires.0.snapshot.laid.long,
+  fold_needs (raw c.args.index c.args.log.now c.args.snapshot.now) c.requires.0.okay c.args.to c.requires.1.within
+      c.args.snapshot.now c.requires.0.snapshot.laid.long,
   record { inside = omega arith; sound = refl },
 )
 
 pub returns-in-Trim : goal.returns-in-Trim
 returns-in-Trim c =
-    hold_none (raw c.args.index c.args.log.now c.args.snapshot.now) c.args.to _
+    let r = raw c.args.index c.args.log.now c.args.snapshot.now in
+    hold_none r c.args.to _
     (c.clear.ensures ∙ cleared snapshot_words c.args.snapshot.now c.requires.0.snapshot.laid.long)
-    ∙ ap (λ (w : Compaction). held_written w c.args.to (raw c.args.index c.args.log.now c.args.snapshot.now)) (sym c.in-Trim.is)
+    ∙ ap (λ (w : Compaction). held_written w c.args.to r) (sym c.in-Trim.is)
 
 pub returns-else-hole : goal.returns-else-hole
 returns-else-hole c =
+    let r = raw c.args.index c.args.log.now c.args.snapshot.now in
     c.fold_over.ensures
-    ∙ hold_fold (raw c.args.index c.args.log.now c.args.snapshot.now) c.args.to c.requires.0.okay (sym c.hole.ensures ∙ c.if-hole.false)
-    c.requires.1.within
-    ∙ ap (λ (w : Compaction). held_written w c.args.to (raw c.args.index c.args.log.now c.args.snapshot.now)) (sym c.in-Snapshot.is)
+    ∙ hold_fold r c.args.to c.requires.0.okay (sym c.hole.ensures ∙ c.if-hole.false) c.requires.1.within
+    ∙ ap (λ (w : Compaction). held_written w c.args.to r) (sym c.in-Snapshot.is)

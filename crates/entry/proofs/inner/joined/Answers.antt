@@ -19,10 +19,6 @@ none_left : (l : List Change) (i : ℕ) → length l ≤ i → entries_formed (d
 unfolding all_of
 none_left l i h = ap entries_formed (drop_of_length-le l {i = i} h)
 
-pub loop-i-init : goal.loop-i-init
-loop-i-init c =
-    (omega arith, λ h e. e)
-
 pub loop-i-preserved : goal.loop-i-preserved
 loop-i-preserved c =
     let es = entries_of c.args.n c.args.s.now in

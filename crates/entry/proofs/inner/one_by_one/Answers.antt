@@ -1,14 +1,10 @@
 -- `entry::inner::one_by_one` meets its contract: the entries passed and those that are left are together what is asked.
-use Rattle.words.proofs.Prelude.{arith, refl, ap, ◌∙◌, ◌+◌, Bool, ◌&&◌, drop}
+use Rattle.words.proofs.Prelude.{arith, ap, ◌∙◌, ◌+◌, Bool, ◌&&◌, drop}
 use Rattle.words.proofs.{Alls.all_turn, Alls.all_end, CodedLaws.entries_length}
 use Rattle.entry.specs.Change.{change_code, change_formed, entries_formed, entries_of}
 use Rattle.entry.specs.Inner.{change_at}
 use Rattle.entry.proofs.{ChangeLaws.entry_cons}
 use Rattle.entry.proofs.inner.one_by_one.Goals as goal
-
-pub loop-i-init : goal.loop-i-init
-loop-i-init c =
-    (omega arith, refl)
 
 pub loop-i-preserved : goal.loop-i-preserved
 loop-i-preserved c =

@@ -3,4 +3,4 @@ use Rattle.host.proofs.images.kotuseraw_write_image.Goals as goal
 
 pub returns : goal.returns
 returns c =
-    carry_out c.written_said.ensures c.write.ensures.out_after
+    carry_out _ c.said.ensures c.write.ensures.out_after

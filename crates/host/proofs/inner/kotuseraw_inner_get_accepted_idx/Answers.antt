@@ -5,12 +5,12 @@ use Rattle.state_cache.proofs.{Small.sound_small, Runs.asked_of}
 use Rattle.host.specs.Plain.{plain, a_number}
 use Rattle.host.proofs.inner.kotuseraw_inner_get_accepted_idx.Goals as goal
 
-pub accepted-last-requires : goal.accepted-last-requires
-accepted-last-requires c =
+pub accepted-requires : goal.accepted-requires
+accepted-requires c =
     sound_small _ c.requires.numbers
 
 pub returns : goal.returns
 returns c =
     let x = raw c.args.index c.args.log.now c.args.snapshot.now in
-    c.accepted_said.ensures
-    ∙ ap (plain a_number) (asked_of accepted_of x c.requires.okay c.accepted-last.result c.accepted-last.ensures)
+    c.tell.ensures
+    ∙ ap (plain a_number) (asked_of accepted_of x c.requires.okay c.accepted.result c.accepted.ensures)

@@ -1,5 +1,8 @@
+use Rattle.words.proofs.Prelude.{ap, ◌∙◌}
+use Rattle.host.proofs.{Carry.part_told}
+use Rattle.host.specs.Plain.{plain, a_span}
 use Rattle.host.proofs.inner.kotuseraw_inner_get_suffix.Goals as goal
 
 pub returns : goal.returns
 returns c =
-    rw (← c.get_suffix_reply.ensures) (c.span_said.ensures _)
+    c.tell.ensures ∙ part_told c.args.log.now c.get_suffix_reply.result ∙ ap (plain a_span) c.get_suffix_reply.ensures

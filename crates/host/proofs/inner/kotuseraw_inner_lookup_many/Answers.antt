@@ -3,4 +3,4 @@ use Rattle.host.proofs.inner.kotuseraw_inner_lookup_many.Goals as goal
 
 pub returns : goal.returns
 returns c =
-    carry_filled c.settled_said.ensures c.look_many.ensures
+    carry_filled _ c.said.ensures c.look_many.ensures

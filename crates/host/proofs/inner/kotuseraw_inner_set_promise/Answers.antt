@@ -1,7 +1,6 @@
-use Rattle.host.proofs.{Carry.carry}
-use Rattle.host.specs.Plain.{nothing}
+use Rattle.host.proofs.{Carry.carry_settled}
 use Rattle.host.proofs.inner.kotuseraw_inner_set_promise.Goals as goal
 
 pub returns : goal.returns
 returns c =
-    carry nothing c.settled_reply.ensures c.set_promise.ensures
+    carry_settled _ _ c.settled.ensures c.set_promise.ensures

@@ -1,8 +1,9 @@
+use Rattle.internal_storage.specs.Replies.{maybe_at}
 use Rattle.host.proofs.Carry.{carry}
 use Rattle.host.specs.Plain.{maybe_number}
 use Rattle.host.proofs.log.kotuseraw_append_entries_and_get_accepted_idx.Goals as goal
 
 pub returns : goal.returns
 returns c =
-    carry maybe_number c.accepted_idx_reply.ensures
+    carry maybe_number maybe_at _ _ c.reply.ensures
     c.append_entries_and_get_accepted_idx.ensures

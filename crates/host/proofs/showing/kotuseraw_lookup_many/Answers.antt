@@ -3,4 +3,4 @@ use Rattle.host.proofs.showing.kotuseraw_lookup_many.Goals as goal
 
 pub returns : goal.returns
 returns c =
-    carry_filled c.settled_said.ensures c.lookup_many.ensures
+    carry_filled _ c.said.ensures c.lookup_many.ensures

@@ -4,4 +4,4 @@ use Rattle.host.proofs.showing.kotuseraw_reply_at.Goals as goal
 
 pub returns : goal.returns
 returns c =
-    c.known_said.ensures ∙ ap a_word c.reply_at.ensures
+    c.tell.ensures ∙ ap a_word c.reply_at.ensures

@@ -3,4 +3,4 @@ use Rattle.host.proofs.snapshots.kotuseraw_create_snapshot.Goals as goal
 
 pub returns : goal.returns
 returns c =
-    carry_out c.folded_said.ensures c.create_snapshot.ensures
+    carry_out _ c.said.ensures c.create_snapshot.ensures

@@ -1,5 +1,8 @@
+use Rattle.entry.specs.Reply.{known_is}
+use Rattle.host.proofs.{Carry.carry_told}
+use Rattle.host.specs.Plain.{a_word}
 use Rattle.host.proofs.snapshots.kotuseraw_find.Goals as goal
 
 pub returns : goal.returns
 returns c =
-    cc
+    carry_told a_word known_is _ c.said.ensures c.find.ensures

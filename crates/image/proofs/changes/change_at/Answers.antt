@@ -1,9 +1,9 @@
 -- `image::changes::change_at` meets its contract.
-use Rattle.words.proofs.Prelude.{arith, refl, sym, ◌∙◌, ◌+◌, ◌≤◌, true≢false, length}
+use Rattle.words.proofs.Prelude.{arith, refl, sym, ◌∙◌, ◌+◌, ◌≤◌, length}
 use Rattle.words.specs.All.{all_of}
 use Rattle.records.specs.Sealed.{total}
 use Rattle.image.specs.Layout.{change_size}
-use Rattle.image.proofs.ChangeSteps.{sealed_here, sealed_room, change_absent, change_key, change_present}
+use Rattle.image.proofs.ChangeSteps.{sealed_here, sealed_room, change_absent, change_present}
 use Rattle.image.proofs.changes.change_at.Goals as goal
 use Rattle.image.proofs.changes.change_at.Goals.{Else-not-sealed_at}
 
@@ -16,11 +16,8 @@ room c =
 
 pub returns-then-not-sealed_at : goal.returns-then-not-sealed_at
 returns-then-not-sealed_at c =
-    record {
-      sound_value = change_absent c.args.s.now c.args.at c.args.mark
-          (sym (sealed_here c.args.s.now c.args.at) ∙ sym c.sealed_at.ensures ∙ c.if-not-sealed_at.true);
-      key_value = λ e. absurd (true≢false (sym e));
-    }
+    change_absent c.args.s.now c.args.at c.args.mark
+    (sym (sealed_here c.args.s.now c.args.at) ∙ sym c.sealed_at.ensures ∙ c.if-not-sealed_at.true)
 
 pub get_fields-requires : goal.get_fields-requires
 unfolding total all_of
@@ -31,20 +28,11 @@ get_fields-requires c =
       ns_len = refl;
     }
 
-pub get_big-requires : goal.get_big-requires
-get_big-requires c =
-    record {
-      k_in_bounds = omega (arith, room (goal.at.get_big-requires c).Else-not-sealed_at);
-      k_bound = omega arith;
-    }
-
 pub returns : goal.returns
 returns c =
-    record {
-      sound_value = change_present c.args.s.now c.args.at c.get_fields.new.ns c.get_fields.ensures c.args.mark
-          c.get_big.result c.places_formed-fine.result
-          (sym (sealed_here c.args.s.now c.args.at) ∙ sym c.sealed_at.ensures
-          ∙ c.if-not-sealed_at.false)
-          c.get_big.ensures c.places_formed-fine.ensures;
-      key_value = λ _. change_key c.args.s.now c.args.at c.get_fields.new.ns c.get_fields.ensures;
-    }
+    c.then_some.ensures
+    ∙ change_present c.args.s.now c.args.at c.get_fields.new.ns c.get_fields.ensures c.args.mark
+    c.get_big.result c.places_formed-fine.result
+    (sym (sealed_here c.args.s.now c.args.at) ∙ sym c.sealed_at.ensures
+    ∙ c.if-not-sealed_at.false)
+    c.get_big.ensures c.places_formed-fine.ensures

@@ -1,5 +1,4 @@
 -- `image::header::four_at` meets its contract: four bytes are below 2^32.
-use Rattle.words.proofs.Prelude.{rules}
 use Rattle.words.proofs.Prelude.{arith}
 use Rattle.image.proofs.Types.{part_below}
 use Rattle.image.proofs.header.four_at.Goals as goal
@@ -12,7 +11,3 @@ overflow_cast-result c =
       part_below c.args.s.now c.args.at 4 (omega arith)
           c.type_inv.s,
     )
-
-pub returns : goal.returns
-returns c =
-    search rules

@@ -1,5 +1,5 @@
 -- `image::header::head_sound` meets its contract.
-use Rattle.words.proofs.Prelude.{arith, sym, ap, ◌∙◌, ◌≤◌, length}
+use Rattle.words.proofs.Prelude.{sym, ap, ◌∙◌, ◌≤◌, length}
 use Rattle.image.specs.Layout.{head_size}
 use Rattle.image.specs.Reading.{head_formed}
 use Rattle.image.proofs.HeadLaws.{sealed_head, head_room, head_tests, head_open}
@@ -21,11 +21,3 @@ returns c =
     head_tests c.args.s.now c.flags_known-known.result c.head_formed-formed.result
     (sym (sealed_head c.args.s.now) ∙ sym c.sealed_at.ensures ∙ c.if-not-sealed_at.false)
     c.flags_known-known.ensures (c.head_formed-formed.ensures ∙ ap head_formed c.head_at.ensures)
-
-pub bounds-s-4 : goal.bounds-s-4
-bounds-s-4 c =
-    omega (arith, room (goal.at.bounds-s-4 c).Else-not-sealed_at)
-
-pub head_at-requires : goal.head_at-requires
-head_at-requires c =
-    room (goal.at.head_at-requires c).Else-not-sealed_at

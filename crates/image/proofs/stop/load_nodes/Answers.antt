@@ -1,5 +1,5 @@
 -- `image::stop::load_nodes` meets its contract.
-use Rattle.words.proofs.Prelude.{arith, sym, length-take-le}
+use Rattle.words.proofs.Prelude.{arith}
 use Rattle.image.proofs.Signs.{eights_total, eights_narrow, same_count, nodes_got}
 use Rattle.image.proofs.stop.load_nodes.Goals as goal
 
@@ -15,11 +15,3 @@ pub returns : goal.returns
 returns c =
     nodes_got c.args.s.now c.get_fields.new.ns c.args.at c.args.n c.requires.n_le_most_nodes
     c.get_fields.ensures
-
-pub slice_bounds-get_fields-end : goal.slice_bounds-get_fields-end
-slice_bounds-get_fields-end c =
-    sym (length-take-le _ _ (omega arith))
-
-pub slice_bounds-get_fields-end-2 : goal.slice_bounds-get_fields-end-2
-slice_bounds-get_fields-end-2 c =
-    sym (length-take-le _ _ (omega arith))

@@ -35,7 +35,7 @@ pub returns : goal.returns
 returns c =
     let n = c.get_big-count.ensures ∙ sym (nodes_here c.args.s.now c.args.at c.args.metadata) in
     let l = c.get_big-used.ensures ∙ sym (metadata_here c.args.s.now c.args.at c.args.metadata c.get_big-count.result n) in
-    c.if_fine.ensures
+    c.then_some.ensures
     ∙ stop_whole c.args.s.now c.args.at c.args.metadata _ (omega (arith, n, l)) c.get_big-marked.result c.get_big-count.result
     c.get_big-used.result (sym c.sealed_at.ensures ∙ c.if-not-sealed_at.false) (omega (arith, n))
     (omega (arith, l)) c.get_big-marked.ensures n l

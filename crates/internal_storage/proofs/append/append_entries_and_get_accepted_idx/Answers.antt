@@ -1,6 +1,5 @@
--- `internal_storage::append::append_entries_and_get_accepted_idx` meets its contract: refusal 12, or what the append to
+-- `internal_storage::append::append_entries_and_get_accepted_idx` meets its contract: refusal 12, or what the call on
 -- a well-formed log comes to.
-use Rattle.words.proofs.Prelude.{rules}
 use Rattle.words.proofs.Prelude.{sym, ap, ◌∙◌}
 use Rattle.entry.specs.Change.{entries_in, whole_in}
 use Rattle.model.specs.Calls.{append}
@@ -11,15 +10,10 @@ use Rattle.internal_storage.proofs.append.append_entries_and_get_accepted_idx.Go
 
 pub returns-then-not-well_formed : goal.returns-then-not-well_formed
 returns-then-not-well_formed c =
-    ap with_index_only (ill_formed (append (entries_in c.args.entries.now))
-    (whole_in c.args.entries.now) (raw c.args.index c.args.log.now c.args.snapshot.now)
+    ap with_index_only (ill_formed (append (entries_in c.args.entries.now)) (whole_in c.args.entries.now)
+    (raw c.args.index c.args.log.now c.args.snapshot.now)
     (sym c.well_formed-2.ensures ∙ c.if-not-well_formed.true))
 
 pub append_entries_and_get_accepted_idx-requires : goal.append_entries_and_get_accepted_idx-requires
 append_entries_and_get_accepted_idx-requires c =
-    ready_of (raw c.args.index c.args.log.now c.args.snapshot.now)
-    (sym c.well_formed-2.ensures ∙ c.if-not-well_formed.false)
-
-pub returns : goal.returns
-returns c =
-    search rules
+    ready_of _ (sym c.well_formed-2.ensures ∙ c.if-not-well_formed.false)

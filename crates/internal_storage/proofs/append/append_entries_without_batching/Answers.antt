@@ -1,6 +1,5 @@
--- `internal_storage::append::append_entries_without_batching` meets its contract: refusal 12, or what the append to a
+-- `internal_storage::append::append_entries_without_batching` meets its contract: refusal 12, or what the call on a
 -- well-formed log comes to.
-use Rattle.words.proofs.Prelude.{rules}
 use Rattle.words.proofs.Prelude.{sym, ◌∙◌}
 use Rattle.entry.specs.Change.{entries_in, whole_in}
 use Rattle.model.specs.Calls.{append_now}
@@ -16,9 +15,4 @@ returns-then-not-well_formed c =
 
 pub append_entries_without_batching-requires : goal.append_entries_without_batching-requires
 append_entries_without_batching-requires c =
-    ready_of (raw c.args.index c.args.log.now c.args.snapshot.now)
-    (sym c.well_formed-2.ensures ∙ c.if-not-well_formed.false)
-
-pub returns : goal.returns
-returns c =
-    search rules
+    ready_of _ (sym c.well_formed-2.ensures ∙ c.if-not-well_formed.false)

@@ -1,6 +1,5 @@
 -- `internal_storage::decide::set_decided_idx` meets its contract: refusal 12, or what the call on a well-formed log
 -- comes to.
-use Rattle.words.proofs.Prelude.{rules}
 use Rattle.words.proofs.Prelude.{sym, ◌∙◌, true}
 use Rattle.model.specs.Calls.{decide}
 use Rattle.state_cache.specs.State.{raw}
@@ -15,7 +14,3 @@ returns-then-not-well_formed c =
 pub set_decided_idx-requires : goal.set_decided_idx-requires
 set_decided_idx-requires c =
     ready_of _ (sym c.well_formed-2.ensures ∙ c.if-not-well_formed.false)
-
-pub returns : goal.returns
-returns c =
-    search rules

@@ -1,6 +1,5 @@
 -- `internal_storage::decide::set_promise` meets its contract: refusal 12, or what the call on a well-formed log comes
 -- to.
-use Rattle.words.proofs.Prelude.{rules}
 use Rattle.words.proofs.Prelude.{sym, ◌∙◌, true}
 use Rattle.model.specs.Calls.{set_promise}
 use Rattle.state_cache.specs.State.{raw}
@@ -9,14 +8,9 @@ use Rattle.internal_storage.proofs.decide.set_promise.Goals as goal
 
 pub returns-then-not-well_formed : goal.returns-then-not-well_formed
 returns-then-not-well_formed c =
-    ill_formed (set_promise c.args.n_prom) true
-    (raw c.args.index c.args.log.now c.args.snapshot.now)
+    ill_formed (set_promise c.args.n_prom) true (raw c.args.index c.args.log.now c.args.snapshot.now)
     (sym c.well_formed-2.ensures ∙ c.if-not-well_formed.true)
 
 pub set_promise-requires : goal.set_promise-requires
 set_promise-requires c =
     ready_of _ (sym c.well_formed-2.ensures ∙ c.if-not-well_formed.false)
-
-pub returns : goal.returns
-returns c =
-    search rules

@@ -1,6 +1,5 @@
--- `internal_storage::flush::flush_batch_and_get_entries` meets its contract: refusal 12, or what the flush of a
+-- `internal_storage::flush::flush_batch_and_get_entries` meets its contract: refusal 12, or what the call on a
 -- well-formed log comes to.
-use Rattle.words.proofs.Prelude.{rules}
 use Rattle.words.proofs.Prelude.{sym, ◌∙◌, true}
 use Rattle.model.specs.Calls.{flush_entries}
 use Rattle.state_cache.specs.State.{raw}
@@ -15,7 +14,3 @@ returns-then-not-well_formed c =
 pub flush_batch_and_get_entries-requires : goal.flush_batch_and_get_entries-requires
 flush_batch_and_get_entries-requires c =
     ready_of _ (sym c.well_formed-2.ensures ∙ c.if-not-well_formed.false)
-
-pub returns : goal.returns
-returns c =
-    search rules

@@ -1,66 +1,28 @@
 -- `internal_storage::inner::append_now_at` meets its contract: the first refusal, or the entries put before the batch.
-use Rattle.words.proofs.Prelude.{arith, ◌≡◌, sym, ap, ◌∙◌, ◌+◌, ◌≤◌}
-use Rattle.entry.specs.{Limits.entry_room, Guards.passes, Guards.first}
-use Rattle.model.specs.Append.{append_guards}
-use Rattle.state_cache.specs.State.{raw, numbers_in}
+use Rattle.words.proofs.Prelude.{arith}
+use Rattle.entry.proofs.RefusalLaws.{passed_up}
+use Rattle.state_cache.specs.State.{raw}
 use Rattle.state_cache.proofs.Small.{sound_small}
-use Rattle.internal_storage.specs.Inner.{verdict_of}
 use Rattle.internal_storage.proofs.Effects.{now_run, now_refused, append_room}
 use Rattle.internal_storage.proofs.inner.append_now_at.Goals as goal
-use Rattle.internal_storage.proofs.inner.append_now_at.Goals.{In_default}
 
--- no refusal applies
-pass : (e : In_default)
-    → passes ≡ first (append_guards e.args.n
-    (numbers_in e.args.index))
-pass e =
-    ap verdict_of (sym e.in_default.is) ∙ e.check_append-check.ensures
+pub returns-in_err-check_append : goal.returns-in_err-check_append
+returns-in_err-check_append c =
+    rw (passed_up c.from_residual.result _ c.from_residual.ensures.1)
+    (now_refused (raw c.args.index c.args.log.now c.args.snapshot.now) c.requires.ready.okay c.args.n c.args.entries.now
+    c.requires.fine _ _ c.in_err-check_append.ensures)
 
-room : (e : In_default)
-    → e.args.index.retained
-    + e.args.index.batched
-    + e.args.n ≤ entry_room
-room e =
-    append_room e.args.n
-    (numbers_in e.args.index) ((let h : passes ≡ first (append_guards e.args.n
-    (numbers_in e.args.index)) = ap verdict_of (sym e.in_default.is) ∙ e.check_append-check.ensures in h))
+pub splice-requires-clause-insert_in_bounds : goal.splice-requires-clause-insert_in_bounds
+splice-requires-clause-insert_in_bounds c =
+    omega (arith, append_room _ _ c.in_ok-check_append.ensures, c.requires.ready.log.long, c.requires.whole)
 
-pub returns-in-Refused : goal.returns-in-Refused
-returns-in-Refused c =
-    now_refused (raw c.args.index c.args.log.now c.args.snapshot.now) c.requires.ready.okay c.args.n c.args.entries.now c.requires.fine _ _
-    (ap verdict_of (sym c.in-Refused.is) ∙ c.check_append-check.ensures)
-
-pub overflow_add-used : goal.overflow_add-used
-overflow_add-used c =
-    omega (arith, room (goal.at.overflow_add-used c).In_default)
-
-pub overflow_mul-used : goal.overflow_mul-used
-overflow_mul-used c =
-    omega (arith, room (goal.at.overflow_mul-used c).In_default)
-
-pub overflow_mul-index : goal.overflow_mul-index
-overflow_mul-index c =
-    omega (arith, room (goal.at.overflow_mul-index c).In_default)
-
-pub splice-requires : goal.splice-requires
-splice-requires c =
-    record {
-      cut_bound = omega arith;
-      used_in_bounds = omega (arith, c.requires.ready.log.fits, c.requires.ready.log.long);
-      insert_in_bounds = omega (arith, room (goal.at.splice-requires c).In_default, c.requires.ready.log.long, c.requires.whole);
-      s_value = c.requires.ready.log.zeros;
-    }
-
-pub overflow_add-next : goal.overflow_add-next
-overflow_add-next c =
-    omega (arith, room (goal.at.overflow_add-next c).In_default)
-
-pub accepted-last-requires : goal.accepted-last-requires
-accepted-last-requires c =
+pub accepted-requires : goal.accepted-requires
+accepted-requires c =
     let s = sound_small _ c.requires.ready.numbers in
-    record { few = omega (arith, room (goal.at.accepted-last-requires c).In_default); waiting = s.waiting; low = s.low }
+    record { few = omega (arith, append_room _ _ c.in_ok-check_append.ensures); waiting = s.waiting; low = s.low }
 
 pub returns : goal.returns
 returns c =
-    now_run (raw c.args.index c.args.log.now c.args.snapshot.now) c.requires.ready.okay c.args.n c.args.entries.now c.splice.new.s
-    c.requires.whole c.splice.ensures c.requires.fine (pass (goal.at.returns c).In_default) c.accepted-last.result c.accepted-last.ensures
+    now_run (raw c.args.index c.args.log.now c.args.snapshot.now) c.requires.ready.okay c.args.n c.args.entries.now
+    c.splice.new.s c.requires.whole c.splice.ensures c.requires.fine c.in_ok-check_append.ensures c.accepted.result
+    c.accepted.ensures

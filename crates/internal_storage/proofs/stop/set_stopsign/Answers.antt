@@ -1,23 +1,17 @@
 -- `internal_storage::stop::set_stopsign` meets its contract: refusal 12, or what the call on a well-formed log comes
 -- to.
-use Rattle.words.proofs.Prelude.{rules}
 use Rattle.words.proofs.Prelude.{sym, ◌∙◌, true}
 use Rattle.model.specs.Calls.{set_stop}
 use Rattle.state_cache.specs.State.{raw}
 use Rattle.state_cache.proofs.{Stands.ready_of, Runs.ill_formed}
-use Rattle.internal_storage.specs.Replies.{asked}
+use Rattle.internal_storage.specs.Replies.{sign_is}
 use Rattle.internal_storage.proofs.stop.set_stopsign.Goals as goal
 
 pub returns-then-not-well_formed : goal.returns-then-not-well_formed
 returns-then-not-well_formed c =
-    ill_formed (set_stop (asked c.args.held c.args.ss)) true
-    (raw c.args.index c.args.log.now c.args.snapshot.now)
+    ill_formed (set_stop (sign_is c.args.ss)) true (raw c.args.index c.args.log.now c.args.snapshot.now)
     (sym c.well_formed-2.ensures ∙ c.if-not-well_formed.true)
 
 pub set_stopsign-requires : goal.set_stopsign-requires
 set_stopsign-requires c =
     ready_of _ (sym c.well_formed-2.ensures ∙ c.if-not-well_formed.false)
-
-pub returns : goal.returns
-returns c =
-    search rules

@@ -1,19 +1,11 @@
 -- `reading::inner::between` meets its contract: one test, and the differences where it holds.
 use Rattle.words.proofs.Prelude.{true, false}
-use Rattle.reading.proofs.{Showing.held, Showing.span_by}
+use Rattle.reading.proofs.{Showing.span_by}
 use Rattle.reading.proofs.inner.between.Goals as goal
 
 pub returns-then-not-held : goal.returns-then-not-held
 returns-then-not-held c =
     span_by _ _ _ _ c.end-last.ensures false (c.if-not-held.true)
-
-pub overflow_sub-result : goal.overflow_sub-result
-overflow_sub-result c =
-    (held _ _ _ _ (c.if-not-held.false)).0
-
-pub overflow_sub-result-2 : goal.overflow_sub-result-2
-overflow_sub-result-2 c =
-    (held _ _ _ _ (c.if-not-held.false)).1.0
 
 pub returns : goal.returns
 returns c =

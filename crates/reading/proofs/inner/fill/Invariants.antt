@@ -1,5 +1,5 @@
 -- `reading::inner::fill` meets its contract: at each turn the replies to the keys before are written.
-use Rattle.words.proofs.Prelude.{◌≡◌, ◌-◌, ◌≤◌, length, take}
+use Rattle.words.proofs.Prelude.{◌≡◌, length, take}
 use Rattle.words.specs.Coded.{over}
 use Rattle.entry.specs.Reply.{reply_code}
 use Rattle.state_cache.specs.State.{raw}
@@ -8,8 +8,5 @@ use Rattle.reading.proofs.inner.fill.Given as goal
 
 abbrev pub invariant-loop-i : goal.invariant-loop-i
 invariant-loop-i l =
-    (l.i ≤ length l.keys) × ((length l.replies ≡ length l.initial.replies)
-    × (l.replies ≡ over reply_code (replies_to (raw l.index l.log l.snapshot) (take l.i l.keys)) l.initial.replies))
-
-abbrev pub decreases-loop-i : goal.decreases-loop-i
-decreases-loop-i l = length l.keys - l.i
+    (length l.replies ≡ length l.initial.replies)
+    × (l.replies ≡ over reply_code (replies_to (raw l.index l.log l.snapshot) (take l.i l.keys)) l.initial.replies)

@@ -1,5 +1,5 @@
 -- `reading::inner::newest_at` meets its contract: the newest of all entries is that of those not yet looked at.
-use Rattle.words.proofs.Prelude.{arith, refl, ◌-◌}
+use Rattle.words.proofs.Prelude.{arith, ◌-◌}
 use Rattle.reading.proofs.Looking.{Left, newest_few, newest_found, newest_back}
 use Rattle.reading.proofs.inner.newest_at.Goals as goal
 use Rattle.reading.proofs.inner.newest_at.Goals.{Else-ka-key, Else-kb-key, Else-kc-key}
@@ -24,10 +24,6 @@ three e =
     e.if-kb-key.false in
     newest_back e.args.n e.args.log.now e.args.key (e.loop-i.i - 2) k (e.loop-i.i - 3) (omega arith) e.if-kc-key.false
 
-pub loop-i-init : goal.loop-i-init
-loop-i-init c =
-    record { within = omega arith; newest = refl }
-
 pub loop-i-preserved : goal.loop-i-preserved
 loop-i-preserved c =
     newest_back c.args.n c.args.log.now c.args.key (c.loop-i.i - 3) (three (goal.at.loop-i-preserved c).Else-kc-key)
@@ -35,7 +31,7 @@ loop-i-preserved c =
 
 pub returns-then-i-lt4 : goal.returns-then-i-lt4
 returns-then-i-lt4 c =
-    newest_few c.args.n c.args.log.now c.args.key c.loop-i.i c.loop-i.invariant _ c.newest_of_few-few.ensures
+    newest_few c.args.n c.args.log.now c.args.key c.loop-i.i c.loop-i.invariant _ c.newest_of_few.ensures
 
 pub returns-then-ka-key : goal.returns-then-ka-key
 returns-then-ka-key c =
@@ -44,15 +40,15 @@ returns-then-ka-key c =
 
 pub returns-then-kb-key : goal.returns-then-kb-key
 returns-then-kb-key c =
-    newest_found c.args.n c.args.log.now c.args.key (c.loop-i.i - 1) (one (goal.at.returns-then-kb-key c).Else-ka-key) (c.loop-i.i - 2)
-    (omega arith) c.if-kb-key.true
+    newest_found c.args.n c.args.log.now c.args.key (c.loop-i.i - 1)
+    (one (goal.at.returns-then-kb-key c).Else-ka-key) (c.loop-i.i - 2) (omega arith) c.if-kb-key.true
 
 pub returns-then-kc-key : goal.returns-then-kc-key
 returns-then-kc-key c =
-    newest_found c.args.n c.args.log.now c.args.key (c.loop-i.i - 2) (two (goal.at.returns-then-kc-key c).Else-kb-key) (c.loop-i.i - 3)
-    (omega arith) c.if-kc-key.true
+    newest_found c.args.n c.args.log.now c.args.key (c.loop-i.i - 2)
+    (two (goal.at.returns-then-kc-key c).Else-kb-key) (c.loop-i.i - 3) (omega arith) c.if-kc-key.true
 
 pub returns-then-kd-key : goal.returns-then-kd-key
 returns-then-kd-key c =
-    newest_found c.args.n c.args.log.now c.args.key (c.loop-i.i - 3) (three (goal.at.returns-then-kd-key c).Else-kc-key) (c.loop-i.i - 4)
-    (omega arith) c.if-kd-key.true
+    newest_found c.args.n c.args.log.now c.args.key (c.loop-i.i - 3)
+    (three (goal.at.returns-then-kd-key c).Else-kc-key) (c.loop-i.i - 4) (omega arith) c.if-kd-key.true

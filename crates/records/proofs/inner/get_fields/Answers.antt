@@ -1,5 +1,5 @@
 -- `records::inner::get_fields` meets its contract: the numbers got, and those still to come, are those asked for.
-use Rattle.words.proofs.Prelude.{arith, refl, ◌∙◌, length-set}
+use Rattle.words.proofs.Prelude.{arith, ◌∙◌}
 use Rattle.records.proofs.Fields.{narrow_at, total_turn, got_turn, got_done}
 use Rattle.records.proofs.inner.get_fields.Goals as goal
 
@@ -17,25 +17,16 @@ overflow_add-here c =
 
 pub loop-i-preserved : goal.loop-i-preserved
 loop-i-preserved c =
-    let l = c.loop-i in (
-      omega arith,
-      (
-        omega (arith, total_turn c.args.widths.now l.i (omega arith)),
-        (
-          simp length-set (omega arith),
-          got_turn c.args.widths.now l.i c.args.s.now l.ns l.here c.get_big.result (omega arith)
-              (omega arith)
-              c.get_big.ensures
-              ∙ l.invariant.1.1.1,
-        ),
-      ),
-    )
+    let l = c.loop-i in
+    record {
+      place = omega (arith, total_turn c.args.widths.now l.i (omega arith));
+      asked =
+          got_turn c.args.widths.now l.i c.args.s.now l.ns l.here c.get_big.result (omega arith) (omega arith)
+          c.get_big.ensures
+          ∙ l.invariant.asked;
+    }
 
 pub returns : goal.returns
 returns c =
     let l = c.loop-i in
-    got_done c.args.widths.now l.i c.args.s.now l.ns l.here (omega arith) (omega arith) ∙ l.invariant.1.1.1
-
-pub loop-i-init : goal.loop-i-init
-loop-i-init c =
-    (omega arith, (refl, (refl, refl)))
+    got_done c.args.widths.now l.i c.args.s.now l.ns l.here (omega arith) (omega arith) ∙ l.invariant.asked

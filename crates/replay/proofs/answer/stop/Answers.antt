@@ -1,19 +1,20 @@
 -- `replay::answer::stop` meets its contract: the call's outcome, and the accepted index after it, are what is printed.
-use Rattle.words.proofs.Prelude.{ap, ◌∙◌, true}
-use Rattle.entry.specs.declared.StopSign.{StopSign}
-use Rattle.model.specs.Calls.{append_stop}
-use Rattle.state_cache.specs.{State.raw, Run.run, Run.index_said}
-use Rattle.internal_storage.specs.Replies.{append_said}
-use Rattle.replay.specs.Answering.{answering}
-use Rattle.replay.proofs.{Telling.stops}
+use Rattle.entry.proofs.RefusalLaws.{passed_up}
+use Rattle.words.proofs.Prelude.{ap}
+use Rattle.state_cache.specs.{State.raw, Run.index_said}
+use Rattle.replay.specs.Answering.{stopped_by, answering}
+use Rattle.replay.proofs.Telling.{stops}
 use Rattle.replay.proofs.answer.stop.Goals as goal
+
+pub returns-in_err-next : goal.returns-in_err-next
+unfolding answering
+returns-in_err-next c =
+    rw (passed_up c.from_residual.result _ c.from_residual.ensures.1)
+    (ap stopped_by (rw (c.in_err-next.was, c.stop_sign.ensures) at c.append_stopsign.ensures))
 
 pub returns : goal.returns
 unfolding answering
 returns c =
-    let to = c.append_stopsign-to in
     let last = c.get_accepted_idx-last in
-    let e = to.ensures ∙ ap (λ (g : StopSign). run (append_stop g) true
-    (raw c.args.index c.args.log.now c.args.snapshot.now)) c.stop_sign.ensures in
-    stops _ (append_said to.result.answer) (index_said last.result)
-    (raw to.result.index c.args.log.now c.args.snapshot.now) _ e last.ensures c.stop_line-line.ensures
+    stops _ _ (index_said last.result) (raw _ c.args.log.now c.args.snapshot.now) _
+    (rw (c.in_ok-next.was, c.stop_sign.ensures) at c.append_stopsign.ensures) last.ensures c.accepted_line.ensures

@@ -7,13 +7,9 @@ use Rattle.replay.specs.{Answering.answering, Feeding.meaning, Feeding.last_star
 use Rattle.replay.proofs.{Inputs.finished}
 use Rattle.replay.proofs.feed.finish.Goals as goal
 
-pub step-done-requires : goal.step-done-requires
-step-done-requires c =
-    (omega (arith, c.in_ok-at.ensures, next_low last_start c.args.st.used, c.requires.room), c.requires.words)
-
 pub returns : goal.returns
 returns c =
-    let done = c.step-done in
+    let done = c.step-used in
     let at = c.in_ok-at.at in
     let x = raw c.args.st.index c.args.log.now c.args.snapshot.now in
     let came = come c.args.st.held.over c.args.st.held.len c.args.line.now in

@@ -11,17 +11,6 @@ unfolding lines_from
 loop-at-init c =
     (omega arith, λ (from : Raw) (ls : Lines) st. st)
 
-pub overflow_add-at : goal.overflow_add-at
-overflow_add-at c =
-    let g = simp (length-take, length-drop) at
-    c.gap.ensures.prefix_len.0 in
-    omega (arith, g, c.loop-at.invariant.0, c.loop-at-test.true, c.well_formed.0)
-
-pub loop-at-smaller : goal.loop-at-smaller
-loop-at-smaller c =
-    let g = simp (length-take, length-drop) at
-    c.gap.ensures.prefix_len.0 in omega (arith, g, c.loop-at.invariant.0)
-
 pub loop-at-preserved : goal.loop-at-preserved
 loop-at-preserved c =
     let part = c.args.part.now in

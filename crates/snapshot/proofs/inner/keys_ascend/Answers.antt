@@ -1,17 +1,17 @@
 -- `snapshot::inner::keys_ascend` meets its contract: the entries passed and those that are left are together what is
 -- asked.
-use Rattle.words.proofs.Prelude.{arith, refl}
+use Rattle.words.proofs.Prelude.{arith, ◌≡◌, ◌+◌, ◌-◌}
 use Rattle.snapshot.proofs.{Rising.rising-end, Rising.rising_turn}
 use Rattle.snapshot.proofs.inner.keys_ascend.Goals as goal
 
-pub loop-i-init : goal.loop-i-init
-loop-i-init c =
-    (omega arith, refl)
-
 pub loop-i-preserved : goal.loop-i-preserved
 loop-i-preserved c =
-    (omega arith, rising_turn c.args.n c.args.s.now c.loop-i.i c.loop-i.ok _ c.loop-i.invariant.1 (omega arith))
+    let e : c.loop-i.i - 1 + 1 ≡ c.loop-i.i = omega arith in
+    let f : c.loop-i.i + 1 - 1 ≡ c.loop-i.i = omega arith in (
+      omega arith,
+      rw (f) (rw e at (rising_turn c.args.n c.args.s.now (c.loop-i.i - 1) c.loop-i.ok _ c.loop-i.invariant.1 (omega arith))),
+    )
 
 pub returns : goal.returns
 returns c =
-    rising-end c.args.n c.args.s.now c.loop-i.i c.loop-i.ok _ c.loop-i.invariant.1 (omega arith)
+    rising-end c.args.n c.args.s.now (c.loop-i.i - 1) c.loop-i.ok _ c.loop-i.invariant.1 (omega arith)

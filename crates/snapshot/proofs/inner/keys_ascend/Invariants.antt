@@ -6,7 +6,4 @@ use Rattle.snapshot.specs.Folds.{rising}
 use Rattle.snapshot.proofs.inner.keys_ascend.Given as goal
 
 abbrev pub invariant-loop-i : goal.invariant-loop-i
-invariant-loop-i l = (l.i ≤ l.n) × ((l.ok && rising (drop l.i (entries_of l.n l.s))) ≡ rising (entries_of l.n l.s))
-
-abbrev pub decreases-loop-i : goal.decreases-loop-i
-decreases-loop-i l = l.n - l.i
+invariant-loop-i l = (1 ≤ l.i) × ((l.ok && rising (drop (l.i - 1) (entries_of l.n l.s))) ≡ rising (entries_of l.n l.s))

@@ -11,12 +11,12 @@ cut_out-requires c = record {
   s_value = c.requires.log.zeros;
 }
 
-pub accepted-last-requires : goal.accepted-last-requires
-accepted-last-requires c =
+pub accepted-requires : goal.accepted-requires
+accepted-requires c =
     let s = sound_small _ c.requires.numbers in
     record { few = s.few; waiting = omega arith; low = s.low }
 
 pub returns : goal.returns
 returns c =
     reload_runs (raw c.args.index c.args.log.now c.args.snapshot.now) c.requires.okay
-    c.cut_out.new.s c.cut_out.ensures c.accepted-last.result c.accepted-last.ensures
+    c.cut_out.new.s c.cut_out.ensures c.accepted.result c.accepted.ensures

@@ -1,81 +1,77 @@
 -- `backend::inner::list::run_ops` meets its contract: what is left of the list, from the state so far, comes to what
 -- the whole list does.
-use Rattle.words.proofs.Prelude.{arith, ◌≡◌, length}
-use Rattle.entry.specs.Limits.{most_ops}
+use Rattle.entry.proofs.RefusalLaws.{passed_up}
+use Rattle.words.proofs.Prelude.{take}
 use Rattle.state_cache.specs.State.{raw, numbers_in}
-use Rattle.state_cache.proofs.Small.{sound_small}
 use Rattle.backend.specs.{Ops.ops_in, Ops.lent_of, Inner.midst_of}
-use Rattle.backend.proofs.Turns.{asked, end, is_supplied, turn_refused, turn_held, turn_left, ended}
-use Rattle.backend.proofs.Turns.{all_left, wrote_refused, wrote, ops_supplied}
+use Rattle.backend.proofs.Turns.{asked, end, is_supplied, turn_refused, turn_left, ended, all_left, last_refused}
+use Rattle.backend.proofs.Turns.{stood, ops_supplied}
 use Rattle.backend.proofs.Amid.{ready_held}
 use Rattle.backend.proofs.inner.list.run_ops.Goals as goal
-use Rattle.backend.proofs.inner.list.run_ops.Goals.{Start}
 
-eight : (st : Start) → length st.args.list.ops ≡ most_ops
-eight st = omega arith
+pub loop-o-init : goal.loop-o-init
+loop-o-init c =
+    let r = raw c.args.before c.args.log.now c.args.snapshot.now in
+    let l = lent_of c.args.lent c.args.entries.now c.args.incoming.now in
+    (ready_held r c.requires.ready, all_left r l (ops_in c.args.list))
 
-pub loop-i-init : goal.loop-i-init
-loop-i-init c = (
-  omega arith,
-  (ready_held (raw c.args.before c.args.log.now c.args.snapshot.now) c.requires.ready, all_left (raw c.args.before c.args.log.now c.args.snapshot.now) (lent_of c.args.lent c.args.entries.now c.args.incoming.now) (ops_in c.args.list)),
-)
+pub step-requires-clause-kept : goal.step-requires-clause-kept
+step-requires-clause-kept c = c.loop-o.invariant.0
 
-pub step-s-requires : goal.step-s-requires
-step-s-requires c =
-    let v = c.loop-i in record {
-      kept = v.invariant.1.0;
-      small = sound_small (numbers_in c.args.before) c.requires.ready.numbers;
-      lends = c.requires.lends;
-      o_value = is_supplied (numbers_in c.args.before) (lent_of c.args.lent c.args.entries.now c.args.incoming.now) c.args.list.ops c.args.list.count c.requires.few (eight (goal.at.step-s-requires c).Start)
-          (asked (raw c.args.before c.args.log.now c.args.snapshot.now) (lent_of c.args.lent c.args.entries.now c.args.incoming.now) (ops_in c.args.list)) (end (raw c.args.before c.args.log.now c.args.snapshot.now) (lent_of c.args.lent c.args.entries.now c.args.incoming.now) (ops_in c.args.list))
-          (midst_of v.start (raw v.index v.log v.snapshot)) v.i v.invariant.1.1
-          c.loop-i-test.true
-          (ops_supplied (lent_of c.args.lent c.args.entries.now c.args.incoming.now) (ops_in c.args.list) c.requires.okay);
-    }
+pub step-requires-clause-o_value : goal.step-requires-clause-o_value
+step-requires-clause-o_value c =
+    let v = c.loop-o in
+    let r = raw c.args.before c.args.log.now c.args.snapshot.now in
+    let l = lent_of c.args.lent c.args.entries.now c.args.incoming.now in
+    let ops = ops_in c.args.list in
+    is_supplied (numbers_in c.args.before) l (take c.args.list.count c.args.list.ops) (asked r l ops) (end r l ops)
+    (midst_of v.so_far.start (raw v.so_far.index v.log v.snapshot)) v.o-index v.invariant.1 c.loop-o-test.true
+    (ops_supplied l ops c.requires.okay)
 
-pub returns-in-Refused : goal.returns-in-Refused
-returns-in-Refused c =
-    let v = c.loop-i in
-    wrote_refused (raw c.args.before c.args.log.now c.args.snapshot.now) (lent_of c.args.lent c.args.entries.now c.args.incoming.now)
-    (ops_in c.args.list) _ (raw v.index c.step-s.new.log c.step-s.new.snapshot)
-    (turn_refused (numbers_in c.args.before) (lent_of c.args.lent c.args.entries.now c.args.incoming.now) c.args.list.ops c.args.list.count c.requires.few
-    (eight (goal.at.returns-in-Refused c).Start) (asked (raw c.args.before c.args.log.now c.args.snapshot.now) (lent_of c.args.lent c.args.entries.now c.args.incoming.now) (ops_in c.args.list)) (end (raw c.args.before c.args.log.now c.args.snapshot.now) (lent_of c.args.lent c.args.entries.now c.args.incoming.now) (ops_in c.args.list))
-    (midst_of v.start (raw v.index v.log v.snapshot)) v.i v.invariant.1.1 c.loop-i-test.true
-    c.step-s.result c.step-s.new.log c.step-s.new.snapshot
-    c.step-s.ensures _ c.in-Refused.is)
+pub returns-in_err-so_far : goal.returns-in_err-so_far
+returns-in_err-so_far c =
+    let v = c.loop-o in
+    let r = raw c.args.before c.args.log.now c.args.snapshot.now in
+    let l = lent_of c.args.lent c.args.entries.now c.args.incoming.now in
+    let ops = ops_in c.args.list in
+    rw (passed_up c.from_residual.result _ c.from_residual.ensures.1)
+    (turn_refused (numbers_in c.args.before) l (take c.args.list.count c.args.list.ops) (asked r l ops) (end r l ops)
+    (midst_of v.so_far.start (raw v.so_far.index v.log v.snapshot)) v.o-index v.invariant.1 c.loop-o-test.true
+    _ _ c.in_err-so_far.ensures)
 
-pub loop-i-preserved : goal.loop-i-preserved
-loop-i-preserved c =
-    let v = c.loop-i in
-    let n = numbers_in c.args.before in
-    let k = asked (raw c.args.before c.args.log.now c.args.snapshot.now) (lent_of c.args.lent c.args.entries.now c.args.incoming.now) (ops_in c.args.list) in
-    let z = end (raw c.args.before c.args.log.now c.args.snapshot.now) (lent_of c.args.lent c.args.entries.now c.args.incoming.now) (ops_in c.args.list) in
-    let m = midst_of v.start (raw v.index v.log v.snapshot) in (
-      omega (arith, c.loop-i-test.true),
-      (
-        turn_held n (lent_of c.args.lent c.args.entries.now c.args.incoming.now) c.args.list.ops c.args.list.count c.requires.few (eight (goal.at.loop-i-preserved c).Start) k z m v.i v.invariant.1.1
-            c.loop-i-test.true c.step-s.result c.step-s.new.log c.step-s.new.snapshot
-            c.step-s.ensures c.in_default.is,
-        turn_left n (lent_of c.args.lent c.args.entries.now c.args.incoming.now) c.args.list.ops c.args.list.count c.requires.few (eight (goal.at.loop-i-preserved c).Start) k z m v.i v.invariant.1.1
-            c.loop-i-test.true c.step-s.result c.step-s.new.log c.step-s.new.snapshot
-            c.step-s.ensures c.in_default.is,
-      ),
+pub loop-o-preserved : goal.loop-o-preserved
+loop-o-preserved c =
+    let v = c.loop-o in
+    let r = raw c.args.before c.args.log.now c.args.snapshot.now in
+    let l = lent_of c.args.lent c.args.entries.now c.args.incoming.now in
+    let ops = ops_in c.args.list in (
+      (c.in_ok-so_far.ensures).kept,
+      turn_left (numbers_in c.args.before) l (take c.args.list.count c.args.list.ops) (asked r l ops) (end r l ops)
+          (midst_of v.so_far.start (raw v.so_far.index v.log v.snapshot)) v.o-index v.invariant.1 c.loop-o-test.true
+          c.in_ok-so_far.so_far c.step.new.log c.step.new.snapshot c.in_ok-so_far.ensures,
     )
 
-pub judge_last-answer-requires : goal.judge_last-answer-requires
-judge_last-answer-requires c =
-    record {
-      kept = c.loop-i.invariant.1.0;
-      small = sound_small (numbers_in c.args.before) c.requires.ready.numbers;
-    }
+pub returns-in_err-judge_last : goal.returns-in_err-judge_last
+returns-in_err-judge_last c =
+    let v = c.loop-o in
+    let r = raw c.args.before c.args.log.now c.args.snapshot.now in
+    let l = lent_of c.args.lent c.args.entries.now c.args.incoming.now in
+    let ops = ops_in c.args.list in
+    let x = raw v.so_far.index v.log v.snapshot in
+    rw (passed_up c.from_residual-in_err-judge_last.result _ c.from_residual-in_err-judge_last.ensures.1)
+    (last_refused r l ops (numbers_in c.args.before) v.so_far.start x v.invariant.0
+    (ended (numbers_in c.args.before) l (take c.args.list.count c.args.list.ops) (asked r l ops) (end r l ops)
+    (midst_of v.so_far.start x) v.o-index v.invariant.1 c.loop-o-test.false)
+    _ c.in_err-judge_last.ensures)
 
 pub returns : goal.returns
 returns c =
-    let v = c.loop-i in
-    let x = raw v.index v.log v.snapshot in
-    wrote (raw c.args.before c.args.log.now c.args.snapshot.now) (lent_of c.args.lent c.args.entries.now c.args.incoming.now) (ops_in c.args.list) (numbers_in c.args.before)
-    v.start x c.judge_last-answer.result v.invariant.1.0
-    (ended (numbers_in c.args.before) (lent_of c.args.lent c.args.entries.now c.args.incoming.now) c.args.list.ops c.args.list.count c.requires.few
-    (eight (goal.at.returns c).Start) (asked (raw c.args.before c.args.log.now c.args.snapshot.now) (lent_of c.args.lent c.args.entries.now c.args.incoming.now) (ops_in c.args.list)) (end (raw c.args.before c.args.log.now c.args.snapshot.now) (lent_of c.args.lent c.args.entries.now c.args.incoming.now) (ops_in c.args.list))
-    (midst_of v.start x) v.i v.invariant.1.1 c.loop-i-test.false)
-    c.judge_last-answer.ensures
+    let v = c.loop-o in
+    let r = raw c.args.before c.args.log.now c.args.snapshot.now in
+    let l = lent_of c.args.lent c.args.entries.now c.args.incoming.now in
+    let ops = ops_in c.args.list in
+    let x = raw v.so_far.index v.log v.snapshot in
+    stood r l ops (numbers_in c.args.before) v.so_far.start x v.invariant.0
+    (ended (numbers_in c.args.before) l (take c.args.list.count c.args.list.ops) (asked r l ops) (end r l ops)
+    (midst_of v.so_far.start x) v.o-index v.invariant.1 c.loop-o-test.false)
+    c.in_ok-judge_last.ensures

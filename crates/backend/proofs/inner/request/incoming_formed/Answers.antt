@@ -4,5 +4,4 @@ use Rattle.backend.proofs.inner.request.incoming_formed.Goals as goal
 
 pub returns : goal.returns
 unfolding incoming_formed
-returns c =
-    cc
+returns c = cc

@@ -3,11 +3,6 @@ use Rattle.words.proofs.Prelude.{arith, ◌≡◌, length}
 use Rattle.entry.specs.Limits.{most_ops}
 use Rattle.backend.proofs.Requests.{too_many, request_is}
 use Rattle.backend.proofs.inner.request.request_formed.Goals as goal
-use Rattle.backend.proofs.inner.request.request_formed.Goals.{Start}
-
-eight : (st : Start) → length st.args.list.ops ≡ most_ops
-eight st =
-    omega arith
 
 pub returns-then-count-gt-OPERATIONS : goal.returns-then-count-gt-OPERATIONS
 returns-then-count-gt-OPERATIONS c =
@@ -15,6 +10,11 @@ returns-then-count-gt-OPERATIONS c =
 
 pub returns : goal.returns
 returns c =
-    simp (c.all_supplied-ready.ensures, c.sign_formed-sign.ensures, c.incoming_formed-keys.ensures, c.entries_formed-fine.ensures)
-    (request_is c.args.lent c.args.entries.now c.args.incoming.now c.args.list
-    c.if-count-gt-OPERATIONS.false (eight (goal.at.returns c).Start))
+    let eight : length c.args.list.ops ≡ most_ops = omega arith in
+    simp (
+      c.all_supplied-ready.ensures,
+      c.sign_formed-sign.ensures,
+      c.incoming_formed-keys.ensures,
+      c.entries_formed-fine.ensures,
+    )
+    (request_is c.args.lent c.args.entries.now c.args.incoming.now c.args.list c.if-count-gt-OPERATIONS.false eight)

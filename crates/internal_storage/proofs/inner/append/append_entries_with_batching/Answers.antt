@@ -9,7 +9,8 @@ use Rattle.internal_storage.proofs.inner.append.append_entries_with_batching.Goa
 pub returns-then-not-entries_formed : goal.returns-then-not-entries_formed
 unfolding malformed
 returns-then-not-entries_formed c =
-    slice_refused (append (entries_in c.args.entries.now)) c.args.entries.now (raw c.args.index c.args.log.now c.args.snapshot.now) refl
+    slice_refused (append (entries_in c.args.entries.now)) c.args.entries.now
+    (raw c.args.index c.args.log.now c.args.snapshot.now) refl
     c.requires.okay (sym c.entries_formed.ensures ∙ c.if-not-entries_formed.true)
 
 pub append_at-requires : goal.append_at-requires

@@ -3,8 +3,7 @@ use Rattle.words.proofs.Prelude.{sym, ap, ◌∙◌, not}
 use Rattle.model.specs.Calls.{append_stop, malformed}
 use Rattle.state_cache.specs.State.{raw}
 use Rattle.state_cache.proofs.Runs.{bad_call}
-use Rattle.internal_storage.specs.Replies.{append_said}
-use Rattle.internal_storage.proofs.{Effects.append_stop_run}
+use Rattle.internal_storage.proofs.Effects.{append_stop_run}
 use Rattle.internal_storage.proofs.inner.stop.append_stopsign.Goals as goal
 
 pub returns-then-not-sign_formed : goal.returns-then-not-sign_formed
@@ -13,13 +12,7 @@ returns-then-not-sign_formed c =
     bad_call (append_stop c.args.ss) (raw c.args.index c.args.log.now c.args.snapshot.now) c.requires.okay
     (ap not (sym c.sign_formed.ensures ∙ c.if-not-sign_formed.true))
 
-pub append_stop_at-requires : goal.append_stop_at-requires
-append_stop_at-requires c =
-    c.requires.numbers
-
 pub returns : goal.returns
 returns c =
     append_stop_run (raw c.args.index c.args.log.now c.args.snapshot.now) c.requires.okay c.args.ss
-    (sym c.sign_formed.ensures ∙ c.if-not-sign_formed.false)
-    (append_said c.append_stop_at.result.answer) c.append_stop_at.result.index
-    c.append_stop_at.ensures
+    (sym c.sign_formed.ensures ∙ c.if-not-sign_formed.false) c.append_stop_at.result c.append_stop_at.ensures

@@ -32,7 +32,7 @@ module _ (b : CodeLent) (entries incoming : List ℕ) (f : Lends b entries incom
 
 -- the operations of a list by value, one after the other
 module _ (ops : List CodeOp) (n : ℕ) (few : n ≤ most_ops) (eight : length ops ≡ most_ops) where
-  ops_length : length (map op_of (take n ops)) ≡ n
+  pub ops_length : length (map op_of (take n ops)) ≡ n
   ops_length = length-map (take n ops) op_of ∙ length-take-le n ops (omega arith)
 
 -- a test of each operation, as std has it

@@ -88,11 +88,15 @@ module _ (ps : Peers) (ms : Outgoing) (from round : ℕ) (h : Listed ps ms) wher
   abbrev requests : ℕ → List BLEMessage
   requests i = requested ps ms from round i
 
+  pub requests_length : (i : ℕ) → i ≤ ps.count → length (requests i) ≡ ms.count + i
+  requests_length i k =
+      length-append (messages_in ms) _
+      ∙ ap₂ ◌+◌ (held_length h.outgoing)
+      (length-map (take i (peers_in ps)) (request from round) ∙ length-take-le i (peers_in ps) (omega (arith, held_length h.peers, k)))
+
   requests_few : (i : ℕ) → i < length (peers_in ps) → length (requests i) < most_outgoing
   requests_few i k =
-      let e : length (requests i) ≡ ms.count + i = length-append (messages_in ms) _
-      ∙ ap₂ ◌+◌ (held_length h.outgoing)
-      (length-map (take i (peers_in ps)) (request from round) ∙ length-take-le i (peers_in ps) (omega (arith, k))) in
+      let e : length (requests i) ≡ ms.count + i = requests_length i (omega (arith, k, held_length h.peers)) in
       omega (arith, e, k, held_length h.peers, h.room)
 
   pub none_yet : ms ≡ laid_messages (requests 0)

@@ -1,6 +1,6 @@
 -- The log's words after a splice of whole entries, and the state of a log reloaded.
 use Rattle.words.proofs.Prelude.{arith, ◌≡◌, refl, sym, ap, ap₂, ◌∙◌, ℕ, ◌+◌, ◌-◌, ◌*◌, ◌≤◌, Bool, true, false, ◌&&◌}
-use Rattle.words.proofs.Prelude.{eqb, leb, eqb-true, List, [], append-nil, ◌++◌, length-append, length}
+use Rattle.words.proofs.Prelude.{eqb, leb, eq-eqb, eqb-true, le-leb, List, [], append-nil, ◌++◌, length-append, length}
 use Rattle.words.proofs.Prelude.{take, replicate}
 use lib.Seq.{paste}
 use Rattle.words.specs.{Words.laid, Words.spliced, Coded.words_of}
@@ -111,3 +111,9 @@ module _ (n : ℕ) (log snapshot : List ℕ) where
       (eqb-true (length snapshot) snapshot_words (and_right (eqb (length log) log_words) _ e₂)) in
       rw e (ap₂ (λ (a b : List ℕ). outcome (replied tt) (raw (index_of (fresh_log n)) a b)) l m
       ∙ ap (outcome (replied tt)) (sym (zeros_fresh n)))
+
+pub fresh_starts : (n : ℕ) (log snapshot : List ℕ) → n ≤ largest_batch → length log ≡ log_words
+    → length snapshot ≡ snapshot_words → (fresh_call n log snapshot).after ≡ raw_of (fresh_log n)
+unfolding fresh_call
+fresh_starts n log snapshot h l k =
+    rw (le-leb n largest_batch h, eq-eqb (length log) log_words l, eq-eqb (length snapshot) snapshot_words k)

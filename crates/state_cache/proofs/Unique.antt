@@ -1,7 +1,7 @@
 -- Two answers that meet a claim, and the states beside them, are one.
 use Rattle.words.proofs.Prelude.{◌≡◌, refl, sym, ap, ap₂, ◌∙◌, List, ℕ, Bool}
 use Rattle.std.specs.Prelude.{Result, Ok, Err}
-use Rattle.entry.specs.{Guards.Answer, Guards.replied, declared.Refusal.Refusal}
+use Rattle.entry.specs.{Guards.Answer, Guards.replied, declared.LogIndex.LogIndex, declared.Refusal.Refusal}
 use Rattle.entry.proofs.RefusalLaws.{apart, refusal_known, said_known}
 use Rattle.state_cache.specs.Run.{Outcome, outcome, index_at, index_said, flag, settled, changed, changed_at}
 use Rattle.state_cache.specs.State.{Raw}
@@ -73,3 +73,8 @@ module _ (old : IndexRecord) (l m s t : List ℕ) where
     changed_at_unique (Ok (x, y)) (Err r) e = apart _ _ _ (answer_same _ _ e)
     changed_at_unique (Err r) (Ok (z, w)) e = apart _ _ _ (sym (answer_same _ _ e))
     changed_at_unique (Err r) (Err q) e = (ap Err (refusal_known r q (answer_same _ _ e)), words_same _ _ e)
+
+  -- of the calls that say the accepted index beside the record
+  pub index_answer_unique : (a b : Result (IndexRecord × LogIndex) Refusal)
+      → changed_at index_at old a l s ≡ changed_at index_at old b m t → (a ≡ b) × ((l ≡ m) × (s ≡ t))
+  index_answer_unique = changed_at_unique index_at index_known

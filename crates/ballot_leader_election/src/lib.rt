@@ -1,5 +1,5 @@
 // The leader election of document 003, request E8 of document 02. It stands apart from the log: a node's state goes
-// into a call by value and comes back beside the answer. A contract is one equation: the answer and the whole state
+// into a call by value and comes back in the answer. A contract is one equation: the answer and the whole state
 // after the call, which where it is refused is the one that was lent. Names are the Rust's.
 #![tactic(auto)]
 

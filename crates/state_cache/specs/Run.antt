@@ -62,7 +62,7 @@ changed_at f old (Ok (next, y)) log snapshot = outcome (replied (f y)) (raw next
 changed_at f old (Err r) log snapshot = outcome (refused_by r) (raw old log snapshot)
 
 -- a fresh log: 11 for a batch size above 64 or a slice of wrong length; there is no record yet, and the one beside a
--- refusal is that of a log with batch size 0
+-- refusal, which the boundary hands back, is that of a log with batch size 0
 unfoldable pub fresh_call : ℕ → List ℕ → List ℕ → Outcome (Unit {0})
 fresh_call n log snapshot =
     if leb n largest_batch && (eqb (length log) log_words && eqb (length snapshot) snapshot_words)

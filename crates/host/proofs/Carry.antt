@@ -4,7 +4,7 @@ use Rattle.std.specs.Prelude.{Result, Ok, Err}
 use Rattle.words.proofs.CodedLaws.{entries_length}
 use Rattle.entry.specs.{Limits.width, Change.change_code, Guards.Answer, Guards.said_by, declared.Refusal.Refusal}
 use Rattle.snapshot.specs.Calls.{Outcome as Fold, outcome as fold, folded}
-use Rattle.state_cache.specs.{State.raw, declared.IndexRecord.IndexRecord, Run.Outcome, Run.outcome, Run.settled}
+use Rattle.state_cache.specs.{State.Raw, State.raw, declared.IndexRecord.IndexRecord, Run.Outcome, Run.outcome, Run.settled}
 use Rattle.state_cache.specs.Run.{changed, changed_at}
 use Rattle.host.specs.{declared.Said.Said, declared.Reply.Reply, Plain.plain, Plain.a_number, Plain.left, Plain.said_of}
 use Rattle.host.specs.{Plain.nothing, Plain.plainly, Plain.wrote, Plain.wrote_as, Plain.filled_as, Plain.reply_of}
@@ -23,6 +23,11 @@ told_by g f (Err r) = refl
 pub carry_told : {A B : Type 0} (g : B → Said) (f : A → B) (r : Result A Refusal) {t : Said} {o : Answer B}
     → t ≡ said_of (λ (y : A). g (f y)) r → said_by f r ≡ o → t ≡ plain g o
 carry_told g f r e q = e ∙ told_by g f r ∙ ap (plain g) q
+
+-- and of one on the record where it stands, and the words beside it
+pub carry_left : {A B : Type 0} (g : B → Said) (f : A → B) (r : Result A Refusal) {t : Said} {x : Raw} {o : Outcome B}
+    → t ≡ said_of (λ (y : A). g (f y)) r → outcome (said_by f r) x ≡ o → left t x ≡ plainly g o
+carry_left g f r {t} {x} {o} e q = ap (λ (u : Said). left u x) (e ∙ told_by g f r) ∙ ap (plainly g) q
 
 -- a part of the log by its count, and a diff by its number of keys
 pub part_told : (log : List ℕ) (p : Span) → a_part p ≡ a_span (span_is log p)

@@ -185,12 +185,11 @@ pub extern "C" fn kotuseraw_inner_append_entry_with_batching(
         (raw index log.old snapshot.now)) }
 {
     let entry = asked::entry_said(removed, place);
-    answers::reply(
-        index,
-        internal_storage::inner::append::append_entry_with_batching(
-            index, log, snapshot, key, entry,
-        ),
-    )
+    let mut next = index;
+    let said = answers::said(internal_storage::inner::append::append_entry_with_batching(
+        &mut next, log, snapshot, key, entry,
+    ));
+    Reply { said, index: next }
 }
 
 // Adds entries to the batch; once it has as many as the batch size, or more, all of it flushes.
@@ -206,12 +205,13 @@ pub extern "C" fn kotuseraw_inner_append_entries_with_batching(
         ≡ plainly maybe_flushed (run (append (entries_in entries.now)) (whole_in entries.now)
         (raw index log.old snapshot.now)) }
 {
-    answers::reply(
-        index,
+    let mut next = index;
+    let said = answers::said(
         internal_storage::inner::append::append_entries_with_batching(
-            index, log, snapshot, entries,
+            &mut next, log, snapshot, entries,
         ),
-    )
+    );
+    Reply { said, index: next }
 }
 
 // The same, and of a flush it tells the accepted index alone.
@@ -228,12 +228,13 @@ pub extern "C" fn kotuseraw_inner_append_entries_and_get_accepted_idx(
         (with_index_only (run (append (entries_in entries.now)) (whole_in entries.now)
         (raw index log.old snapshot.now))) }
 {
-    answers::reply(
-        index,
+    let mut next = index;
+    let said = answers::said(
         internal_storage::inner::append::append_entries_and_get_accepted_idx(
-            index, log, snapshot, entries,
+            &mut next, log, snapshot, entries,
         ),
-    )
+    );
+    Reply { said, index: next }
 }
 
 // Adds entries at the end of the log, before the batch, and tells the accepted index.
@@ -250,12 +251,13 @@ pub extern "C" fn kotuseraw_inner_append_entries_without_batching(
         (run (append_now (entries_in entries.now)) (whole_in entries.now)
         (raw index log.old snapshot.now)) }
 {
-    answers::reply(
-        index,
+    let mut next = index;
+    let said = answers::said(
         internal_storage::inner::append::append_entries_without_batching(
-            index, log, snapshot, entries,
+            &mut next, log, snapshot, entries,
         ),
-    )
+    );
+    Reply { said, index: next }
 }
 
 // Flushes the batch, and tells the accepted index.
@@ -269,10 +271,9 @@ pub extern "C" fn kotuseraw_inner_flush_batch(
     ensures { left result.said (raw result.index log.now snapshot.now)
         ≡ plainly a_number (run flush true (raw index log.now snapshot.now)) }
 {
-    answers::reply(
-        index,
-        internal_storage::inner::flush::flush_batch(index, log, snapshot),
-    )
+    let mut next = index;
+    let said = answers::said(internal_storage::inner::flush::flush_batch(&mut next, log, snapshot));
+    Reply { said, index: next }
 }
 
 // Flushes the batch, and tells the accepted index and how many entries it had, or nothing where it was empty.
@@ -286,10 +287,11 @@ pub extern "C" fn kotuseraw_inner_flush_batch_and_get_entries(
     ensures { left result.said (raw result.index log.now snapshot.now)
         ≡ plainly maybe_flushed (run flush_entries true (raw index log.now snapshot.now)) }
 {
-    answers::reply(
-        index,
-        internal_storage::inner::flush::flush_batch_and_get_entries(index, log, snapshot),
-    )
+    let mut next = index;
+    let said = answers::said(internal_storage::inner::flush::flush_batch_and_get_entries(
+        &mut next, log, snapshot,
+    ));
+    Reply { said, index: next }
 }
 
 // Flushes the batch and appends a stop-sign. Tells what was flushed, the stop-sign not counted.
@@ -304,10 +306,11 @@ pub extern "C" fn kotuseraw_inner_append_stopsign(
     ensures { left result.said (raw result.index log.now snapshot.now)
         ≡ plainly maybe_flushed (run (append_stop ss) true (raw index log.now snapshot.now)) }
 {
-    answers::reply(
-        index,
-        internal_storage::inner::stop::append_stopsign(index, log, snapshot, ss),
-    )
+    let mut next = index;
+    let said = answers::said(internal_storage::inner::stop::append_stopsign(
+        &mut next, log, snapshot, ss,
+    ));
+    Reply { said, index: next }
 }
 
 // Sets the stop-sign. Where `held` is not set it is taken away, and `ss` is not looked at.
@@ -324,10 +327,14 @@ pub extern "C" fn kotuseraw_inner_set_stopsign(
         ≡ plainly a_number
         (run (set_stop (of_flag held ss)) true (raw index log.now snapshot.now)) }
 {
-    answers::reply(
-        index,
-        internal_storage::inner::stop::set_stopsign(index, log, snapshot, held.then_some(ss)),
-    )
+    let mut next = index;
+    let said = answers::said(internal_storage::inner::stop::set_stopsign(
+        &mut next,
+        log,
+        snapshot,
+        held.then_some(ss),
+    ));
+    Reply { said, index: next }
 }
 
 // Sets the promised ballot.
@@ -342,10 +349,11 @@ pub extern "C" fn kotuseraw_inner_set_promise(
     ensures { left result.said (raw result.index log.now snapshot.now)
         ≡ plainly nothing (run (set_promise n_prom) true (raw index log.now snapshot.now)) }
 {
-    answers::settled(
-        index,
-        internal_storage::inner::decide::set_promise(index, log, snapshot, n_prom),
-    )
+    let mut next = index;
+    let said = answers::said(internal_storage::inner::decide::set_promise(
+        &mut next, log, snapshot, n_prom,
+    ));
+    Reply { said, index: next }
 }
 
 // Moves the decided index.
@@ -360,10 +368,11 @@ pub extern "C" fn kotuseraw_inner_set_decided_idx(
     ensures { left result.said (raw result.index log.now snapshot.now)
         ≡ plainly nothing (run (decide idx.0) true (raw index log.now snapshot.now)) }
 {
-    answers::settled(
-        index,
-        internal_storage::inner::decide::set_decided_idx(index, log, snapshot, idx),
-    )
+    let mut next = index;
+    let said = answers::said(internal_storage::inner::decide::set_decided_idx(
+        &mut next, log, snapshot, idx,
+    ));
+    Reply { said, index: next }
 }
 
 // Compacts the entries below an index, or all that is log-decided.

@@ -19,13 +19,14 @@ use Rattle.model.specs.Calls.{Call, Reply, append, append_now, flush, flush_entr
 use Rattle.model.specs.Calls.{decide, decide_guards, malformed, further, effect, reply_of}
 use Rattle.state_cache.specs.{State.Raw, State.raw, State.numbers_in, State.formed, State.log_of, State.sign_or}
 use Rattle.state_cache.specs.{Inner.with_entries, Inner.with_stop, Inner.with_decided, Inner.with_promise}
-use Rattle.state_cache.specs.{Run.Outcome, Run.outcome, Run.run, Run.changed, Run.changed_at, Run.index_at}
+use Rattle.state_cache.specs.{Run.Outcome, Run.outcome, Run.run, Run.changed_at}
 use Rattle.state_cache.specs.declared.IndexRecord.{IndexRecord}
 use Rattle.state_cache.proofs.{Stands.Stands, Stands.stands_of, Stands.numbers_are}
 use Rattle.state_cache.proofs.{Stands.log_formed, Runs.call_refused, Runs.call_stands, Changes.held_length}
 use Rattle.state_cache.proofs.{Changes.log_spliced}
 use Rattle.internal_storage.specs.Replies.{flushed_is, sign_is}
-use Rattle.internal_storage.specs.Inner.{next_said, next_at, flushed_at, held_at, batched_with, all_flushed, flush_says}
+use Rattle.internal_storage.specs.Inner.{Indexed, indexed, by_numbers, next_at, flushed_at, held_at, batched_with, all_flushed}
+use Rattle.internal_storage.specs.Inner.{flush_says}
 use Rattle.internal_storage.specs.declared.Flushed.{Flushed as CodeFlushed}
 
 module _ (r : Raw) (ok : formed r ≡ true) where
@@ -42,6 +43,15 @@ module _ (r : Raw) (ok : formed r ≡ true) where
   abbrev came : {B : Type 0} → Answer (IndexRecord × B) → Outcome B
   came (replied p) = outcome (replied p.1) (raw p.0 r.log r.snapshot)
   came (refused n k) = outcome (refused n k) r
+
+  -- and by its answer and the record where it stands
+  abbrev stood : {B : Type 0} → Indexed B → Outcome B
+  stood z = outcome z.answer (raw z.index r.log r.snapshot)
+
+  same_way : {B : Type 0} (v : Verdict) (y : B) (next : IndexRecord)
+      → stood (by_numbers v y next r.index) ≡ came (settle v (next, y))
+  same_way passes y next = refl
+  same_way (refuses n k) y next = refl
 
   -- one whose refusals are a function of the numbers
   module _ (c : Call) (gs : Numbers → List Guard) (same : further c s ≡ gs (numbers_of s))
@@ -69,6 +79,15 @@ module _ (r : Raw) (ok : formed r ≡ true) where
     numbers_run_at f y next stands (Ok p) e = numbers_run y next stands _ e
     numbers_run_at f y next stands (Err x) e = numbers_run y next stands _ e
 
+    pub numbers_stand : (y : Reply c) (next : IndexRecord)
+        → (passes ≡ first (gs (numbers_in r.index)) → (y ≡ reply_of c s)
+        × Stands (effect c s) (raw next r.log r.snapshot))
+        → (a : Answer (Reply c)) (x : IndexRecord)
+        → indexed a x ≡ by_numbers (first (gs (numbers_in r.index))) y next r.index
+        → outcome a (raw x r.log r.snapshot) ≡ run c true r
+    numbers_stand y next stands a x e =
+        ap stood e ∙ same_way (first (gs (numbers_in r.index))) y next ∙ numbers_run y next stands _ refl
+
   -- a call with no refusal of its own
   pub quiet_stands : (c : Call) → further c s ≡ [] → malformed c ≡ false → (y : Reply c) (x : Raw) → y ≡ reply_of c s
       → Stands (effect c s) x → outcome (replied y) x ≡ run c true r
@@ -88,14 +107,12 @@ module _ (r : Raw) (ok : formed r ≡ true) where
     snapshot = st.snapshot;
   }
 
-  pub decide_run : (i : LogIndex) (a : Result IndexRecord Refusal)
-      → next_said a ≡ settle (first (decide_guards i.0 (numbers_in r.index))) (with_decided i r.index, tt)
-      → changed r.index a r.log r.snapshot ≡ run (decide i.0) true r
+  pub decide_run : (i : LogIndex) (a : Answer (Unit {0})) (x : IndexRecord)
+      → indexed a x ≡ by_numbers (first (decide_guards i.0 (numbers_in r.index))) tt (with_decided i r.index) r.index
+      → outcome a (raw x r.log r.snapshot) ≡ run (decide i.0) true r
   unfolding further malformed reply_of
-  decide_run i (Ok x) e =
-      numbers_run (decide i.0) (decide_guards i.0) refl refl tt _ (λ q. (refl, decided_stands i.0)) _ e
-  decide_run i (Err x) e =
-      numbers_run (decide i.0) (decide_guards i.0) refl refl tt _ (λ q. (refl, decided_stands i.0)) _ e
+  decide_run i a x e =
+      numbers_stand (decide i.0) (decide_guards i.0) refl refl tt _ (λ q. (refl, decided_stands i.0)) a x e
 
   pub promised_stands : (b : Ballot)
       → Stands (effect (set_promise b) s) (raw (with_promise b r.index) r.log r.snapshot)
@@ -151,19 +168,19 @@ module _ (r : Raw) (ok : formed r ≡ true) where
     snapshot = st.snapshot;
   }
 
-  set_run : (g : Option StopSign) → if_given sign_formed g ≡ true → (a : Result (IndexRecord × LogIndex) Refusal)
-      → next_at index_at a ≡ settle (first (set_stop_guards (given g) (numbers_in r.index)))
-      (with_stop (given g) (sign_or g) r.index, accepted_of (numbers_in (with_stop (given g) (sign_or g) r.index)))
-      → changed_at index_at r.index a r.log r.snapshot ≡ run (set_stop g) true r
+  set_run : (g : Option StopSign) → if_given sign_formed g ≡ true → (a : Answer ℕ) (x : IndexRecord)
+      → indexed a x ≡ by_numbers (first (set_stop_guards (given g) (numbers_in r.index)))
+      (accepted_of (numbers_in (with_stop (given g) (sign_or g) r.index))) (with_stop (given g) (sign_or g) r.index)
+      r.index → outcome a (raw x r.log r.snapshot) ≡ run (set_stop g) true r
   unfolding further malformed effect reply_of
-  set_run g fine a e =
-      numbers_run_at (set_stop g) (set_stop_guards (given g)) refl (rw fine) index_at _
+  set_run g fine a x e =
+      numbers_stand (set_stop g) (set_stop_guards (given g)) refl (rw fine) _
       (with_stop (given g) (sign_or g) r.index)
       (λ q. (
         ap accepted_of (sym (numbers_are (stop_set g s) (raw (with_stop (given g) (sign_or g) r.index) r.log r.snapshot)
             (stop_set_stands g))),
         stop_set_stands g,
-      )) a e
+      )) a x e
 
   pub flush_says_lem : flush_says r.index ≡ reply_of flush_entries s
   unfolding reply_of flush_reply flush_says
@@ -191,24 +208,22 @@ module _ (r : Raw) (ok : formed r ≡ true) where
       (sym (numbers_are (flushed s) (raw (all_flushed r.index) r.log r.snapshot) flushed_stands)))
       flushed_stands
 
-  pub append_stop_run : (g : StopSign) → sign_formed g ≡ true
-      → (a : Result (IndexRecord × Optional CodeFlushed) Refusal)
-      → next_at flushed_is a ≡ settle (first (append_stop_guards (numbers_in r.index)))
-      (with_stop true g (all_flushed r.index), flush_says r.index)
-      → changed_at flushed_is r.index a r.log r.snapshot ≡ run (append_stop g) true r
+  pub append_stop_run : (g : StopSign) → sign_formed g ≡ true → (a : Answer (Option Flushed)) (x : IndexRecord)
+      → indexed a x ≡ by_numbers (first (append_stop_guards (numbers_in r.index))) (flush_says r.index)
+      (with_stop true g (all_flushed r.index)) r.index
+      → outcome a (raw x r.log r.snapshot) ≡ run (append_stop g) true r
   unfolding further malformed effect reply_of
-  append_stop_run g fine a e =
-      numbers_run_at (append_stop g) append_stop_guards refl (rw fine) flushed_is (flush_says r.index)
-      (with_stop true g (all_flushed r.index)) (λ q. (flush_says_lem, stop_stands g)) a e
+  append_stop_run g fine a x e =
+      numbers_stand (append_stop g) append_stop_guards refl (rw fine) (flush_says r.index)
+      (with_stop true g (all_flushed r.index)) (λ q. (flush_says_lem, stop_stands g)) a x e
 
   pub set_stop_run : (ss : Optional StopSign) → if_given sign_formed (sign_is ss) ≡ true
-      → (a : Result (IndexRecord × LogIndex) Refusal)
+      → (a : Answer ℕ) (x : IndexRecord)
       → (let next = with_stop (is_some ss) (unwrap_or ss no_sign) r.index in
-      next_at index_at a ≡ settle (first (set_stop_guards (is_some ss) (numbers_in r.index)))
-      (next, accepted_of (numbers_in next)))
-      → changed_at index_at r.index a r.log r.snapshot ≡ run (set_stop (sign_is ss)) true r
-  set_stop_run None fine a e = set_run none refl a e
-  set_stop_run (Some g) fine a e = set_run (some g) fine a e
+      indexed a x ≡ by_numbers (first (set_stop_guards (is_some ss) (numbers_in r.index))) (accepted_of (numbers_in next))
+      next r.index) → outcome a (raw x r.log r.snapshot) ≡ run (set_stop (sign_is ss)) true r
+  set_stop_run None fine a x e = set_run none refl a x e
+  set_stop_run (Some g) fine a x e = set_run (some g) fine a x e
 
   -- ---- entries put into the log's words
 

@@ -2,3 +2,4 @@ pub mod Effects
 pub mod Arguments
 pub mod Unique
 pub mod Verdicts
+pub mod Handed

@@ -4,7 +4,7 @@ use Rattle.std.specs.Prelude.{Option as Optional, Some, None, Result, Ok, Err}
 use Rattle.std.proofs.Math.Option.{Option, none, some}
 use Rattle.entry.specs.Limits.{width}
 use Rattle.entry.specs.Change.{entries_formed, entries_of}
-use Rattle.entry.specs.Guards.{Verdict, passes, refuses, Answer, said_by}
+use Rattle.entry.specs.Guards.{Verdict, passes, refuses, Answer, refused, replied, said_by}
 use Rattle.entry.specs.Refusals.{number_of, carried_of}
 use Rattle.entry.specs.declared.Refusal.{Refusal}
 use Rattle.model.specs.Numbers.{accepted_of}
@@ -18,10 +18,19 @@ abbrev pub verdict_of : Result (Unit {0}) Refusal → Verdict
 verdict_of (Ok u) = passes
 verdict_of (Err r) = refuses (number_of r) (carried_of r)
 
--- what a call that moves no word says: the record after it, and its reply beside it
-abbrev pub next_said : Result IndexRecord Refusal → Answer (IndexRecord × Unit {0})
-next_said r = said_by (λ (x : IndexRecord). (x, tt)) r
+-- what a call that moves no word comes to: its answer and the record after it, by the first refusal that applies
+pub record Indexed (A : Type 0) : Type 0 where
+  pub answer : Answer A
+  pub index : IndexRecord
 
+abbrev pub indexed : {A : Type 0} → Answer A → IndexRecord → Indexed A
+indexed a x = record { answer = a; index = x }
+
+abbrev pub by_numbers : {A : Type 0} → Verdict → A → IndexRecord → IndexRecord → Indexed A
+by_numbers passes y next x = indexed (replied y) next
+by_numbers (refuses n k) y next x = indexed (refused n k) x
+
+-- what one says that hands the record back: the record after it, and its reply beside it
 abbrev pub next_at : {A B : Type 0} → (A → B) → Result (IndexRecord × A) Refusal → Answer (IndexRecord × B)
 next_at {A} f r = said_by (λ (p : IndexRecord × A). (p.0, f p.1)) r
 

@@ -27,7 +27,11 @@ pub fn append_entry_with_batching(
     if !state_cache::well_formed(index, log, snapshot) {
         return Err(Refusal::IllFormed);
     }
-    super::inner::append::append_entry_with_batching(index, log, snapshot, key, said)
+    let mut next = index;
+    let flushed = super::inner::append::append_entry_with_batching(
+        &mut next, log, snapshot, key, said,
+    )?;
+    Ok((next, flushed))
 }
 
 // The entries that the words lend, into the batch, as one.
@@ -44,7 +48,11 @@ pub fn append_entries_with_batching(
     if !state_cache::well_formed(index, log, snapshot) {
         return Err(Refusal::IllFormed);
     }
-    super::inner::append::append_entries_with_batching(index, log, snapshot, entries)
+    let mut next = index;
+    let flushed = super::inner::append::append_entries_with_batching(
+        &mut next, log, snapshot, entries,
+    )?;
+    Ok((next, flushed))
 }
 
 // The batch is flushed, then the entries that the words lend stand after it. The reply is the accepted index.
@@ -61,7 +69,11 @@ pub fn append_entries_without_batching(
     if !state_cache::well_formed(index, log, snapshot) {
         return Err(Refusal::IllFormed);
     }
-    super::inner::append::append_entries_without_batching(index, log, snapshot, entries)
+    let mut next = index;
+    let accepted = super::inner::append::append_entries_without_batching(
+        &mut next, log, snapshot, entries,
+    )?;
+    Ok((next, accepted))
 }
 
 // As `append_entries_with_batching`, with the accepted index alone for a reply, and nothing where none was flushed.
@@ -79,5 +91,9 @@ pub fn append_entries_and_get_accepted_idx(
     if !state_cache::well_formed(index, log, snapshot) {
         return Err(Refusal::IllFormed);
     }
-    super::inner::append::append_entries_and_get_accepted_idx(index, log, snapshot, entries)
+    let mut next = index;
+    let accepted = super::inner::append::append_entries_and_get_accepted_idx(
+        &mut next, log, snapshot, entries,
+    )?;
+    Ok((next, accepted))
 }

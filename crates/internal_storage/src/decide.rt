@@ -20,7 +20,9 @@ pub fn set_decided_idx(
     if !state_cache::well_formed(index, log, snapshot) {
         return Err(Refusal::IllFormed);
     }
-    super::inner::decide::set_decided_idx(index, log, snapshot, idx)
+    let mut next = index;
+    super::inner::decide::set_decided_idx(&mut next, log, snapshot, idx)?;
+    Ok(next)
 }
 
 // Keeps the ballot that was promised, whatever it was before.
@@ -36,5 +38,7 @@ pub fn set_promise(
     if !state_cache::well_formed(index, log, snapshot) {
         return Err(Refusal::IllFormed);
     }
-    super::inner::decide::set_promise(index, log, snapshot, n_prom)
+    let mut next = index;
+    super::inner::decide::set_promise(&mut next, log, snapshot, n_prom)?;
+    Ok(next)
 }

@@ -21,7 +21,9 @@ pub fn flush_batch(
     if !state_cache::well_formed(index, log, snapshot) {
         return Err(Refusal::IllFormed);
     }
-    super::inner::flush::flush_batch(index, log, snapshot)
+    let mut next = index;
+    let accepted = super::inner::flush::flush_batch(&mut next, log, snapshot)?;
+    Ok((next, accepted))
 }
 
 // Flushes the batch; the reply says how many entries that were, or that there was none.
@@ -36,5 +38,7 @@ pub fn flush_batch_and_get_entries(
     if !state_cache::well_formed(index, log, snapshot) {
         return Err(Refusal::IllFormed);
     }
-    super::inner::flush::flush_batch_and_get_entries(index, log, snapshot)
+    let mut next = index;
+    let flushed = super::inner::flush::flush_batch_and_get_entries(&mut next, log, snapshot)?;
+    Ok((next, flushed))
 }

@@ -1,14 +1,15 @@
 // The parts of the calls that look at numbers alone, and what each call does once no refusal applies. In the modules
-// below, each call of a state that is known to be well formed: the calls of a user judge it first.
+// below, each call of a state that is known to be well formed, on the record where it stands, since a record by value
+// is copied once for each function that it goes through: the calls of a user judge it first.
 ghost use Rattle.std.specs.Prelude.{◌≡◌, ◌+◌, ◌≤◌, true};
-ghost use Rattle.entry.specs.Guards.{first};
+ghost use Rattle.entry.specs.Guards.{first, said_by};
 ghost use Rattle.entry.specs.Limits.{entry_room};
 ghost use Rattle.entry.specs.Change.{entries_of};
 ghost use Rattle.model.specs.Append.{append_guards};
 ghost use Rattle.model.specs.Calls.{append, append_now};
 ghost use Rattle.model.specs.Inner.{Sound};
 ghost use Rattle.state_cache.specs.State.{raw, numbers_in};
-ghost use Rattle.state_cache.specs.Run.{run, index_at, changed_at};
+ghost use Rattle.state_cache.specs.Run.{outcome, run, index_said};
 ghost use Rattle.internal_storage.specs.Replies.{flushed_is};
 ghost use Rattle.internal_storage.specs.Inner.{verdict_of, batched_with, Appends};
 
@@ -41,39 +42,37 @@ pub fn check_append(index: IndexRecord, n: usize) -> Result<(), Refusal>
 
 // The record once n entries have joined the batch: a batch at or above the batch size is flushed, all of it. No word
 // moves for that.
-pub fn batch_with(index: IndexRecord, n: usize) -> (IndexRecord, Option<Flushed>)
-    requires { Sound (numbers_in index) × (index.retained + index.batched + n ≤ entry_room) }
-    ensures { result ≡ batched_with n index }
+pub fn batch_with(index: &mut IndexRecord, n: usize) -> Option<Flushed>
+    requires { Sound (numbers_in index.old) × (index.old.retained + index.old.batched + n ≤ entry_room) }
+    ensures { (index.new, result) ≡ batched_with n index.old }
 {
     let waiting = index.batched + n;
-    let mut next = index;
     if index.batch_size <= waiting as u64 {
-        next.retained = index.retained + waiting;
-        next.batched = 0;
-        let flushed = Flushed {
-            accepted: LogIndex(state_cache::inner::accepted(next)),
+        index.retained += waiting;
+        index.batched = 0;
+        return Some(Flushed {
+            accepted: LogIndex(state_cache::inner::accepted(*index)),
             entries: waiting,
-        };
-        return (next, Some(flushed));
+        });
     }
-    next.batched = waiting;
-    (next, None)
+    index.batched = waiting;
+    None
 }
 
 // Appends n entries in form to a well-formed log, with batching, where no refusal applies.
 pub fn append_at(
-    index: IndexRecord,
+    index: &mut IndexRecord,
     log: &mut [u64],
     snapshot: &[u64],
     entries: &[u64],
     n: usize,
-) -> Result<(IndexRecord, Option<Flushed>), Refusal>
-    requires { Appends (raw index log.old snapshot.now) n entries.now }
-    ensures { changed_at flushed_is index result log.new snapshot.now
+) -> Result<Option<Flushed>, Refusal>
+    requires { Appends (raw index.old log.old snapshot.now) n entries.now }
+    ensures { outcome (said_by flushed_is result) (raw index.new log.new snapshot.now)
         ≡ run (append (entries_of n entries.now)) true
-        (raw index log.old snapshot.now) }
+        (raw index.old log.old snapshot.now) }
 {
-    check_append(index, n)?;
+    check_append(*index, n)?;
     let used = (index.retained + index.batched) * entry::WIDTH;
     words::splice(log, used, used, 0, entries);
     Ok(batch_with(index, n))
@@ -81,21 +80,20 @@ pub fn append_at(
 
 // The same without batching: the entries go before the batch.
 pub fn append_now_at(
-    index: IndexRecord,
+    index: &mut IndexRecord,
     log: &mut [u64],
     snapshot: &[u64],
     entries: &[u64],
     n: usize,
-) -> Result<(IndexRecord, LogIndex), Refusal>
-    requires { Appends (raw index log.old snapshot.now) n entries.now }
-    ensures { changed_at index_at index result log.new snapshot.now
+) -> Result<LogIndex, Refusal>
+    requires { Appends (raw index.old log.old snapshot.now) n entries.now }
+    ensures { outcome (index_said result) (raw index.new log.new snapshot.now)
         ≡ run (append_now (entries_of n entries.now)) true
-        (raw index log.old snapshot.now) }
+        (raw index.old log.old snapshot.now) }
 {
-    check_append(index, n)?;
+    check_append(*index, n)?;
     let used = (index.retained + index.batched) * entry::WIDTH;
     words::splice(log, used, index.retained * entry::WIDTH, 0, entries);
-    let mut next = index;
-    next.retained = index.retained + n;
-    Ok((next, LogIndex(state_cache::inner::accepted(next))))
+    index.retained += n;
+    Ok(LogIndex(state_cache::inner::accepted(*index)))
 }

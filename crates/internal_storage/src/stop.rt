@@ -22,7 +22,9 @@ pub fn append_stopsign(
     if !state_cache::well_formed(index, log, snapshot) {
         return Err(Refusal::IllFormed);
     }
-    super::inner::stop::append_stopsign(index, log, snapshot, ss)
+    let mut next = index;
+    let flushed = super::inner::stop::append_stopsign(&mut next, log, snapshot, ss)?;
+    Ok((next, flushed))
 }
 
 // Without a stop-sign the one held is taken away.
@@ -38,5 +40,7 @@ pub fn set_stopsign(
     if !state_cache::well_formed(index, log, snapshot) {
         return Err(Refusal::IllFormed);
     }
-    super::inner::stop::set_stopsign(index, log, snapshot, ss)
+    let mut next = index;
+    let accepted = super::inner::stop::set_stopsign(&mut next, log, snapshot, ss)?;
+    Ok((next, accepted))
 }

@@ -1,9 +1,9 @@
 use Rattle.internal_storage.specs.Replies.{flushed_is}
-use Rattle.host.proofs.{Carry.carry}
+use Rattle.host.proofs.{Carry.carry_left}
 use Rattle.host.specs.Plain.{maybe_flushed}
 use Rattle.host.proofs.inner.kotuseraw_inner_append_entries_with_batching.Goals as goal
 
 pub returns : goal.returns
 returns c =
-    carry maybe_flushed flushed_is _ _ c.reply.ensures
+    carry_left maybe_flushed flushed_is _ c.said-said.ensures
     c.append_entries_with_batching.ensures

@@ -1,9 +1,9 @@
 use Rattle.state_cache.specs.Run.{index_at}
-use Rattle.host.proofs.{Carry.carry}
+use Rattle.host.proofs.{Carry.carry_left}
 use Rattle.host.specs.Plain.{a_number}
 use Rattle.host.proofs.inner.kotuseraw_inner_append_entries_without_batching.Goals as goal
 
 pub returns : goal.returns
 returns c =
-    carry a_number index_at _ _ c.reply.ensures
+    carry_left a_number index_at _ c.said-said.ensures
     c.append_entries_without_batching.ensures

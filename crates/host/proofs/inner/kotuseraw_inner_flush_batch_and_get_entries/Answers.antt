@@ -1,8 +1,8 @@
 use Rattle.internal_storage.specs.Replies.{flushed_is}
-use Rattle.host.proofs.{Carry.carry}
+use Rattle.host.proofs.{Carry.carry_left}
 use Rattle.host.specs.Plain.{maybe_flushed}
 use Rattle.host.proofs.inner.kotuseraw_inner_flush_batch_and_get_entries.Goals as goal
 
 pub returns : goal.returns
 returns c =
-    carry maybe_flushed flushed_is _ _ c.reply.ensures c.flush_batch_and_get_entries.ensures
+    carry_left maybe_flushed flushed_is _ c.said-said.ensures c.flush_batch_and_get_entries.ensures

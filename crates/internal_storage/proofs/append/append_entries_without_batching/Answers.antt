@@ -2,9 +2,11 @@
 -- well-formed log comes to.
 use Rattle.words.proofs.Prelude.{sym, ◌∙◌}
 use Rattle.entry.specs.Change.{entries_in, whole_in}
+use Rattle.entry.proofs.RefusalLaws.{passed_up}
 use Rattle.model.specs.Calls.{append_now}
 use Rattle.state_cache.specs.State.{raw}
 use Rattle.state_cache.proofs.{Stands.ready_of, Runs.ill_formed}
+use Rattle.internal_storage.proofs.Handed.{handed_back}
 use Rattle.internal_storage.proofs.append.append_entries_without_batching.Goals as goal
 
 pub returns-then-not-well_formed : goal.returns-then-not-well_formed
@@ -16,3 +18,8 @@ returns-then-not-well_formed c =
 pub append_entries_without_batching-requires : goal.append_entries_without_batching-requires
 append_entries_without_batching-requires c =
     ready_of _ (sym c.well_formed-2.ensures ∙ c.if-not-well_formed.false)
+
+pub returns-in_err-accepted : goal.returns-in_err-accepted
+returns-in_err-accepted c =
+    rw (passed_up c.from_residual.result _ c.from_residual.ensures.1)
+    (handed_back (append_now (entries_in c.args.entries.now)) (whole_in c.args.entries.now) (raw c.args.index c.args.log.now c.args.snapshot.now) _ _ _ c.in_err-accepted.ensures)

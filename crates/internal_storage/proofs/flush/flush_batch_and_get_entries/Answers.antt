@@ -1,9 +1,11 @@
 -- `internal_storage::flush::flush_batch_and_get_entries` meets its contract: refusal 12, or what the call on a
 -- well-formed log comes to.
 use Rattle.words.proofs.Prelude.{sym, ◌∙◌, true}
+use Rattle.entry.proofs.RefusalLaws.{passed_up}
 use Rattle.model.specs.Calls.{flush_entries}
 use Rattle.state_cache.specs.State.{raw}
 use Rattle.state_cache.proofs.{Stands.ready_of, Runs.ill_formed}
+use Rattle.internal_storage.proofs.Handed.{handed_back}
 use Rattle.internal_storage.proofs.flush.flush_batch_and_get_entries.Goals as goal
 
 pub returns-then-not-well_formed : goal.returns-then-not-well_formed
@@ -14,3 +16,8 @@ returns-then-not-well_formed c =
 pub flush_batch_and_get_entries-requires : goal.flush_batch_and_get_entries-requires
 flush_batch_and_get_entries-requires c =
     ready_of _ (sym c.well_formed-2.ensures ∙ c.if-not-well_formed.false)
+
+pub returns-in_err-flushed : goal.returns-in_err-flushed
+returns-in_err-flushed c =
+    rw (passed_up c.from_residual.result _ c.from_residual.ensures.1)
+    (handed_back flush_entries true (raw c.args.index c.args.log.now c.args.snapshot.now) _ _ _ c.in_err-flushed.ensures)

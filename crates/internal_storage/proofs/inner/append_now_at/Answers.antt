@@ -9,7 +9,7 @@ use Rattle.internal_storage.proofs.inner.append_now_at.Goals as goal
 pub returns-in_err-check_append : goal.returns-in_err-check_append
 returns-in_err-check_append c =
     rw (passed_up c.from_residual.result _ c.from_residual.ensures.1)
-    (now_refused (raw c.args.index c.args.log.now c.args.snapshot.now) c.requires.ready.okay c.args.n c.args.entries.now
+    (now_refused (raw c.args.index.now c.args.log.now c.args.snapshot.now) c.requires.ready.okay c.args.n c.args.entries.now
     c.requires.fine _ _ c.in_err-check_append.ensures)
 
 pub splice-requires-clause-insert_in_bounds : goal.splice-requires-clause-insert_in_bounds
@@ -23,6 +23,6 @@ accepted-requires c =
 
 pub returns : goal.returns
 returns c =
-    now_run (raw c.args.index c.args.log.now c.args.snapshot.now) c.requires.ready.okay c.args.n c.args.entries.now
+    now_run (raw c.args.index.now c.args.log.now c.args.snapshot.now) c.requires.ready.okay c.args.n c.args.entries.now
     c.splice.new.s c.requires.whole c.splice.ensures c.requires.fine c.in_ok-check_append.ensures c.accepted.result
     c.accepted.ensures

@@ -9,4 +9,4 @@ pub returns : goal.returns
 returns c =
     c.append_entries_with_batching.ensures
     ∙ one_run (record { key = c.args.key; said = said_is c.args.said }) _ c.lent-words.ensures
-    (raw c.args.index c.args.log.now c.args.snapshot.now)
+    (raw c.args.index.now c.args.log.now c.args.snapshot.now)

@@ -5,5 +5,4 @@ use Rattle.internal_storage.proofs.inner.decide.set_decided_idx.Goals as goal
 
 pub returns : goal.returns
 returns c =
-    decide_run (raw c.args.index c.args.log.now c.args.snapshot.now) c.requires.okay c.args.idx c.decide_at.result
-    c.decide_at.ensures
+    decide_run (raw c.args.index.now c.args.log.now c.args.snapshot.now) c.requires.okay c.args.idx _ _ c.decide_at.ensures

@@ -8,6 +8,6 @@ use Rattle.internal_storage.proofs.inner.decide.set_promise.Goals as goal
 pub returns : goal.returns
 unfolding further malformed reply_of
 returns c =
-    let x = raw c.args.index c.args.log.now c.args.snapshot.now in
+    let x = raw c.args.index.now c.args.log.now c.args.snapshot.now in
     quiet_stands x c.requires.okay
     (set_promise c.args.n_prom) refl refl tt _ refl (promised_stands x c.requires.okay c.args.n_prom)

@@ -11,5 +11,5 @@ returns-then-waiting-eq0 c =
 
 pub returns : goal.returns
 returns c =
-    flush_answered c.args.index c.flush.result c.accepted.result
+    flush_answered c.args.index c.flush.new.index c.accepted.result
     (ne_eqb _ _ c.if-waiting-eq0.false) c.flush.ensures c.accepted.ensures

@@ -5,5 +5,5 @@ use Rattle.internal_storage.proofs.inner.flush.flush_batch.Goals as goal
 
 pub returns : goal.returns
 returns c =
-    flush_run (raw c.args.index c.args.log.now c.args.snapshot.now) c.requires.okay
-    c.accepted.result c.flush-next.result c.flush-next.ensures c.accepted.ensures
+    flush_run (raw c.args.index.now c.args.log.now c.args.snapshot.now) c.requires.okay
+    c.accepted.result c.flush.new.index c.flush.ensures c.accepted.ensures

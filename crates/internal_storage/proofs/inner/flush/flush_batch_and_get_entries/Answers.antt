@@ -5,5 +5,5 @@ use Rattle.internal_storage.proofs.inner.flush.flush_batch_and_get_entries.Goals
 
 pub returns : goal.returns
 returns c =
-    flush_entries_run (raw c.args.index c.args.log.now c.args.snapshot.now) c.requires.okay
-    c.flush_answer.result c.flush.result c.flush_answer.ensures c.flush.ensures
+    flush_entries_run (raw c.args.index.now c.args.log.now c.args.snapshot.now) c.requires.okay
+    c.flush_answer-flushed.result c.flush.new.index c.flush_answer-flushed.ensures c.flush.ensures

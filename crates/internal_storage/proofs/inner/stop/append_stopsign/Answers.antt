@@ -9,10 +9,10 @@ use Rattle.internal_storage.proofs.inner.stop.append_stopsign.Goals as goal
 pub returns-then-not-sign_formed : goal.returns-then-not-sign_formed
 unfolding malformed
 returns-then-not-sign_formed c =
-    bad_call (append_stop c.args.ss) (raw c.args.index c.args.log.now c.args.snapshot.now) c.requires.okay
+    bad_call (append_stop c.args.ss) (raw c.args.index.now c.args.log.now c.args.snapshot.now) c.requires.okay
     (ap not (sym c.sign_formed.ensures ∙ c.if-not-sign_formed.true))
 
 pub returns : goal.returns
 returns c =
-    append_stop_run (raw c.args.index c.args.log.now c.args.snapshot.now) c.requires.okay c.args.ss
-    (sym c.sign_formed.ensures ∙ c.if-not-sign_formed.false) c.append_stop_at.result c.append_stop_at.ensures
+    append_stop_run (raw c.args.index.now c.args.log.now c.args.snapshot.now) c.requires.okay c.args.ss
+    (sym c.sign_formed.ensures ∙ c.if-not-sign_formed.false) _ _ c.append_stop_at.ensures

@@ -16,11 +16,11 @@ bad e = search rules
 pub returns-then-is_some_and : goal.returns-then-is_some_and
 unfolding malformed
 returns-then-is_some_and c =
-    bad_call (set_stop (sign_is c.args.ss)) (raw c.args.index c.args.log.now c.args.snapshot.now) c.requires.okay
+    bad_call (set_stop (sign_is c.args.ss)) (raw c.args.index.now c.args.log.now c.args.snapshot.now) c.requires.okay
     (bad (goal.at.returns-then-is_some_and c).After-is_some_and ∙ c.if-is_some_and.true)
 
 pub returns : goal.returns
 returns c =
-    set_stop_run (raw c.args.index c.args.log.now c.args.snapshot.now) c.requires.okay c.args.ss
+    set_stop_run (raw c.args.index.now c.args.log.now c.args.snapshot.now) c.requires.okay c.args.ss
     (not-false _ (bad (goal.at.returns c).After-is_some_and ∙ c.if-is_some_and.false))
-    c.set_stop_at.result c.set_stop_at.ensures
+    _ _ c.set_stop_at.ensures

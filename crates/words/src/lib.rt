@@ -7,12 +7,15 @@ ghost use Rattle.std.specs.Prelude.{◌≡◌, [], ◌+◌, ◌-◌, ◌≤◌, 
 ghost use Rattle.std.proofs.Math.Seq.{paste};
 ghost use Rattle.words.specs.Words.{laid, spliced, all_zero};
 
-// Copies all of src over s's words from `at` on.
+// Copies all of src over s's words from `at` on, word by word: of two lent slices the compiler makes `copy_from_slice` a
+// call of `memmove`, which a host of the archive need not have.
 pub fn copy_in(s: &mut [u64], at: usize, src: &[u64])
     requires { at + length src.now ≤ length s.old }
     ensures { s.new ≡ paste s.old at src.now (length src.now) }
 {
-    s[at..at + src.len()].copy_from_slice(src);
+    for (i, w) in src.iter().enumerate() {
+        s[at + i] = *w;
+    }
 }
 
 // Moves the n words from `from` on to `to`, up or down.
@@ -29,7 +32,7 @@ pub fn copy_words(src: &[u64], dst: &mut [u64])
     requires { length src.now ≡ length dst.old }
     ensures { dst.new ≡ src.now }
 {
-    dst.copy_from_slice(src);
+    copy_in(dst, 0, src);
 }
 
 // Writes zeros from `from` up to, not including, `to`: none where `to` is not past `from`.

@@ -39,3 +39,11 @@ module _ (c : Call) (e : BallotLeaderElection) where
       go o (stands f p q) r =
           let t : replied (reply_of c (election_of e)) ≡ refused n k = ap (λ (x : Outcome (Reply c)). x.answer) (sym q) ∙ r in
           let z : ◌≡◌ {A = ℕ} 0 1 = cc in absurd (omega arith)
+
+  -- so a refusal says what the call comes to, whatever state is beside it
+  pub refused_so : (n k : ℕ) (after : BallotLeaderElection) → outcome (refused n k) after ≡ run c e
+      → outcome (refused n k) e ≡ run c e
+  refused_so n k after h =
+      ap (λ (x : BallotLeaderElection). outcome {A = Reply c} (refused n k) x)
+      (sym (ap (λ (o : Outcome (Reply c)). o.after) h ∙ refused_keeps n k (ap (λ (o : Outcome (Reply c)). o.answer) (sym h))))
+      ∙ h

@@ -1,13 +1,19 @@
 -- What the inner functions say: a state with another standing, and what is known of a well-formed one.
-use Rattle.std.specs.Prelude.{ℕ, ◌+◌, ◌≤◌, ◌<◌, ◌≡◌, List, length, take}
+use Rattle.std.specs.Prelude.{ℕ, ◌+◌, ◌≤◌, ◌<◌, ◌≡◌, not, List, ◌∷◌, length, take}
 use Rattle.words.specs.Words.{padded}
 use Rattle.entry.specs.Limits.{most_peers, most_replies, most_outgoing, last_round}
+use Rattle.entry.specs.Guards.{Guard, guard}
 use Rattle.ballot_leader_election.specs.declared.Peers.{Peers}
 use Rattle.ballot_leader_election.specs.declared.Replies.{Replies}
 use Rattle.ballot_leader_election.specs.declared.Outgoing.{Outgoing}
 use Rattle.ballot_leader_election.specs.declared.BallotLeaderElection.{BallotLeaderElection}
 use Rattle.ballot_leader_election.specs.declared.steps.Standing.{Standing}
-use Rattle.ballot_leader_election.specs.State.{no_reply, no_message}
+use Rattle.ballot_leader_election.specs.State.{Election, no_reply, no_message, formed}
+use Rattle.ballot_leader_election.specs.Run.{Outcome, comes}
+
+-- what a call comes to that tests the state first: 12 of any, then its own refusals
+abbrev pub comes_formed : {A : Type 0} → List Guard → A → Election → BallotLeaderElection → Outcome A
+comes_formed gs y next e = comes (guard 12 0 (not (formed e)) ∷ gs) y next e
 
 abbrev pub with_standing : Standing → BallotLeaderElection → BallotLeaderElection
 with_standing s e = record {

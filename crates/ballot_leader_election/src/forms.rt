@@ -11,15 +11,15 @@ use entry::{Ballot, Refusal};
 
 // A state that is well formed, as every call needs it.
 #[derive(Clone, Copy)]
-pub(crate) struct WellFormed {
-    pub(crate) state: BallotLeaderElection,
-    ghost is_formed: { formed state ≡ true },
+pub(crate) struct WellFormed<'a> {
+    pub(crate) state: &'a BallotLeaderElection,
+    ghost is_formed: { formed state.now ≡ true },
 }
 
-pub(crate) fn checked(e: BallotLeaderElection) -> Result<WellFormed, Refusal>
-    ensures { MatchResult result (λ w. w.state ≡ e) (λ r. (r ≡ Refusal.IllFormed) × (formed e ≡ false)) }
+pub(crate) fn checked(e: &BallotLeaderElection) -> Result<WellFormed<'_>, Refusal>
+    ensures { MatchResult result (λ w. w.state.now ≡ e.now) (λ r. (r ≡ Refusal.IllFormed) × (formed e.now ≡ false)) }
 {
-    if super::well_formed(e) {
+    if super::is_formed(e) {
         return Ok(WellFormed { state: e });
     }
     Err(Refusal::IllFormed)

@@ -109,6 +109,13 @@ pub struct BLEConfig {
 pub fn well_formed(e: BallotLeaderElection) -> bool
     ensures { result ≡ formed e }
 {
+    is_formed(&e)
+}
+
+// The same of a state by reference: a test copies none of its five thousand bytes.
+fn is_formed(e: &BallotLeaderElection) -> bool
+    ensures { result ≡ formed e.now }
+{
     let (reply, message) = (forms::no_reply(), forms::no_message());
     let peers = forms::list_formed(e.peers.count, &e.peers.held, &0);
     let replies = forms::list_formed(e.heartbeat_replies.count, &e.heartbeat_replies.held, &reply);
@@ -129,15 +136,17 @@ pub fn with(
     if config.pid == NO_PID || PEERS < peers.len() {
         return Err(Refusal::Malformed);
     }
-    let start = rounds::initial(config, peers, recovered);
-    Ok(rounds::new_round(start))
+    let mut start = rounds::initial(config, peers, recovered);
+    rounds::new_round(&mut start);
+    Ok(start)
 }
 
 // Sets the priority that the node's ballot has from now on.
 pub fn set_priority(e: BallotLeaderElection, p: u32) -> Result<BallotLeaderElection, Refusal>
     ensures { changed e result ≡ run (set_priority p) e }
 {
-    let mut next = forms::checked(e)?.state;
+    forms::checked(&e)?;
+    let mut next = e;
     next.current_ballot.priority = p;
     Ok(next)
 }
@@ -146,7 +155,8 @@ pub fn set_priority(e: BallotLeaderElection, p: u32) -> Result<BallotLeaderElect
 pub fn outgoing_mut(e: BallotLeaderElection) -> Result<(BallotLeaderElection, Outgoing), Refusal>
     ensures { changed_at (λ l. l) e result ≡ handed_out laid_messages (run outgoing_mut e) }
 {
-    let mut next = forms::checked(e)?.state;
+    forms::checked(&e)?;
+    let mut next = e;
     next.outgoing = forms::no_messages();
     Ok((next, e.outgoing))
 }
@@ -155,18 +165,22 @@ pub fn outgoing_mut(e: BallotLeaderElection) -> Result<(BallotLeaderElection, Ou
 pub fn handle(e: BallotLeaderElection, m: BLEMessage) -> Result<BallotLeaderElection, Refusal>
     ensures { changed e result ≡ run (handle m) e }
 {
-    let formed = forms::checked(e)?;
+    let mut next = e;
     if m.is_reply {
-        return rounds::handle_reply(formed, m.reply);
+        rounds::handle_reply(&mut next, m.reply)?;
+    } else {
+        rounds::handle_request(&mut next, m.from, m.reply.round)?;
     }
-    rounds::handle_request(formed, m.from, m.reply.round)
+    Ok(next)
 }
 
 // Begins a round: the replies of the last one are kept aside, and every peer is sent a request.
 pub fn new_hb_round(e: BallotLeaderElection) -> Result<BallotLeaderElection, Refusal>
     ensures { changed e result ≡ run new_hb_round e }
 {
-    rounds::new_round_at(forms::checked(e)?)
+    let mut next = e;
+    rounds::new_round_at(&mut next)?;
+    Ok(next)
 }
 
 // The end of a round, by what came in it and by what Sequence Paxos has promised: the node's ballot where it leads.
@@ -176,18 +190,20 @@ pub fn hb_timeout(
 ) -> Result<(BallotLeaderElection, Option<Ballot>), Refusal>
     ensures { changed_at ballot_is e result ≡ run (hb_timeout promise) e }
 {
-    rounds::time_out(forms::checked(e)?, promise)
+    let mut next = e;
+    let leads = rounds::time_out(&mut next, promise)?;
+    Ok((next, leads))
 }
 
 pub fn get_current_ballot(e: BallotLeaderElection) -> Result<Ballot, Refusal>
     ensures { outcome (told result) e ≡ run get_current_ballot e }
 {
-    Ok(forms::checked(e)?.state.current_ballot)
+    Ok(forms::checked(&e)?.state.current_ballot)
 }
 
 // The replies of the round before.
 pub fn get_ballots(e: BallotLeaderElection) -> Result<Replies, Refusal>
     ensures { outcome (told result) e ≡ handed_out laid_replies (run get_ballots e) }
 {
-    Ok(forms::checked(e)?.state.prev_replies)
+    Ok(forms::checked(&e)?.state.prev_replies)
 }

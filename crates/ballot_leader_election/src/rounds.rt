@@ -1,16 +1,17 @@
 // Rounds and messages: how a node starts, what it sends, what it keeps, and the end of a round. What is
-// refused is decided before anything is made.
+// refused is decided before anything is made. A state has five thousand bytes, so that it is changed in place: each
+// copy of it costs as much as the rest of a call.
 ghost use Rattle.std.specs.Prelude.{◌≡◌, map, ◌++◌, ◌≤◌, ◌&&◌, ◌||◌, eqb, length};
 ghost use Rattle.entry.specs.Limits.{most_peers, last_round};
+ghost use Rattle.entry.specs.Guards.{said_by};
 ghost use Rattle.ballot_leader_election.specs.State.{peers_in, messages_in, election_of, laid_peers, laid_messages};
 ghost use Rattle.ballot_leader_election.specs.State.{laid_election};
 ghost use Rattle.ballot_leader_election.specs.Steps.{request, new_round, reply_from, requested, replying, starting_at};
 ghost use Rattle.ballot_leader_election.specs.Steps.{initial, leading, timed_out, ours};
 ghost use Rattle.ballot_leader_election.specs.Calls.{request_guards, reply_guards, round_guards, timeout_guards};
-ghost use Rattle.ballot_leader_election.specs.Run.{comes, ballot_is, changed, changed_at};
-ghost use Rattle.ballot_leader_election.specs.Inner.{Listed, Begins};
+ghost use Rattle.ballot_leader_election.specs.Run.{outcome, told, ballot_is};
+ghost use Rattle.ballot_leader_election.specs.Inner.{Listed, Begins, comes_formed};
 
-use super::forms::WellFormed;
 use super::steps::Standing;
 use super::{
     BLEConfig, BLEMessage, BallotLeaderElection, HeartbeatReply, Outgoing, Peers, forms, steps,
@@ -18,34 +19,28 @@ use super::{
 use entry::{Ballot, Refusal};
 
 // A request of the round to each peer.
-fn send_requests(outgoing: Outgoing, peers: Peers, from: u64, round: u32) -> Outgoing
-    requires { Listed peers outgoing }
-    ensures { result ≡ laid_messages (messages_in outgoing ++ map (request from round) (peers_in peers)) }
+fn send_requests(outgoing: &mut Outgoing, peers: Peers, from: u64, round: u32)
+    requires { Listed peers outgoing.old }
+    ensures { outgoing.new ≡ laid_messages (messages_in outgoing.old ++ map (request from round) (peers_in peers)) }
 {
-    let mut sent = outgoing;
     for to in &peers.held[..peers.count] {
         forms::push(
-            &mut sent.count,
-            &mut sent.held,
+            &mut outgoing.count,
+            &mut outgoing.held,
             forms::request(from, *to, round),
         );
     }
-    sent
 }
 
 // The next round begins: there is room for its requests, and the round has not its largest number.
-pub(crate) fn new_round(e: BallotLeaderElection) -> BallotLeaderElection
-    requires { Begins e }
-    ensures { result ≡ laid_election (new_round (election_of e)) }
+pub(crate) fn new_round(e: &mut BallotLeaderElection)
+    requires { Begins e.old }
+    ensures { e.new ≡ laid_election (new_round (election_of e.old)) }
 {
-    let round = e.hb_round + 1;
-    BallotLeaderElection {
-        hb_round: round,
-        heartbeat_replies: forms::no_replies(),
-        prev_replies: e.heartbeat_replies,
-        outgoing: send_requests(e.outgoing, e.peers, e.pid, round),
-        ..e
-    }
+    e.hb_round += 1;
+    e.prev_replies = e.heartbeat_replies;
+    e.heartbeat_replies = forms::no_replies();
+    send_requests(&mut e.outgoing, e.peers, e.pid, e.hb_round);
 }
 
 fn lent_peers(peers: &[u64]) -> Peers
@@ -113,8 +108,8 @@ pub(crate) fn initial(
 }
 
 // The reply to a request: where the node stands.
-fn reply_to(e: BallotLeaderElection, to: u64, round: u32) -> BLEMessage
-    ensures { result ≡ reply_from (election_of e) to round }
+fn reply_to(e: &BallotLeaderElection, to: u64, round: u32) -> BLEMessage
+    ensures { result ≡ reply_from (election_of e.now) to round }
 {
     BLEMessage {
         from: e.pid,
@@ -129,70 +124,65 @@ fn reply_to(e: BallotLeaderElection, to: u64, round: u32) -> BLEMessage
     }
 }
 
+// A request is replied to.
 pub(crate) fn handle_request(
-    e: WellFormed,
+    e: &mut BallotLeaderElection,
     from: u64,
     round: u32,
-) -> Result<BallotLeaderElection, Refusal>
-    ensures { changed e.state result
-        ≡ comes (request_guards (election_of e.state)) tt (requested from round (election_of e.state)) e.state }
+) -> Result<(), Refusal>
+    ensures { outcome (told result) e.new
+        ≡ comes_formed (request_guards (election_of e.old)) tt (requested from round (election_of e.old)) e.old }
 {
-    let state = e.state;
-    if super::OUTGOING <= state.outgoing.count {
+    forms::checked(e)?;
+    if super::OUTGOING <= e.outgoing.count {
         return Err(Refusal::OutgoingShort);
     }
-    let mut sent = state.outgoing;
-    forms::push(
-        &mut sent.count,
-        &mut sent.held,
-        reply_to(state, from, round),
-    );
-    let mut next = state;
-    next.outgoing = sent;
-    Ok(next)
+    let reply = reply_to(e, from, round);
+    forms::push(&mut e.outgoing.count, &mut e.outgoing.held, reply);
+    Ok(())
 }
 
 // Whether a reply is of the node's round and configuration.
-fn is_ours(e: BallotLeaderElection, rep: HeartbeatReply) -> bool
-    ensures { result ≡ ours rep (election_of e) }
+fn is_ours(e: &BallotLeaderElection, rep: HeartbeatReply) -> bool
+    ensures { result ≡ ours rep (election_of e.now) }
 {
     rep.round == e.hb_round && rep.ballot.config_id == e.configuration_id
 }
 
 // A reply of another round, or of another configuration, is of no use, and nothing changes.
-pub(crate) fn handle_reply(
-    e: WellFormed,
-    rep: HeartbeatReply,
-) -> Result<BallotLeaderElection, Refusal>
-    ensures { changed e.state result
-        ≡ comes (reply_guards rep (election_of e.state)) tt (replying rep (election_of e.state)) e.state }
+pub(crate) fn handle_reply(e: &mut BallotLeaderElection, rep: HeartbeatReply) -> Result<(), Refusal>
+    ensures { outcome (told result) e.new
+        ≡ comes_formed (reply_guards rep (election_of e.old)) tt (replying rep (election_of e.old)) e.old }
 {
-    let state = e.state;
-    if !is_ours(state, rep) {
-        return Ok(state);
+    forms::checked(e)?;
+    if !is_ours(e, rep) {
+        return Ok(());
     }
-    if super::REPLIES <= state.heartbeat_replies.count {
+    if super::REPLIES <= e.heartbeat_replies.count {
         return Err(Refusal::RepliesFull);
     }
-    let mut kept = state.heartbeat_replies;
-    forms::push(&mut kept.count, &mut kept.held, rep);
-    let mut next = state;
-    next.heartbeat_replies = kept;
-    Ok(next)
+    forms::push(
+        &mut e.heartbeat_replies.count,
+        &mut e.heartbeat_replies.held,
+        rep,
+    );
+    Ok(())
 }
 
-pub(crate) fn new_round_at(e: WellFormed) -> Result<BallotLeaderElection, Refusal>
-    ensures { changed e.state result
-        ≡ comes (round_guards (election_of e.state)) tt (new_round (election_of e.state)) e.state }
+// A round begins where it can.
+pub(crate) fn new_round_at(e: &mut BallotLeaderElection) -> Result<(), Refusal>
+    ensures { outcome (told result) e.new
+        ≡ comes_formed (round_guards (election_of e.old)) tt (new_round (election_of e.old)) e.old }
 {
-    let state = e.state;
-    if super::OUTGOING < state.outgoing.count + state.peers.count {
+    forms::checked(e)?;
+    if super::OUTGOING < e.outgoing.count + e.peers.count {
         return Err(Refusal::OutgoingShort);
     }
-    if state.hb_round == super::LAST_ROUND {
+    if e.hb_round == super::LAST_ROUND {
         return Err(Refusal::AtLargest);
     }
-    Ok(new_round(state))
+    new_round(e);
+    Ok(())
 }
 
 // Whether the round, or with a takeover the leader's number, is at its largest.
@@ -204,21 +194,21 @@ fn is_spent(round: u32, leader: Ballot, due: bool) -> bool
 
 // The end of a round: the leader, happiness, the takeover, the new round, the promise.
 pub(crate) fn time_out(
-    e: WellFormed,
+    e: &mut BallotLeaderElection,
     promise: Ballot,
-) -> Result<(BallotLeaderElection, Option<Ballot>), Refusal>
-    ensures { changed_at ballot_is e.state result
-        ≡ comes (timeout_guards (election_of e.state)) (leading (timed_out promise (election_of e.state)).standing)
-        (timed_out promise (election_of e.state)) e.state }
+) -> Result<Option<Ballot>, Refusal>
+    ensures { outcome (said_by ballot_is result) e.new
+        ≡ comes_formed (timeout_guards (election_of e.old)) (leading (timed_out promise (election_of e.old)).standing)
+        (timed_out promise (election_of e.old)) e.old }
 {
-    let state = e.state;
-    let replies = &state.heartbeat_replies.held[..state.heartbeat_replies.count];
-    let peers = state.peers.count;
-    let updated = steps::update_leader(steps::standing_of(state), replies);
+    forms::checked(e)?;
+    let replies = &e.heartbeat_replies.held[..e.heartbeat_replies.count];
+    let peers = e.peers.count;
+    let updated = steps::update_leader(steps::standing_of(e), replies);
     let judged = steps::update_happiness(updated, replies, peers);
     let due = steps::takeover_due(judged, replies, peers);
-    let full = super::OUTGOING < state.outgoing.count + peers;
-    let spent = is_spent(state.hb_round, judged.leader, due);
+    let full = super::OUTGOING < e.outgoing.count + peers;
+    let spent = is_spent(e.hb_round, judged.leader, due);
     if full {
         return Err(Refusal::OutgoingShort);
     }
@@ -226,7 +216,8 @@ pub(crate) fn time_out(
         return Err(Refusal::AtLargest);
     }
     let taken = steps::check_takeover(judged, due);
-    let begun = new_round(state);
-    let stands = steps::sync_promise(taken, state.pid, promise);
-    Ok((steps::with_standing(begun, stands), steps::leads(stands)))
+    new_round(e);
+    let stands = steps::sync_promise(taken, e.pid, promise);
+    steps::set_standing(e, stands);
+    Ok(steps::leads(stands))
 }

@@ -19,8 +19,8 @@ pub struct Standing {
     pub happy: bool,
 }
 
-pub(crate) fn standing_of(e: BallotLeaderElection) -> Standing
-    ensures { result ≡ standing_in e }
+pub(crate) fn standing_of(e: &BallotLeaderElection) -> Standing
+    ensures { result ≡ standing_in e.now }
 {
     Standing {
         current_ballot: e.current_ballot,
@@ -29,15 +29,12 @@ pub(crate) fn standing_of(e: BallotLeaderElection) -> Standing
     }
 }
 
-pub(crate) fn with_standing(e: BallotLeaderElection, s: Standing) -> BallotLeaderElection
-    ensures { result ≡ with_standing s e }
+pub(crate) fn set_standing(e: &mut BallotLeaderElection, s: Standing)
+    ensures { e.new ≡ with_standing s e.old }
 {
-    BallotLeaderElection {
-        current_ballot: s.current_ballot,
-        leader: s.leader,
-        happy: s.happy,
-        ..e
-    }
+    e.current_ballot = s.current_ballot;
+    e.leader = s.leader;
+    e.happy = s.happy;
 }
 
 // Whether the node itself and so many others are a majority of it and its peers.

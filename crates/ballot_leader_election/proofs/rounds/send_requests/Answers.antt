@@ -5,21 +5,21 @@ use Rattle.ballot_leader_election.proofs.Laying.{sent_to, none_yet, room_left, r
 use Rattle.ballot_leader_election.proofs.rounds.send_requests.Goals as goal
 
 pub loop-to-init : goal.loop-to-init
-loop-to-init c = none_yet c.args.peers c.args.outgoing c.args.from c.args.round c.requires
+loop-to-init c = none_yet c.args.peers c.args.outgoing.now c.args.from c.args.round c.requires
 
 pub push-requires : goal.push-requires
 push-requires c =
-    room_left c.args.peers c.args.outgoing c.args.from c.args.round c.requires c.loop-to.to-index c.loop-to.sent
+    room_left c.args.peers c.args.outgoing.now c.args.from c.args.round c.requires c.loop-to.to-index c.loop-to.outgoing
     c.loop-to-test.true c.loop-to.invariant
 
 pub loop-to-preserved : goal.loop-to-preserved
 loop-to-preserved c =
     (λ t. record { count = c.push.ensures.counted t; held = c.push.ensures.kept t })
-    ∙ ap (λ (m : BLEMessage). sent_to c.loop-to.sent m) c.request.ensures
-    ∙ request_sent c.args.peers c.args.outgoing c.args.from c.args.round c.requires c.loop-to.to-index c.loop-to.sent
+    ∙ ap (λ (m : BLEMessage). sent_to c.loop-to.outgoing m) c.request.ensures
+    ∙ request_sent c.args.peers c.args.outgoing.now c.args.from c.args.round c.requires c.loop-to.to-index c.loop-to.outgoing
     c.loop-to-test.true c.loop-to.invariant
 
 pub returns : goal.returns
 returns c =
-    all_sent c.args.peers c.args.outgoing c.args.from c.args.round c.requires c.loop-to.to-index c.loop-to.sent
+    all_sent c.args.peers c.args.outgoing.now c.args.from c.args.round c.requires c.loop-to.to-index c.loop-to.outgoing
     c.loop-to-test.false c.loop-to.invariant

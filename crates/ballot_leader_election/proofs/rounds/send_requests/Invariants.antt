@@ -5,4 +5,4 @@ use Rattle.ballot_leader_election.proofs.Laying.{requested}
 use Rattle.ballot_leader_election.proofs.rounds.send_requests.Given as goal
 
 abbrev pub invariant-loop-to : goal.invariant-loop-to
-invariant-loop-to l = l.sent ≡ laid_messages (requested l.fn.peers l.fn.outgoing l.from l.round l.to-index)
+invariant-loop-to l = l.outgoing ≡ laid_messages (requested l.fn.peers l.fn.outgoing l.from l.round l.to-index)

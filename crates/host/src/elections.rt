@@ -27,19 +27,23 @@ fn ballot_said(answer: Result<Ballot, Refusal>) -> ElectionBallot
     }
 }
 
-// What a call says that was lent a state, and the state after it.
+// What a call says that was lent a state, and the state after it. A refusal returns at once: where each arm of the
+// match makes a reply, all five thousand bytes of one are zeroed and copied once more.
 fn reply(lent: BallotLeaderElection, answer: Result<BallotLeaderElection, Refusal>) -> ElectionReply
     ensures { result ≡ election_as nothing (changed lent answer) }
 {
-    match answer {
-        Ok(election) => ElectionReply {
-            said: answers::tell(0, 0, 0),
-            election,
-        },
-        Err(refusal) => ElectionReply {
-            said: answers::refuse(refusal),
-            election: lent,
-        },
+    let election = match answer {
+        Ok(next) => next,
+        Err(refusal) => {
+            return ElectionReply {
+                said: answers::refuse(refusal),
+                election: lent,
+            };
+        }
+    };
+    ElectionReply {
+        said: answers::tell(0, 0, 0),
+        election,
     }
 }
 
@@ -80,17 +84,20 @@ pub extern "C" fn kotuseraw_election_set_priority(e: BallotLeaderElection, p: u3
 pub extern "C" fn kotuseraw_election_outgoing_mut(e: BallotLeaderElection) -> ElectionTaken
     ensures { result ≡ taken_as (handed_out laid_messages (run outgoing_mut e)) }
 {
-    match ballot_leader_election::outgoing_mut(e) {
-        Ok((election, outgoing)) => ElectionTaken {
-            said: answers::tell(0, 0, 0),
-            outgoing,
-            election,
-        },
-        Err(refusal) => ElectionTaken {
-            said: answers::refuse(refusal),
-            outgoing: forms::no_messages(),
-            election: e,
-        },
+    let (election, outgoing) = match ballot_leader_election::outgoing_mut(e) {
+        Ok(taken) => taken,
+        Err(refusal) => {
+            return ElectionTaken {
+                said: answers::refuse(refusal),
+                outgoing: forms::no_messages(),
+                election: e,
+            };
+        }
+    };
+    ElectionTaken {
+        said: answers::tell(0, 0, 0),
+        outgoing,
+        election,
     }
 }
 
@@ -118,15 +125,18 @@ pub extern "C" fn kotuseraw_election_hb_timeout(
 ) -> ElectionReply
     ensures { result ≡ election_as a_lead (run (hb_timeout promise) e) }
 {
-    match ballot_leader_election::hb_timeout(e, promise) {
-        Ok((election, leads)) => ElectionReply {
-            said: answers::tell(u64::from(leads.is_some()), 0, 0),
-            election,
-        },
-        Err(refusal) => ElectionReply {
-            said: answers::refuse(refusal),
-            election: e,
-        },
+    let (election, leads) = match ballot_leader_election::hb_timeout(e, promise) {
+        Ok(timed) => timed,
+        Err(refusal) => {
+            return ElectionReply {
+                said: answers::refuse(refusal),
+                election: e,
+            };
+        }
+    };
+    ElectionReply {
+        said: answers::tell(u64::from(leads.is_some()), 0, 0),
+        election,
     }
 }
 

@@ -6,7 +6,7 @@ use Prim.Native.Nat.{◌%◌, ◌^◌}
 use mir.Syntax.{w8}
 use mir.Val.{Fits}
 use lib.ListN.{set}
-use lib.Seq.{take-set-le, drop-set-lt, drop-drop, get_or-set_same, append_snoc}
+use lib.Seq.{take-set-le, drop-set-lt, drop-drop, get_or-set_same, append_snoc, take-add}
 use Rattle.std.specs.Prelude.{sum}
 use Rattle.std.proofs.Common.{lit<}
 use Rattle.std.proofs.Math.Nat.{pow-le-pow_right}
@@ -14,9 +14,9 @@ use Rattle.std.proofs.lemmas.List.Sums.{sum_by-cons}
 use Rattle.words.specs.All.{all_of}
 use Rattle.words.specs.Words.{spliced}
 use Rattle.words.proofs.Alls.{all_cons, all_take, all_drop}
-use Rattle.records.specs.Big.{big, value, are_bytes}
+use Rattle.records.specs.Big.{big, onto, value, are_bytes}
 use Rattle.records.specs.Sealed.{total, sum_of, sum_holds}
-use Rattle.records.proofs.BigLaws.{byte, value_more, value_lt}
+use Rattle.records.proofs.BigLaws.{byte, onto_append, value_more, value_lt}
 use Rattle.records.proofs.Splices.{splice_none}
 
 -- ---- put: what is left to do gives what is asked
@@ -75,6 +75,33 @@ module _ (s : List ℕ) (at k : ℕ) (known : (i : ℕ) → Fits w8 (get_or s i 
             (all_take byte (i + 1) part part_bytes),
         top,
       )
+
+-- eight bytes are two numbers of four
+onto_four : (n : ℕ) (b : List ℕ) → length b ≡ 4 → onto n b ≡ n * 4294967296 + value b
+unfolding onto
+onto_four n [] h = absurd (omega arith)
+onto_four n (p ∷ []) h = absurd (omega arith)
+onto_four n (p ∷ q ∷ []) h = absurd (omega arith)
+onto_four n (p ∷ q ∷ r ∷ []) h = absurd (omega arith)
+onto_four n (p ∷ q ∷ r ∷ t ∷ []) h = omega arith
+onto_four n (p ∷ q ∷ r ∷ t ∷ u ∷ l) h = absurd (omega arith)
+
+module _ (s : List ℕ) (known : (i : ℕ) → Fits w8 (get_or s i 0)) where
+  four_length : (at : ℕ) → at + 4 ≤ length s → length (take 4 (drop at s)) ≡ 4
+  four_length at h = length-take-le 4 (drop at s) (omega (arith, length-drop at s, h))
+
+  pub four_small : (at : ℕ) → at + 4 ≤ length s → value (take 4 (drop at s)) < 4294967296
+  four_small at h =
+      value_lt 4 (take 4 (drop at s)) (four_length at h)
+      (all_take byte 4 (drop at s) (all_drop byte at s (bytes_of s known)))
+
+  pub halves : (at : ℕ) → at + 8 ≤ length s
+      → value (take 4 (drop at s)) * 4294967296 + value (take 4 (drop (at + 4) s)) ≡ value (take 8 (drop at s))
+  halves at h =
+      let a : List ℕ = take 4 (drop at s) in
+      let b : List ℕ = take 4 (drop (at + 4) s) in
+      sym (ap value (take-add 4 4 (drop at s) ∙ ap (λ (l : List ℕ). a ++ take 4 l) (drop-drop 4 at s))
+      ∙ onto_append 0 a b ∙ onto_four (value a) b (four_length (at + 4) (omega arith)))
 
 pub total_sum : (l : List ℕ) → sum l ≡ total l
 unfolding total

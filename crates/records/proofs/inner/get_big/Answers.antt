@@ -1,37 +1,24 @@
--- `records::inner::get_big` meets its contract: the number so far is that of the bytes passed.
-use Rattle.words.proofs.Prelude.{arith, ◌≡◌, refl, ap, ◌∙◌, ◌+◌, ◌-◌, take, drop}
-use Rattle.std.proofs.lemmas.Grind.{common_steps}
-use Rattle.records.specs.Big.{onto, value}
-use Rattle.records.proofs.BigLaws.{value_more}
-use Rattle.records.proofs.Loops.{get_room}
+-- `records::inner::get_big` meets its contract: eight bytes are two numbers of four.
+use Rattle.words.proofs.Prelude.{arith, sym, ap, ap₂, ◌∙◌, ℕ, ◌+◌, ◌*◌, take, drop}
+use Rattle.records.specs.Big.{value}
+use Rattle.records.proofs.Loops.{four_small, halves}
 use Rattle.records.proofs.inner.get_big.Goals as goal
 
-pub overflow_mul-n : goal.overflow_mul-n
-overflow_mul-n c =
-    omega (
-      arith,
-      get_room c.args.s.now c.args.at c.args.k c.type_inv.s c.loop-b.b-index c.requires.k_bound c.loop-b-test.true,
-    )
+pub overflow_mul-result : goal.overflow_mul-result
+overflow_mul-result c =
+    omega (arith, c.get_part.ensures, four_small c.args.s.now c.type_inv.s c.args.at (omega arith))
 
-pub overflow_add-n : goal.overflow_add-n
-overflow_add-n c =
-    omega (
-      arith,
-      get_room c.args.s.now c.args.at c.args.k c.type_inv.s c.loop-b.b-index c.requires.k_bound c.loop-b-test.true,
-    )
+pub overflow_add-result : goal.overflow_add-result
+overflow_add-result c = omega (
+  arith,
+  c.get_part.ensures,
+  c.get_part-then-k-eq8.ensures,
+  four_small c.args.s.now c.type_inv.s c.args.at (omega arith),
+  four_small c.args.s.now c.type_inv.s (c.args.at + 4) (omega arith),
+)
 
-pub loop-b-init : goal.loop-b-init
-unfolding onto
-loop-b-init c = refl
-
-pub loop-b-preserved : goal.loop-b-preserved
-loop-b-preserved c =
-    let l = take (c.args.at + c.args.k - c.args.at) (drop c.args.at c.args.s.now) in
-    let h = value_more l c.loop-b.b-index c.loop-b-test.true in
-    cc
-
-pub returns : goal.returns
-returns c =
-    let l = take (c.args.at + c.args.k - c.args.at) (drop c.args.at c.args.s.now) in
-    let e : take c.loop-b.b-index l ≡ take c.args.k (drop c.args.at c.args.s.now) = grind (arith, common_steps) in
-    c.loop-b.invariant ∙ ap value e
+pub returns-then-k-eq8 : goal.returns-then-k-eq8
+returns-then-k-eq8 c =
+    ap₂ (λ (a b : ℕ). a * 4294967296 + b) c.get_part.ensures c.get_part-then-k-eq8.ensures
+    ∙ halves c.args.s.now c.type_inv.s c.args.at (omega arith)
+    ∙ ap (λ (k : ℕ). value (take k (drop c.args.at c.args.s.now))) (sym c.if-k-eq8.true)

@@ -156,8 +156,10 @@ pub fn outgoing_mut(e: BallotLeaderElection) -> Result<(BallotLeaderElection, Ou
     ensures { changed_at (λ l. l) e result ≡ handed_out laid_messages (run outgoing_mut e) }
 {
     forms::checked(&e)?;
-    let mut next = e;
-    next.outgoing = forms::no_messages();
+    let next = BallotLeaderElection {
+        outgoing: forms::no_messages(),
+        ..e
+    };
     Ok((next, e.outgoing))
 }
 

@@ -20,7 +20,7 @@ returns c =
     let f = formed_facts e h in
     ap₂ (λ (l : Outgoing) (x : BallotLeaderElection). outcome (replied l) x) (sym (back_messages e.outgoing f.outgoing))
     (laid_parts e f.peers e.hb_round e.heartbeat_replies e.prev_replies
-    (replies_in e.heartbeat_replies) (replies_in e.prev_replies) (standing_in e) c.no_messages-next.result []
+    (replies_in e.heartbeat_replies) (replies_in e.prev_replies) (standing_in e) c.no_messages.result []
     (sym (back_replies e.heartbeat_replies f.replies)) (sym (back_replies e.prev_replies f.prev))
-    c.no_messages-next.ensures)
+    c.no_messages.ensures)
     ∙ ap (handed_out laid_messages) (stands outgoing_mut e h (found clear_all))

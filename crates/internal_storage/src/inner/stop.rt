@@ -58,7 +58,8 @@ fn set_stop_at(index: &mut IndexRecord, ss: Option<StopSign>) -> Result<LogIndex
     requires { Sound (numbers_in index.old) }
     ensures { indexed (index_said result) index.new
         ≡ (let next = with_stop (is_some ss) (unwrap_or ss no_sign) index.old in
-        by_numbers (first (set_stop_guards (is_some ss) (numbers_in index.old))) (accepted_of (numbers_in next)) next index.old) }
+        by_numbers (first (set_stop_guards (is_some ss) (numbers_in index.old)))
+        (accepted_of (numbers_in next)) next index.old) }
 {
     let last = state_cache::inner::accepted(*index);
     if state_cache::inner::stop_decided(*index) {
